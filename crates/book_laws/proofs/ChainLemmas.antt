@@ -25,7 +25,7 @@ use Rattle.model_laws.proofs.Interrupts.{restarted as interrupted}
 use Rattle.book_model.specs.Books.{CarriesOn, BookView, IsOpened, IsUnsaved, acked}
 use Rattle.book_model.specs.Nights.{opened_from}
 use Rattle.book_model.specs.Openings.{Formats, FormatsNot, HasFormatted, Opens, StopsFormat}
-use Rattle.book_model.specs.Plays.{Playing, Plays, is_device_failure, session_behind, sound, taken}
+use Rattle.book_model.specs.Plays.{Playing, Plays, is_device_failure, next_session, sound, taken}
 use Rattle.book_model.specs.Steps.{PlaysInto, playing}
 use Rattle.book_model.specs.Stores.{Stores, StoresFront, StoresNothingOr, StoresOpened, restarted}
 use Rattle.book_model.proofs.FrontLemmas.{front_here, front_kept}
@@ -74,7 +74,7 @@ broken_by k s end [] (r ∷ answers) p broken = absurd p
 broken_by k s end (x ∷ steps) [] p broken = absurd p
 broken_by k s end (x ∷ steps) (r ∷ answers) p broken =
     sym (or_assoc k (is_device_failure r) (list_any is_device_failure answers))
-    ∙ broken_by (k || is_device_failure r) (session_behind k s x) end steps answers p.1 broken
+    ∙ broken_by (k || is_device_failure r) (next_session k s x) end steps answers p.1 broken
 
 -- ---- why it stops
 

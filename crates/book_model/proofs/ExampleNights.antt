@@ -12,7 +12,7 @@ use Rattle.book_model.specs.Stores.{restarted}
 use Rattle.book_model.proofs.ManyNightsLemmas.{joined_moves, same_stored, spends, was_spent}
 use Rattle.book_model.specs.Examples.Plays.{first_events}
 use Rattle.book_model.specs.Examples.Stores.{two_events}
-use Rattle.book_model.specs.Examples.TwoNights.{answered, behind_first, first_night, second_night}
+use Rattle.book_model.specs.Examples.TwoNights.{answered, after_first, first_night, second_night}
 use Rattle.book_model.specs.Examples.TwoNights.{store}
 
 -- The machine after these calls.
@@ -35,17 +35,17 @@ last_history last (r ∷ s ∷ answers) (told, p) = absurd p
 -- Three events or more of the five lead to one of three states.
 one_of : (many : ℕ) (q : State) → 3 ≤ many → many ≤ 5
     → run (restarted store) (take many (first_events ++ two_events)) ≡ Some q
-    → (q ≡ behind_first 3) ⊎ (q ≡ behind_first 4) ⊎ (q ≡ behind_first 5)
+    → (q ≡ after_first 3) ⊎ (q ≡ after_first 4) ⊎ (q ≡ after_first 5)
 one_of (suc (suc (suc zero))) q least most led =
-    inl (sym (same_Some (behind_first 3) q led))
+    inl (sym (same_Some (after_first 3) q led))
 one_of (suc (suc (suc (suc zero)))) q least most led =
-    inr (inl (sym (same_Some (behind_first 4) q led)))
+    inr (inl (sym (same_Some (after_first 4) q led)))
 one_of (suc (suc (suc (suc (suc zero))))) q least most led =
-    inr (inr (sym (same_Some (behind_first 5) q led)))
+    inr (inr (sym (same_Some (after_first 5) q led)))
 one_of many q least most led = absurd (omega (arith, least, most))
 
 pub three_states : (q : State) → GoesOn (Stored store) (moves_of first_night) (Stored q)
-    → (q ≡ behind_first 3) ⊎ (q ≡ behind_first 4) ⊎ (q ≡ behind_first 5)
+    → (q ≡ after_first 3) ⊎ (q ≡ after_first 4) ⊎ (q ≡ after_first 5)
 three_states q goes =
     let spent = was_spent store (Stored q) answered (derive "d" "root" Cancel ∷ []) goes in
     let stops = subst (λ m. StopsAt m (derive "d" "root" Cancel ∷ []) spent.state)
@@ -61,7 +61,7 @@ three_states q goes =
 
 -- ---- both nights
 
-stops_first : StopsAt after_answered (derive "d" "root" Cancel ∷ []) (behind_first 4)
+stops_first : StopsAt after_answered (derive "d" "root" Cancel ∷ []) (after_first 4)
 stops_first = record {
   untold = scope_made 4 ∷ [];
   last = took after_answered (derive "d" "root" Cancel) (scope_made 4);
@@ -74,9 +74,9 @@ abbrev answered_next : List (Step × Reply)
 answered_next = (flush, acked 6) ∷ (derive "e" "root" Cancel, scope_made 4) ∷ []
 
 abbrev after_second : Running
-after_second = after (opened_at (behind_first 4)) answered_next
+after_second = after (opened_at (after_first 4)) answered_next
 
-stops_second : StopsAt after_second [] (restarted (behind_first 4))
+stops_second : StopsAt after_second [] (restarted (after_first 4))
 stops_second = record {
   untold = [];
   last = after_second;
@@ -85,12 +85,12 @@ stops_second = record {
 }
 
 pub both_nights : GoesOn (Stored store) (flat_map moves_of (first_night ∷ second_night ∷ []))
-    (Stored (restarted (behind_first 4)))
+    (Stored (restarted (after_first 4)))
 both_nights =
-    let first = spends store (behind_first 4) after_answered answered
+    let first = spends store (after_first 4) after_answered answered
     (derive "d" "root" Cancel ∷ [])
     (inl refl, (inl refl, (inl refl, (inl refl, (inl refl, refl))))) stops_first in
-    let second = spends (behind_first 4) (restarted (behind_first 4)) after_second answered_next []
+    let second = spends (after_first 4) (restarted (after_first 4)) after_second answered_next []
     (inl refl, (inl refl, refl)) stops_second in
-    joined_moves (Stored store) (Stored (behind_first 4)) (Stored (restarted (behind_first 4)))
+    joined_moves (Stored store) (Stored (after_first 4)) (Stored (restarted (after_first 4)))
     (moves_of first_night) (moves_of second_night ++ []) first second

@@ -11,14 +11,14 @@ use Rattle.book_model.specs.Examples.Nights.{new_store}
 use Rattle.book_model.specs.Books.{BookView, MustCheckpoint}
 use Rattle.book_model.specs.Steps.{AnswersStep, Steps, TellsSave, reply_of_save}
 use Rattle.book_model.specs.Examples.Plays.{first_events, first_three, three_replies}
-use Rattle.book_model.specs.Examples.Steps.{Counts, behind_three, failed, new_book, state_of}
+use Rattle.book_model.specs.Examples.Steps.{Counts, book_after_three, failed, new_book, state_of}
 
-pub fits : MustCheckpoint behind_three → ⊥
+pub fits : MustCheckpoint book_after_three → ⊥
 fits must =
     let size : length (flat_map spelling first_events) ≡ 26 = refl in
     omega (arith, size, must)
 
-pub flush_faulty : AnswersStep state_of behind_three flush (faulty DiskFailed) failed
+pub flush_faulty : AnswersStep state_of book_after_three flush (faulty DiskFailed) failed
 flush_faulty = record {
   result = Err (Faulty DiskFailed);
   told = refl;
@@ -44,7 +44,7 @@ book_at n = record new_book { session = session_after new_store (take n first_th
 
 -- The three commands, and then these steps.
 pub three_then : (steps : List Step) (answers : List Reply) (new : BookView Counts)
-    → Steps state_of behind_three steps answers new
+    → Steps state_of book_after_three steps answers new
     → Steps state_of new_book (first_three ++ steps) (three_replies ++ answers) new
 three_then steps answers new rest = (
   book_at 1,
@@ -52,6 +52,6 @@ three_then steps answers new rest = (
   (
     book_at 2,
     record { told = refl; taken = refl },
-    (behind_three, record { told = refl; taken = refl }, rest),
+    (book_after_three, record { told = refl; taken = refl }, rest),
   ),
 )

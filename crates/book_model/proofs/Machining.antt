@@ -11,7 +11,7 @@ use Rattle.book_model.specs.Books.{BookView, CarriesOn, IsOpened, IsReached, ack
 use Rattle.book_model.specs.Machines.{Goes, Machine, Move, Open, OpenInVain, Running, Runs, Stop}
 use Rattle.book_model.specs.Machines.{Stored, Take, TakesAll, opened_at, took}
 use Rattle.book_model.specs.Openings.{Opens}
-use Rattle.book_model.specs.Plays.{IsReply, IsReplyWhere, Playing, acked_of, behind}
+use Rattle.book_model.specs.Plays.{IsReply, IsReplyWhere, Playing, acked_of, after_answer}
 use Rattle.book_model.specs.Standing.{Closed, CutsOpening, CutsSteps, Does, DoesAll, GoesAs}
 use Rattle.book_model.specs.Standing.{HoldsAs, LiesWith, Opened, Standing, StandsAs}
 use Rattle.book_model.specs.Steps.{AnswersStep, StepsOn, playing}
@@ -87,7 +87,7 @@ module _ {D : Type 0} (state : D → DiskState) where
           safe = safe_on state h new on is.safe;
           durable = on.images;
           reached = told.reached;
-          book = ap (λ b. behind b x r) is.book ∙ sym told.plays.1;
+          book = ap (λ b. after_answer b x r) is.book ∙ sym told.plays.1;
           acked = ap (λ (b : Playing). if is_ack r then length b.session.history else m.acked)
               is.book
               ∙ acked_after h new x r m.acked is.reached told.plays.0 left.start left.durable

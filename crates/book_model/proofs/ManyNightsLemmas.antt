@@ -13,12 +13,12 @@ use Rattle.model_laws.proofs.Stepping.{accepted_history, accepted_start}
 use Rattle.book_model.specs.Machines.{GoesOn, Machine, Move, Running, Runs, Stop, StopsAt, Stored}
 use Rattle.book_model.specs.Machines.{Take, TakesAll, opened_at, took}
 use Rattle.book_model.specs.ManyNights.{LeadOver, Leads, LeadsOver, Night, InVain, Spent}
-use Rattle.book_model.specs.ManyNights.{StoresBehindNights, answers_of, moves_of, steps_of}
+use Rattle.book_model.specs.ManyNights.{StoresAfterNights, answers_of, moves_of, steps_of}
 use Rattle.book_model.specs.Nights.{opened_from}
-use Rattle.book_model.specs.Plays.{IsReply, Plays, acked_of, last_acked, session_behind, taken}
+use Rattle.book_model.specs.Plays.{IsReply, Plays, acked_of, last_acked, next_session, taken}
 use Rattle.book_model.specs.Standing.{Closed, DoesAll, LiesWith, StandsAs}
 use Rattle.book_model.specs.Stores.{restarted}
-use Rattle.book_model.proofs.FrontLemmas.{take_behind}
+use Rattle.book_model.proofs.FrontLemmas.{take_after}
 use Rattle.book_model.proofs.Machining.{acked_count, all_as}
 use Rattle.book_model.proofs.NightLemmas.{told_enough}
 use Rattle.book_model.proofs.Playing.{accepted_left, ack_is, acked_is, acknowledged_first}
@@ -63,10 +63,10 @@ takes_history m end steps answers takes =
 abbrev Counts : ℕ → Session → Type 0
 Counts n s = n + length s.history ≡ s.state.count
 
-behind_counts : (n : ℕ) (b : Bool) (s : Session) (x : Step) → Counts n s
-    → Counts n (session_behind b s x)
-behind_counts n true s x counts = counts
-behind_counts n false s x counts = by (event_of_step s x)
+after_counts : (n : ℕ) (b : Bool) (s : Session) (x : Step) → Counts n s
+    → Counts n (next_session b s x)
+after_counts n true s x counts = counts
+after_counts n false s x counts = by (event_of_step s x)
   where
     by : (o : Option Event) → Counts n (with_event s o)
     by None = counts
@@ -100,7 +100,7 @@ takes_acked n m end [] (r ∷ answers) counts p = absurd p
 takes_acked n m end (x ∷ steps) [] counts p = absurd p
 takes_acked n m end (x ∷ steps) (r ∷ answers) counts (reply, rest) =
     takes_acked n (took m x r) end steps answers
-    (behind_counts n m.book.broken m.book.session x counts) rest
+    (after_counts n m.book.broken m.book.session x counts) rest
     ∙ ap (λ k. unwrap_or (last_acked answers) k) (acked_once n m x r counts reply)
     ∙ told_last answers r (n + m.acked)
 
@@ -206,7 +206,7 @@ led_over p q m calls more takes stops =
       in_order = sym all.history ∙ order
           ∙ ap (λ l. acks ++ l) (sym (take-append-drop k rest));
       reached = ap (λ l. run (restarted p) l)
-          (sym (take_behind many stops.last.book.session.history acks rest order enough))
+          (sym (take_after many stops.last.book.session.history acks rest order enough))
           ∙ subst (λ b. run b (take many stops.last.book.session.history) ≡ Some q) one.start
           stops.front.reached;
     }
@@ -344,7 +344,7 @@ stored_nights p q nights goes =
 pub book_nights : {D : Type 0} (state : D → DiskState) (given next : D) (p : State)
     (nights : List Night) → ((d : D) → IsDisk (state d)) → LiesWith state given p
     → DoesAll state (Closed given) (flat_map moves_of nights) (Closed next)
-    → StoresBehindNights p nights (state next).now
+    → StoresAfterNights p nights (state next).now
 book_nights state given next p nights disk lies does =
     let all = all_as state (Closed given) (Closed next) (flat_map moves_of nights) (Stored p) disk
     lies does in

@@ -13,7 +13,7 @@ use Rattle.run_model.specs.Allowed.{IsFront}
 use Rattle.run_model.specs.Session.{is_ack}
 use Rattle.run_model.specs.State.{State}
 use Rattle.book_model.specs.Nights.{opened_from}
-use Rattle.book_model.specs.Plays.{IsReply, Playing, behind, sound}
+use Rattle.book_model.specs.Plays.{IsReply, Playing, after_answer, sound}
 use Rattle.book_model.specs.Stores.{restarted}
 
 -- The machine runs: it answers as the session does that began after its opening, or is broken; and
@@ -47,7 +47,7 @@ opened_at p = record { book = sound (opened_from p); acked = 0 }
 -- broken.
 abbrev pub took : Running → Step → Reply → Running
 took m x r = record {
-  book = behind m.book x r;
+  book = after_answer m.book x r;
   acked = if is_ack r then length m.book.session.history else m.acked;
 }
 

@@ -55,7 +55,7 @@ LeadOver p [] q = q ≡ p
 LeadOver p (night ∷ nights) q = (next : State) × Leads p night next × LeadOver next nights q
 
 -- The disk stores a state that these nights lead to.
-pub record StoresBehindNights (p : State) (nights : List Night) (bytes : List ℕ) : Type 0 where
+pub record StoresAfterNights (p : State) (nights : List Night) (bytes : List ℕ) : Type 0 where
   pub state : State
   pub stores : Stores bytes state
   pub leads : LeadOver p nights state

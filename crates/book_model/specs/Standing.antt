@@ -8,7 +8,7 @@ use Rattle.run_disk.specs.Disk.{DiskState, IsAtRest}
 use Rattle.book_model.specs.Books.{BookView, CarriesOn, IsDurable, IsReached, IsSafe, acked}
 use Rattle.book_model.specs.Machines.{GoesOn, Machine, Move, Open, OpenInVain, Running, Runs}
 use Rattle.book_model.specs.Machines.{Stop, Stored, Take}
-use Rattle.book_model.specs.Openings.{Opens, disk_behind}
+use Rattle.book_model.specs.Openings.{Opens, disk_after}
 use Rattle.book_model.specs.Steps.{AnswersStep, StepsOn, playing}
 use Rattle.book_model.specs.Stores.{Stores}
 
@@ -30,7 +30,7 @@ pub record Finds {D : Type 0} (state : D → DiskState) (left : List ℕ → Typ
 pub record CutsOpening {D : Type 0} (state : D → DiskState) (given next : D) : Type 0 where
   pub result : Result (BookView D) (Fault × D)
   pub opens : Opens state given result
-  pub finds : Finds state ((state (disk_behind result)).since (state given).clock) next
+  pub finds : Finds state ((state (disk_after result)).since (state given).clock) next
 
 -- These steps are taken, but a crash at some moment since the first of them began comes before the
 -- replies are told: the next opening finds what that left.

@@ -10,7 +10,7 @@ ghost use Rattle.run_model.specs.Session.{acknowledged};
 ghost use Rattle.run_model.specs.State.{State};
 ghost use Rattle.book_model.specs.Machines.{GoesOn, Machine, Move, Running, Stored, TakesAll};
 ghost use Rattle.book_model.specs.Machines.{opened_at};
-ghost use Rattle.book_model.specs.ManyNights.{LeadOver, Night, Spent, StoresBehindNights};
+ghost use Rattle.book_model.specs.ManyNights.{LeadOver, Night, Spent, StoresAfterNights};
 ghost use Rattle.book_model.specs.ManyNights.{answers_of, moves_of, steps_of};
 ghost use Rattle.book_model.specs.Nights.{opened_from};
 ghost use Rattle.book_model.specs.Standing.{Closed, DoesAll, GoesAs, LiesWith, Standing, StandsAs};
@@ -48,7 +48,7 @@ pub fn many_nights_lose_nothing_acknowledged<D: RunDisk>()
         → GoesOn (Stored p) (flat_map moves_of nights) (Stored q) → LeadOver p nights q }
     ensures books { (given next : D) (p : State) (nights : List Night) → LiesWith D.state given p
         → DoesAll D.state (Closed given) (flat_map moves_of nights) (Closed next)
-        → StoresBehindNights p nights (D.state next).now }
+        → StoresAfterNights p nights (D.state next).now }
 {}
 
 /// A task whose start was acknowledged in a night is started in no later one, however many follow.

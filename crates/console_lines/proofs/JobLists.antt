@@ -123,30 +123,30 @@ with_step : (jobs : List (List ℕ)) (job : List ℕ) (t : Bool)
     → with_job jobs job ≡ cond t jobs (jobs ++ job ∷ [])
 with_step jobs job t h = ap (λ b. cond b jobs (jobs ++ job ∷ [])) h
 
-without_behind : (a k : List ℕ) (jobs : List (List ℕ)) (t : Bool)
+without_after : (a k : List ℕ) (jobs : List (List ℕ)) (t : Bool)
     → bytes_eq a k ≡ t
     → without a (jobs ++ k ∷ []) ≡ cond t (without a jobs) (without a jobs ++ k ∷ [])
-without_behind a k jobs true h = grind (arith, common_steps, h)
-without_behind a k jobs false h = grind (arith, common_steps, h)
+without_after a k jobs true h = grind (arith, common_steps, h)
+without_after a k jobs false h = grind (arith, common_steps, h)
 
-behind_by : (a k : List ℕ) (jobs : List (List ℕ)) (s t : Bool)
+after_by : (a k : List ℕ) (jobs : List (List ℕ)) (s t : Bool)
     → bytes_eq k a ≡ s
     → is_among k jobs ≡ t
     → a ∷ without a (with_job jobs k) ≡ with_job (a ∷ without a jobs) k
-behind_by a k jobs true true h e =
+after_by a k jobs true true h e =
     ap (λ x. a ∷ without a x) (with_step jobs k true e)
     ∙ sym (with_step (a ∷ without a jobs) k true (among_step k a (without a jobs) true h))
-behind_by a k jobs true false h e =
+after_by a k jobs true false h e =
     ap (λ x. a ∷ without a x) (with_step jobs k false e)
-    ∙ ap (λ x. a ∷ x) (without_behind a k jobs true (turned k a true h))
+    ∙ ap (λ x. a ∷ x) (without_after a k jobs true (turned k a true h))
     ∙ sym (with_step (a ∷ without a jobs) k true (among_step k a (without a jobs) true h))
-behind_by a k jobs false true h e =
+after_by a k jobs false true h e =
     ap (λ x. a ∷ without a x) (with_step jobs k true e)
     ∙ sym (with_step (a ∷ without a jobs) k true
     (among_step k a (without a jobs) false h ∙ among_without a k jobs h ∙ e))
-behind_by a k jobs false false h e =
+after_by a k jobs false false h e =
     ap (λ x. a ∷ without a x) (with_step jobs k false e)
-    ∙ ap (λ x. a ∷ x) (without_behind a k jobs false (turned k a false h))
+    ∙ ap (λ x. a ∷ x) (without_after a k jobs false (turned k a false h))
     ∙ sym (with_step (a ∷ without a jobs) k false
     (among_step k a (without a jobs) false h ∙ among_without a k jobs h ∙ e))
 
@@ -156,5 +156,5 @@ pub jobs_more : (tasks : List Task) (task : Task)
 jobs_more [] task = refl
 jobs_more (x ∷ xs) task =
     ap (λ jobs. x.job ∷ without x.job jobs) (jobs_more xs task)
-    ∙ behind_by x.job task.job (jobs_of xs) (bytes_eq task.job x.job)
+    ∙ after_by x.job task.job (jobs_of xs) (bytes_eq task.job x.job)
     (is_among task.job (jobs_of xs)) refl refl

@@ -61,7 +61,7 @@ begins line name e =
     sym (take-append-drop 6 line) ∙ ap (λ xs. xs ++ drop 6 line) same
     ∙ ap (λ xs. codes "scope " ++ xs) rest
 
--- It asks how the scope of the name behind `scope ` is.
+-- It asks how the scope of the name after `scope ` is.
 pub asks_scope : (line name : List ℕ) → scope_word line ≡ Some name → IsName name
     → asked_of line ≡ asked.Scope name
 asks_scope line name e h = ap asked_of (begins line name e) ∙ asks name h

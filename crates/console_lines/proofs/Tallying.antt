@@ -218,17 +218,17 @@ told_alike c d job (j ∷ jobs) other h =
     ap (λ n. record { job = j; counts = n } ∷ told c jobs) (sym (other j apart.0))
     ∙ ap (λ x. tally d j ∷ x) (told_alike c d job jobs other apart.1)
 
-either_behind : (t : Bool) (j : List ℕ) (xs ys : List (List ℕ))
+either_after : (t : Bool) (j : List ℕ) (xs ys : List (List ℕ))
     → cond t (j ∷ xs) (j ∷ ys) ≡ j ∷ cond t xs ys
-either_behind true j xs ys = refl
-either_behind false j xs ys = refl
+either_after true j xs ys = refl
+either_after false j xs ys = refl
 
 behind : (job j : List ℕ) (jobs : List (List ℕ))
     → bytes_eq job j ≡ false
     → with_job (j ∷ jobs) job ≡ j ∷ with_job jobs job
 behind job j jobs h =
     ap (λ b. cond (b || is_among job jobs) (j ∷ jobs) (j ∷ (jobs ++ job ∷ []))) h
-    ∙ either_behind (is_among job jobs) j jobs (jobs ++ job ∷ [])
+    ∙ either_after (is_among job jobs) j jobs (jobs ++ job ∷ [])
 
 with_by : (c d : List ℕ → Counts) (job j : List ℕ) (jobs : List (List ℕ)) (t : Bool)
     → bytes_eq job j ≡ t

@@ -151,35 +151,35 @@ first_place parent place found (first ∷ rest) others e =
     place_by parent place first found rest others (nat_eq first parent) refl
     (first_place parent (suc place) found rest others) e
 
-slice_behind : (n k : ℕ) (row : List ℕ) → slice_get (drop n row) k ≡ slice_get row (n + k)
-slice_behind zero k row = let e : zero + k ≡ k = omega arith in sym (ap (slice_get row) e)
-slice_behind (suc n) k [] = refl
-slice_behind (suc n) k (first ∷ rest) =
+slice_after : (n k : ℕ) (row : List ℕ) → slice_get (drop n row) k ≡ slice_get row (n + k)
+slice_after zero k row = let e : zero + k ≡ k = omega arith in sym (ap (slice_get row) e)
+slice_after (suc n) k [] = refl
+slice_after (suc n) k (first ∷ rest) =
     let e : suc n + k ≡ suc (n + k) = omega arith in
-    slice_behind n k rest ∙ sym (ap (slice_get (first ∷ rest)) e)
+    slice_after n k rest ∙ sym (ap (slice_get (first ∷ rest)) e)
 
 drop_none : (n : ℕ) → drop {A = ℕ} n [] ≡ []
 drop_none zero = refl
 drop_none (suc n) = refl
 
-drop_behind : (n k : ℕ) (row : List ℕ) → drop k (drop n row) ≡ drop (n + k) row
-drop_behind zero k row = let e : zero + k ≡ k = omega arith in sym (ap (λ m. drop m row) e)
-drop_behind (suc n) k [] = drop_none k ∙ sym (drop_none (suc n + k))
-drop_behind (suc n) k (first ∷ rest) =
+drop_after : (n k : ℕ) (row : List ℕ) → drop k (drop n row) ≡ drop (n + k) row
+drop_after zero k row = let e : zero + k ≡ k = omega arith in sym (ap (λ m. drop m row) e)
+drop_after (suc n) k [] = drop_none k ∙ sym (drop_none (suc n + k))
+drop_after (suc n) k (first ∷ rest) =
     let e : suc n + k ≡ suc (n + k) = omega arith in
-    drop_behind n k rest ∙ sym (ap (λ m. drop m (first ∷ rest)) e)
+    drop_after n k rest ∙ sym (ap (λ m. drop m (first ∷ rest)) e)
 
 -- The first of the nodes after a node that have a parent has this parent, and the others are its
 -- later siblings.
-pub first_behind : (parents : List ℕ) (n parent found : ℕ) (others : List ℕ)
+pub first_after : (parents : List ℕ) (n parent found : ℕ) (others : List ℕ)
     → behind parents n parent ≡ found ∷ others
     → (slice_get parents found ≡ Some parent) × (others ≡ behind parents found parent)
-first_behind parents n parent found others e =
+first_after parents n parent found others e =
     let p = first_place parent (suc n) found (drop (suc n) parents) others e in
     let same : suc n + suc p.skipped ≡ suc found = omega (arith, p.place_is) in (
-      ap (slice_get parents) p.place_is ∙ sym (slice_behind (suc n) p.skipped parents)
+      ap (slice_get parents) p.place_is ∙ sym (slice_after (suc n) p.skipped parents)
           ∙ p.number_is,
       p.others_are
-          ∙ ap (places_of parent (suc found)) (drop_behind (suc n) (suc p.skipped) parents
+          ∙ ap (places_of parent (suc found)) (drop_after (suc n) (suc p.skipped) parents
           ∙ ap (λ m. drop m parents) same),
     )

@@ -14,7 +14,7 @@ use Rattle.std.proofs.lemmas.Bool.{eq-eqb, ne_eqb}
 use Rattle.console_lines.specs.Trees.{above, bar, behind, children, later_siblings}
 use Rattle.console_lines.specs.Trees.{parent_of, passing, places_of, upwards}
 use Rattle.console_lines.specs.Walks.{AreRising, IsAt, after, all_below, drawn_from, forest}
-use Rattle.console_lines.proofs.TreeLemmas.{AreWithin, after_same, childless, first_behind}
+use Rattle.console_lines.proofs.TreeLemmas.{AreWithin, after_same, childless, first_after}
 use Rattle.console_lines.proofs.TreeLemmas.{first_child, places_within}
 
 -- ---- the first of a row
@@ -65,7 +65,7 @@ places_end parent place row past =
 
 -- It stands after the node, has this parent, and what else has it stands after it.
 pub record IsFound (parents : List ℕ) (n parent found : ℕ) : Type 0 where
-  pub behind_it : n < found
+  pub after_it : n < found
   pub within : found < length parents
   pub parent_is : parent_of parents found ≡ parent
   pub row_is : behind parents n parent ≡ found ∷ later_siblings parents found
@@ -84,11 +84,11 @@ found parents n parent m less e =
     let long = length-drop (suc n) parents in
     let all = first_within (suc n) (length parents) (behind parents n parent) m row.rest row.row_is
     (places_within parent (suc n) (length parents) _ (omega (arith, less, long))) in
-    let its = first_behind parents n parent m row.rest row.row_is in
+    let its = first_after parents n parent m row.rest row.row_is in
     let same : parent_of parents m ≡ parent =
     ap (λ o. option_map_or (λ (k : ℕ). k) o 0) its.0 in
     record {
-      behind_it = omega (arith, all.0);
+      after_it = omega (arith, all.0);
       within = all.1;
       parent_is = same;
       row_is = row.row_is
@@ -100,14 +100,14 @@ found parents n parent m less e =
 -- After a node with children the first of them is drawn.
 pub child_next : (parents : List ℕ) (n child : ℕ) → AreRising parents → n < length parents
     → IsFound parents n n child → drawn_from parents n ≡ n ∷ drawn_from parents child
-child_next parents n zero rising less p = absurd (omega (arith, p.behind_it))
+child_next parents n zero rising less p = absurd (omega (arith, p.after_it))
 child_next parents n (suc c) rising less p =
     let rest = later_siblings parents (suc c) in
     ap (λ x. x ++ after n parents n) (first_child parents n (suc c) rest less p.row_is)
     ∙ ap (λ x. n ∷ x)
     (append_assoc (all_below parents (suc c)) (forest parents rest) (after n parents n)
     ∙ ap (λ x. all_below parents (suc c) ++ (forest parents rest ++ x))
-    (after_same n c n parents rising (omega arith) (omega (arith, p.behind_it))
+    (after_same n c n parents rising (omega arith) (omega (arith, p.after_it))
     ∙ ap (after c parents) (sym p.parent_is)))
 
 -- After a node without a child what follows it is drawn.
@@ -121,7 +121,7 @@ pub sibling_next : (parents : List ℕ) (n next : ℕ) → AreRising parents →
     → IsFound parents n (parent_of parents n) next
     → after n parents n ≡ drawn_from parents next
 sibling_next parents zero next rising some p = absurd (omega (arith, some))
-sibling_next parents (suc n) zero rising some p = absurd (omega (arith, p.behind_it))
+sibling_next parents (suc n) zero rising some p = absurd (omega (arith, p.after_it))
 sibling_next parents (suc n) (suc m) rising some p =
     let rest = later_siblings parents (suc m) in
     let less = rising (suc n) some in
@@ -130,7 +130,7 @@ sibling_next parents (suc n) (suc m) rising some p =
     (after n parents (parent_of parents (suc n)))
     ∙ ap (λ x. all_below parents (suc m) ++ (forest parents rest ++ x))
     (after_same n m (parent_of parents (suc n)) parents rising
-    (omega (arith, less)) (omega (arith, less, p.behind_it))
+    (omega (arith, less)) (omega (arith, less, p.after_it))
     ∙ ap (after m parents) (sym p.parent_is))
 
 -- The last of its siblings is followed by what follows its parent.
@@ -263,7 +263,7 @@ beside_at parents n parent next text rising some at same e =
     record {
       within = p.within;
       text_is = at.text_is
-          ∙ above_beside parents n next rising some (omega (arith, p.behind_it))
+          ∙ above_beside parents n next rising some (omega (arith, p.after_it))
           (p.parent_is ∙ same);
     }
 
@@ -289,7 +289,7 @@ enters parents n child text drawn new rising some at e piece made =
     record {
       within = p.within;
       text_is = made ∙ ap (λ x. x ++ drawn) at.text_is ∙ ap (λ x. above parents n ++ x) piece
-          ∙ sym (above_step parents child n rising (omega (arith, p.behind_it)) some p.parent_is);
+          ∙ sym (above_step parents child n rising (omega (arith, p.after_it)) some p.parent_is);
     }
 
 pub enters_top : (parents : List ℕ) (n child : ℕ) (text : List ℕ) → n ≡ 0

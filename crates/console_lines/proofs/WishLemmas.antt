@@ -12,7 +12,7 @@ use Rattle.run_model.specs.Texts.{is_name, is_text}
 use Rattle.console_lines.specs.Numbers.{number_of}
 use Rattle.console_lines.specs.Moments.{moment_of}
 use Rattle.console_lines.specs.declared.asked.Asked.TheVariants.{Refused}
-use Rattle.console_lines.specs.Asked.{Wished, wished, refused_behind, judged, derived, asks_judged}
+use Rattle.console_lines.specs.Asked.{Wished, wished, refused_after, judged, derived, asks_judged}
 use Rattle.console_lines.specs.Asked.{asks_derive}
 use Rattle.console_lines.specs.Checked.{names_in_wish, texts_in_wish}
 use Rattle.console_lines.specs.Asked.{deadline_at, deadline_wish, timeout_wish, value_wish}
@@ -20,28 +20,28 @@ use Rattle.console_lines.specs.Words.{words_of, words_in, rest_of}
 use Rattle.console_lines.proofs.WordLemmas.{rest_is}
 
 -- The same order of tests, in one step and in two.
-behind_names :
+after_names :
     (a b n t : Bool) (name parent : List ℕ) (wish : Result Wish Refusal)
     → (if not (a && (b && true)) then Refused BadName
     else derived name parent (if not n then Err BadName else if not t then Err BadText else wish))
     ≡ (if not (a && (b && n)) then Refused BadName
     else if not t then Refused BadText
     else derived name parent wish)
-behind_names false b n t name parent wish = refl
-behind_names true false n t name parent wish = refl
-behind_names true true false t name parent wish = refl
-behind_names true true true false name parent wish = refl
-behind_names true true true true name parent wish = refl
+after_names false b n t name parent wish = refl
+after_names true false n t name parent wish = refl
+after_names true true false t name parent wish = refl
+after_names true true true false name parent wish = refl
+after_names true true true true name parent wish = refl
 
 -- A wish that was judged is refused after the names.
-pub judged_behind_names :
+pub judged_after_names :
     (name parent : List ℕ) (w : Wished)
     → asks_judged name parent (judged w) ≡ asks_derive name parent w
-judged_behind_names name parent (wished wish) =
-    behind_names (is_name name) (is_name parent) (list_all is_name (names_in_wish wish))
+judged_after_names name parent (wished wish) =
+    after_names (is_name name) (is_name parent) (list_all is_name (names_in_wish wish))
     (list_all is_text (texts_in_wish wish)) name parent (Ok wish)
-judged_behind_names name parent (refused_behind cause why) =
-    behind_names (is_name name) (is_name parent) true (list_all is_text (option_to_list cause))
+judged_after_names name parent (refused_after cause why) =
+    after_names (is_name name) (is_name parent) true (list_all is_text (option_to_list cause))
     name parent (Err why)
 
 -- A derive with a wish.
@@ -52,7 +52,7 @@ pub derive_wished :
 derive_wished name parent None r e = cc
 derive_wished name parent (Some w) r e =
     let same : r ≡ judged w = cc in
-    ap Some (ap (asks_judged name parent) same ∙ judged_behind_names name parent w)
+    ap Some (ap (asks_judged name parent) same ∙ judged_after_names name parent w)
 
 -- ---- wishes that are read
 

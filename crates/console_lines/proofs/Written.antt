@@ -47,8 +47,8 @@ more_than_none [] ys h = absurd (h refl)
 more_than_none (x ∷ xs) ys h = λ e. omega (arith, ap length e)
 
 -- A front of the second of two texts, after the whole of the first, is one of both.
-pub front_behind : (front xs ys : List ℕ) → IsCut front ys → IsCut (xs ++ front) (xs ++ ys)
-front_behind front xs ys k =
+pub front_after : (front xs ys : List ℕ) → IsCut front ys → IsCut (xs ++ front) (xs ++ ys)
+front_after front xs ys k =
     (k.0, ap (λ t. xs ++ t) k.1 ∙ sym (append_assoc xs front k.0), k.2)
 
 -- A front of the first of two texts is one of both.

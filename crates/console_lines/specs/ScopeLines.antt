@@ -2,6 +2,6 @@
 use Rattle.std.specs.Prelude.{ℕ, if◌then◌else◌, List, take, drop, codes, Option, Some, None}
 use Rattle.std.specs.Str.{bytes_eq}
 
--- What stands behind `scope ` at the front of a line, if it begins so.
+-- What stands after `scope ` at the front of a line, if it begins so.
 abbrev pub scope_word : List ℕ → Option (List ℕ)
 scope_word line = if bytes_eq (take 6 line) (codes "scope ") then Some (drop 6 line) else None

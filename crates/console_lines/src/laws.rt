@@ -12,7 +12,7 @@ ghost use Rattle.run_model.specs.State.{State};
 ghost use Rattle.run_model.specs.Texts.{is_name, is_text};
 ghost use Rattle.console_lines.specs.Moments.{moment_of};
 ghost use Rattle.console_lines.specs.Numbers.{number_of};
-ghost use Rattle.console_lines.specs.Asked.{wish_of, wished, refused_behind, asks_derive};
+ghost use Rattle.console_lines.specs.Asked.{wish_of, wished, refused_after, asks_derive};
 ghost use Rattle.console_lines.specs.Branches.{nodes_of};
 ghost use Rattle.console_lines.specs.Lines.{whole_lines, lines_of};
 ghost use Rattle.console_lines.specs.Words.{words_of, rest_of};
@@ -38,7 +38,7 @@ pub fn the_rest_of_a_line_has_all_its_bytes()
 {}
 
 /// A value's text, and the cause of a deadline or a timeout, has all bytes after the word before.
-pub fn a_text_has_all_bytes_behind_the_word_before()
+pub fn a_text_has_all_bytes_after_the_word_before()
     ensures value { (key text : List ℕ)
         → wish_of (codes "value") (key ∷ words_of text) ≡ Some (wished (Wish.Value key text)) }
     ensures deadline { (word cause : List ℕ) (moment : ℕ) → moment_of word ≡ Some (Ok moment)
@@ -50,18 +50,18 @@ pub fn a_text_has_all_bytes_behind_the_word_before()
 {}
 
 /// A moment out of range is refused after names and texts, whatever the session is.
-pub fn a_moment_out_of_range_is_refused_behind_names_and_texts()
+pub fn a_moment_out_of_range_is_refused_after_names_and_texts()
     ensures names { (name parent : List ℕ) (cause : Option (List ℕ)) (why : Refusal)
         → list_all is_name (name ∷ parent ∷ []) ≡ false
-        → asks_derive name parent (refused_behind cause why) ≡ Asked.Refused Refusal.BadName }
+        → asks_derive name parent (refused_after cause why) ≡ Asked.Refused Refusal.BadName }
     ensures texts { (name parent : List ℕ) (cause : Option (List ℕ)) (why : Refusal)
         → list_all is_name (name ∷ parent ∷ []) ≡ true
         → list_all is_text (option_to_list cause) ≡ false
-        → asks_derive name parent (refused_behind cause why) ≡ Asked.Refused Refusal.BadText }
+        → asks_derive name parent (refused_after cause why) ≡ Asked.Refused Refusal.BadText }
     ensures moment { (name parent : List ℕ) (cause : Option (List ℕ)) (why : Refusal)
         → list_all is_name (name ∷ parent ∷ []) ≡ true
         → list_all is_text (option_to_list cause) ≡ true
-        → asks_derive name parent (refused_behind cause why) ≡ Asked.Refused why }
+        → asks_derive name parent (refused_after cause why) ≡ Asked.Refused why }
 {}
 
 /// What is printed for the lines of a first part of an input is what is printed first, whatever
@@ -85,7 +85,7 @@ pub fn a_long_line_may_be_cut()
 {}
 
 /// What comes after the first line that strays changes nothing of a strict run.
-pub fn a_strict_run_doesnt_see_behind_its_stray_line()
+pub fn a_strict_run_doesnt_see_after_its_stray_line()
     ensures stray { (s : Session) (front behind : List ℕ) (stray : StrayLine)
         → stray_in s front ≡ Some stray → stray_in s (front ++ 10 ∷ behind) ≡ Some stray }
     ensures script { (s : Session) (front behind : List ℕ) (stray : StrayLine)
@@ -107,6 +107,6 @@ pub fn a_tree_has_no_more_levels_than_nodes()
 
 /// If a state keeps the rules, each node of its tree but root stands after its parent, without the
 /// tasks, too.
-pub fn a_node_stands_behind_its_parent()
+pub fn a_node_stands_after_its_parent()
     ensures { (no_tasks : Bool) (p : State) → IsConsistent p → AreRising (nodes_of no_tasks p) }
 {}

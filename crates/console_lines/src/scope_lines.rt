@@ -6,7 +6,7 @@ ghost use Rattle.console_lines.specs.Words.{lent};
 
 use run_model::is_spelled;
 
-/// What stands behind `scope ` at the front of a line, if it begins so. If that is a name, the line
+/// What stands after `scope ` at the front of a line, if it begins so. If that is a name, the line
 /// asks how the scope of this name is.
 pub fn scope_word(line: &[u8]) -> Option<&[u8]>
     ensures { lent result ≡ scope_word line.now }

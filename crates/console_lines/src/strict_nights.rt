@@ -15,12 +15,12 @@ use crate::strays::Stray;
 use run_model::Refusal;
 
 /// What comes after a line that is refused isn't run.
-pub fn a_strict_run_ends_behind_a_refusal()
+pub fn a_strict_run_ends_after_a_refusal()
     ensures { EndsAt third_is_refused "acked 3" 3 (Stray.Refused Refusal.AlreadyDone) }
 {}
 
 /// What comes after a bad line isn't run.
-pub fn a_strict_run_ends_behind_a_bad_line()
+pub fn a_strict_run_ends_after_a_bad_line()
     ensures { EndsAt first_is_bad "acked 1" 1 Stray.BadLine }
 {}
 

@@ -25,7 +25,7 @@ pub fn next_node(parents: &[u16], node: u16, above: &mut Above) -> Option<u16>
     ensures next { drawn_from parents.now node ≡ node ∷ drawn_next parents.now result }
     ensures at { IfSome result (λ next. IsAt parents.now next above.new.items) }
 {
-    match first_behind(parents, node, node) {
+    match first_after(parents, node, node) {
         Some(child) => {
             enter(parents, node, child, above);
             Some(child)
@@ -66,7 +66,7 @@ fn by_siblings(
     requires few { length parents.now ≤ MOST_NODES }
     ensures { result.now ≡ by_siblings more.now last.now parents.now node }
 {
-    match first_behind(parents, node, parent_of(parents, node)) {
+    match first_after(parents, node, parent_of(parents, node)) {
         Some(_) => more,
         None => last,
     }
@@ -84,7 +84,7 @@ fn next_beside(parents: &[u16], node: u16, above: &mut Above) -> Option<u16>
     let mut place = node;
     while place != 0 {
         let parent = parent_of(parents, place);
-        if let Some(next) = first_behind(parents, place, parent) {
+        if let Some(next) = first_after(parents, place, parent) {
             return Some(next);
         }
         leave(parents, place, parent, above);
@@ -132,7 +132,7 @@ fn parent_of(parents: &[u16], node: u16) -> u16
 }
 
 /// The first of the nodes after a node that have this parent.
-fn first_behind(parents: &[u16], node: u16, parent: u16) -> Option<u16>
+fn first_after(parents: &[u16], node: u16, parent: u16) -> Option<u16>
     requires few { length parents.now ≤ MOST_NODES }
     ensures { result ≡ slice_get (behind parents.now node parent) 0 }
 {

@@ -6,7 +6,7 @@ use std::io::{self, ErrorKind, Read};
 
 /// What a reader does after its last byte.
 #[derive(Clone, Copy)]
-pub enum Behind {
+pub enum Then {
     /// It is at its end.
     Ends,
     /// It fails once, and then is at its end.
@@ -18,23 +18,19 @@ pub enum Behind {
 pub struct PartReader<'a> {
     bytes: &'a [u8],
     part: usize,
-    behind: Behind,
+    then: Then,
 }
 
 impl<'a> PartReader<'a> {
-    pub fn new(bytes: &'a [u8], part: usize, behind: Behind) -> PartReader<'a> {
-        PartReader {
-            bytes,
-            part,
-            behind,
-        }
+    pub fn new(bytes: &'a [u8], part: usize, then: Then) -> PartReader<'a> {
+        PartReader { bytes, part, then }
     }
 }
 
 impl Read for PartReader<'_> {
     fn read(&mut self, room: &mut [u8]) -> io::Result<usize> {
-        if self.bytes.is_empty() && matches!(self.behind, Behind::Fails) {
-            self.behind = Behind::Ends;
+        if self.bytes.is_empty() && matches!(self.then, Then::Fails) {
+            self.then = Then::Ends;
             return Err(io::Error::from(ErrorKind::Interrupted));
         }
         let most = room.len().min(self.part);

@@ -2,7 +2,7 @@
 //! written, and what the book is then.
 
 use crate::asserts::{done, holds};
-use crate::readers::{Behind, HoardingReader, PartReader, RepeatingReader, WatchingReader};
+use crate::readers::{HoardingReader, PartReader, RepeatingReader, Then, WatchingReader};
 use crate::runs::{Ended, Night, run_lines, run_new};
 use crate::writers::{CountingWriter, End, EndingWriter};
 use linked_list_allocator::LocalHeap;
@@ -40,7 +40,7 @@ static STEPS: [(usize, usize, &[u8]); 6] = [
 ];
 
 /// What is replied to the lines that end in the first so many bytes, and how the book is then.
-fn behind(given: usize) -> (usize, &'static [u8]) {
+fn after(given: usize) -> (usize, &'static [u8]) {
     let mut found = (0, NEW);
     for (typed, replied, shown) in STEPS.iter() {
         if *typed <= given {
@@ -57,9 +57,9 @@ fn is_front(text: &[u8], whole: &[u8], count: usize) -> bool {
 
 /// Asserts how a run ends whose input fails after so many bytes.
 fn assert_unread(rt: &impl Abort, alloc: Global, part: usize, given: usize) {
-    let (replied, shown) = behind(given);
+    let (replied, shown) = after(given);
     let bytes = TYPED.get(..given).unwrap_or(TYPED);
-    let mut input = PartReader::new(bytes, part, Behind::Fails);
+    let mut input = PartReader::new(bytes, part, Then::Fails);
     let mut printed = Vec::new(alloc);
     let ended = run_new(rt, alloc, alloc, &mut input, &mut printed);
     holds(rt, ended.result == Err(RunFault::Input), "fault", given);
@@ -100,7 +100,7 @@ type Writing = (usize, usize, End);
 /// was, that said that all was durable.
 fn assert_written(rt: &impl Abort, alloc: Global, part: usize, writing: Writing, written: usize) {
     let (most, writes, end) = writing;
-    let mut input = PartReader::new(TYPED, part, Behind::Ends);
+    let mut input = PartReader::new(TYPED, part, Then::Ends);
     let mut output = EndingWriter::new(Vec::new(alloc), most, writes, end);
     let ended = run_new(rt, alloc, alloc, &mut input, &mut output);
     let wanted = match written {

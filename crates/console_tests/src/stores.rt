@@ -55,7 +55,7 @@ static SAVES: [(&[u8], u64); 2] = [(b"flush", 6), (b"checkpoint", 7)];
 
 /// How many events are stored after so many calls of a save, of which the last but one opens a
 /// gate and the last syncs.
-fn saved_behind(made: u64, calls: u64) -> (u64, u64) {
+fn saved_after(made: u64, calls: u64) -> (u64, u64) {
     if made < calls.saturating_sub(1) {
         (4, 4)
     } else if made < calls {
@@ -79,9 +79,9 @@ fn a_stop_leaves_what_was_acknowledged(rt: HostRuntime) {
         let is_saved = left.counts == (6, 6) && left.disk.calls() == all;
         holds(&rt, is_saved, "save", n);
         for made in 0..=*calls {
-            let (closed, open) = saved_behind(made, *calls);
-            let behind = made.saturating_add(BEFORE);
-            assert_stored(&rt, rt.alloc(), &left.disk, behind, closed, open);
+            let (closed, open) = saved_after(made, *calls);
+            let after = made.saturating_add(BEFORE);
+            assert_stored(&rt, rt.alloc(), &left.disk, after, closed, open);
         }
         drop(left);
     }
@@ -179,12 +179,12 @@ fn assert_broken<D: RunDisk>(rt: &impl Abort, alloc: Global, book: &mut Book<D>,
     let mut input = TYPED;
     let mut output = Vec::new(alloc);
     let run = ran(alloc, &mut input, &mut output, book);
-    holds(rt, run == Err(BROKEN), "a run behind fault", row);
+    holds(rt, run == Err(BROKEN), "a run after fault", row);
     let line = said(alloc, b"scope a", &mut output, book);
-    holds(rt, line == Err(BROKEN), "a line behind fault", row);
+    holds(rt, line == Err(BROKEN), "a line after fault", row);
     let is_same = input.len() == TYPED.len() && counts(book) == before;
     let is_still = is_same && output.is_empty();
-    holds(rt, is_still, "nothing done behind fault", row);
+    holds(rt, is_still, "nothing done after fault", row);
 }
 
 /// Asserts how the night ends over a disk that fails.
@@ -209,7 +209,7 @@ fn assert_fails<D: RunDisk + Drop>(
 
 /// Asserts so for a device that fails for good after so many calls of the night, and for one that
 /// fails the next call alone. A format makes no call of these, and an opening 10.
-fn assert_fails_behind(
+fn assert_fails_after(
     rt: &impl Abort,
     alloc: Global,
     calls: u64,
@@ -229,7 +229,7 @@ fn assert_fails_behind(
 fn a_failed_device_ends_a_run(rt: HostRuntime) {
     for (from, to, wanted, events) in FAILING.iter() {
         for calls in *from..*to {
-            assert_fails_behind(&rt, rt.alloc(), calls, wanted, *events);
+            assert_fails_after(&rt, rt.alloc(), calls, wanted, *events);
         }
     }
 }

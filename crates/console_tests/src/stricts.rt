@@ -3,7 +3,7 @@
 use crate::asserts::{done, holds};
 use crate::books::{counts, formatted, opened, ran_strictly};
 use crate::parts::{Part, whole};
-use crate::readers::{Behind, PartReader};
+use crate::readers::{PartReader, Then};
 use crate::writers::{End, EndingWriter};
 use run_console::{RunFault, Stray, StrayLine};
 use run_disk::{FailOnce, RunDisk};
@@ -121,11 +121,11 @@ static ROWS: [Row; 14] = [
 ];
 
 #[test]
-fn a_strict_run_ends_behind_the_first_line_that_strays(rt: HostRuntime) {
+fn a_strict_run_ends_after_the_first_line_that_strays(rt: HostRuntime) {
     for part in [1, 7, 4_096] {
         for (n, (typed, wanted, stray, events)) in ROWS.iter().enumerate() {
             let disk = formatted(&rt, rt.alloc(), Layout::Small);
-            let mut input = PartReader::new(typed, part, Behind::Ends);
+            let mut input = PartReader::new(typed, part, Then::Ends);
             let mut printed = Vec::new(rt.alloc());
             let ended = run_strictly(&rt, rt.alloc(), disk, &mut input, &mut printed);
             holds(&rt, ended.0 == Ok(line(*stray)), "end of row", n);
@@ -149,7 +149,7 @@ static LONG: [Part; 3] = [
 ];
 
 #[test]
-fn no_more_is_read_behind_the_part_of_the_line_that_strays(rt: HostRuntime) {
+fn no_more_is_read_after_the_part_of_the_line_that_strays(rt: HostRuntime) {
     let (typed, wanted) = whole(&rt, rt.alloc(), &LONG);
     let mut input = typed.as_slice();
     let mut printed = Vec::new(rt.alloc());
@@ -158,7 +158,7 @@ fn no_more_is_read_behind_the_part_of_the_line_that_strays(rt: HostRuntime) {
     let is_told = ended.0 == refused(1_201, Refusal::NotCancellable);
     holds(&rt, is_told, "the line that strays", 1_201);
     holds(&rt, printed == wanted, "what is printed", 0);
-    holds(&rt, ended.1 == (1, 1), "the lines behind it", 0);
+    holds(&rt, ended.1 == (1, 1), "the lines after it", 0);
     // Of 18,212 bytes four parts were read.
     holds(&rt, input.len() == 1_828, "what isn't read", 0);
 }
@@ -170,7 +170,7 @@ const PRINTED: &[u8] = b"scope 1\nok\nrefused 12 AlreadyDone\nacked 3\n";
 
 /// What is replied to the lines that end in the first so many bytes, and how many events there are
 /// then.
-fn behind(given: usize) -> (usize, u64) {
+fn after(given: usize) -> (usize, u64) {
     match given {
         0..=20 => (0, 1),
         21..=29 => (8, 2),
@@ -183,10 +183,10 @@ fn a_failed_read_before_the_line_that_strays_is_a_fault(rt: HostRuntime) {
     for given in 0..=TYPED.len() {
         let bytes = TYPED.get(..given).unwrap_or(TYPED);
         let disk = formatted(&rt, rt.alloc(), Layout::Small);
-        let mut input = PartReader::new(bytes, 1, Behind::Fails);
+        let mut input = PartReader::new(bytes, 1, Then::Fails);
         let mut printed = Vec::new(rt.alloc());
         let (result, counts) = run_strictly(&rt, rt.alloc(), disk, &mut input, &mut printed);
-        let (replied, events) = behind(given);
+        let (replied, events) = after(given);
         // The third line ends with the 39th byte. Where that is there, nothing is read after it.
         let told = match given {
             0..=38 => {
@@ -201,7 +201,7 @@ fn a_failed_read_before_the_line_that_strays_is_a_fault(rt: HostRuntime) {
                     && counts == (3, 3)
             }
         };
-        holds(&rt, told, "a read fails behind byte", given);
+        holds(&rt, told, "a read fails after byte", given);
     }
 }
 
@@ -216,12 +216,12 @@ fn cut_at(written: usize, part: usize) -> (u64, u64) {
 }
 
 #[test]
-fn a_failed_write_is_a_fault_and_runs_no_line_behind_the_one_that_strays(rt: HostRuntime) {
+fn a_failed_write_is_a_fault_and_runs_no_line_after_the_one_that_strays(rt: HostRuntime) {
     for end in [End::Fails, End::TakesNothing] {
         for part in [1, 4_096] {
             for written in 0..PRINTED.len() {
                 let disk = formatted(&rt, rt.alloc(), Layout::Small);
-                let mut input = PartReader::new(TYPED, part, Behind::Ends);
+                let mut input = PartReader::new(TYPED, part, Then::Ends);
                 let mut output = EndingWriter::new(Vec::new(rt.alloc()), 1, written, end);
                 let ended = run_strictly(&rt, rt.alloc(), disk, &mut input, &mut output);
                 let printed = output.into_written();

@@ -2,7 +2,7 @@
 
 use crate::asserts::{done, holds};
 use crate::books::{counts, fresh, ran, ran_strictly};
-use crate::readers::{Behind, PartReader};
+use crate::readers::{PartReader, Then};
 use run_console::{RunFault, Stray, StrayLine};
 use run_model::Moment;
 use std::alloc::Global;
@@ -108,13 +108,13 @@ fn timed(
     times: &[u64],
     typed: &[u8],
     part: usize,
-    behind: Behind,
+    then: Then,
 ) -> (Result<(), RunFault>, Vec<u8>, u64) {
     let moments = moments(rt, alloc, times);
     let mut book = fresh(rt, alloc);
     let mut output = Vec::new(alloc);
     let clock = book.state().clock();
-    let input = PartReader::new(typed, part, behind);
+    let input = PartReader::new(typed, part, then);
     let mut lines = TimedInput::new(clock, moments.as_slice(), input);
     let end = ran(alloc, &mut lines, &mut output, &mut book);
     let (events, _) = counts(&book);
@@ -126,7 +126,7 @@ fn timed(
 fn the_time_stands_before_a_line_where_it_is_later(rt: HostRuntime) {
     for (row, (times, typed, printed, count)) in ROWS.iter().enumerate() {
         for part in PARTS {
-            let ends = Behind::Ends;
+            let ends = Then::Ends;
             let (end, output, events) = timed(&rt, rt.alloc(), times, typed, part, ends);
             holds(&rt, end == Ok(()), "end", row);
             holds(&rt, output.as_slice() == *printed, "printed", row);
@@ -141,7 +141,7 @@ fn a_strict_run_counts_the_advances(rt: HostRuntime) {
     let mut book = fresh(&rt, rt.alloc());
     let mut output = Vec::new(rt.alloc());
     let typed = b"derive a root cause\n\nup\nscope a\n".as_slice();
-    let input = PartReader::new(typed, 4096, Behind::Ends);
+    let input = PartReader::new(typed, 4096, Then::Ends);
     let mut lines = TimedInput::new(book.state().clock(), moments.as_slice(), input);
     let end = ran_strictly(rt.alloc(), &mut lines, &mut output, &mut book);
     drop(book);
@@ -157,7 +157,7 @@ fn a_strict_run_counts_the_advances(rt: HostRuntime) {
 #[test]
 fn a_read_that_fails_is_told(rt: HostRuntime) {
     let times = [100, 101, 102];
-    let fails = Behind::Fails;
+    let fails = Then::Fails;
     let (end, output, _) = timed(&rt, rt.alloc(), &times, b"scope root\n", 4096, fails);
     holds(&rt, end == Err(RunFault::Input), "end", 0);
     let printed = b"ok\nlive; deadline none\n".as_slice();

@@ -43,9 +43,9 @@ accepted_answer : (s : Session) (call : Command) (a : Answer) (r : Result (Optio
 accepted_answer s call a (Err why) e = cc
 accepted_answer s call a (Ok o) e = (o, refl, cc)
 
-decision_behind : (s : Session) (call : Command) (a : Answer) (q : State) → Answered s call a q
+decision_after : (s : Session) (call : Command) (a : Answer) (q : State) → Answered s call a q
     → Decision s call a q
-decision_behind s call a q answered =
+decision_after s call a q answered =
     let p : State = s.state in
     let r : Result (Option Event) Refusal = decide p s.log call in
     let behind = accepted_answer s call a r answered.replied in
@@ -78,7 +78,7 @@ pub carried_out : (s : Session) (call : Command) (a : Answer) (q : State)
     → is_repeated s.state call ≡ false → Answered s call a q → CarriedOut s call a q
 carried_out s call a q new answered =
     let p : State = s.state in
-    let behind = decision_behind s call a q answered in
+    let behind = decision_after s call a q answered in
     let made : Event = event_of p call in
     let decided = sym (new_decide p s.log call new) ∙ behind.decided in
     let passed = unless_Ok (refusals p made) (if_room p s.log made) behind.event decided in
@@ -99,6 +99,6 @@ pub repeated_out : (s : Session) (call : Command) (a : Answer) (q : State)
     → is_repeated s.state call ≡ true → Answered s call a q
     → (q ≡ s.state) × (answer_of s.state q call ≡ a)
 repeated_out s call a q repeated answered =
-    let behind = decision_behind s call a q answered in
+    let behind = decision_after s call a q answered in
     let none = same_Ok (sym (repeated_decide s.state s.log call repeated) ∙ behind.decided) in
     (sym behind.leaves ∙ ap (state_after s.state) none, behind.answer)

@@ -120,9 +120,9 @@ is_first_on : (r : ℕ × Scope) (rows : List (ℕ × Scope)) → is_on r.0 (r �
 is_first_on r rows = ap (λ b. b || is_on r.0 rows) (eq-eqb r.0 r.0 refl)
 
 -- A first row that was not hit, before others.
-least_behind : (all : List Scope) (r : ℕ × Scope) (rows : List (ℕ × Scope)) (a : ℕ × Hit)
+least_after : (all : List Scope) (r : ℕ × Scope) (rows : List (ℕ × Scope)) (a : ℕ × Hit)
     → own_hit all r.0 ≡ None → IsLeastOf all rows a → IsLeastOf all (r ∷ rows) a
-least_behind all r rows a none of = record {
+least_after all r rows a none of = record {
   on = ap (λ b. (r.0 == a.0) || b) of.on ∙ or-true (r.0 == a.0);
   own = of.own;
   least = λ n hit on own. elim (first_or_other n r rows on) [
@@ -205,7 +205,7 @@ least_found all (r ∷ rows) are a found =
         ≡ Some a
         → ((b : ℕ × Hit) → least_hit (filter_map hit_at rows) ≡ Some b → IsLeastOf all rows b)
         → IsLeastOf all (r ∷ rows) a
-    by_row None at some least = least_behind all r rows a at (least a some)
+    by_row None at some least = least_after all r rows a at (least a some)
     by_row (Some own) at some least =
         subst (IsLeastOf all (r ∷ rows)) (same_Some _ a some)
         (by_rest own at (least_hit (filter_map hit_at rows)) refl least)

@@ -11,7 +11,7 @@ use Rattle.model_laws.specs.Searches.{joined}
 use Rattle.model_laws.specs.Endings.{AreLevel, EndingsStay}
 use Rattle.model_laws.proofs.Follows.{IsOf, cancelled}
 use Rattle.model_laws.proofs.WellFormed.{ordered_follow}
-use Rattle.model_laws.proofs.Relates.{earlier_comes_before, later_comes_behind, IsKept, RowRelates}
+use Rattle.model_laws.proofs.Relates.{earlier_comes_before, later_comes_after, IsKept, RowRelates}
 use Rattle.model_laws.proofs.Relates.{RowsRelate, first_hits_relate}
 
 -- ---- hits that are level with one
@@ -55,7 +55,7 @@ first_stays : (hit : Hit) (a b : ℕ × Hit) → a.1.event < hit.event → b.1 �
     → first_of (Some a) b ≡ a
 first_stays hit a b less is =
     let event : b.1.event ≡ hit.event = ap (λ h. h.event) is in
-    ap (λ t. cond t b a) (later_comes_behind b a (omega (arith, less, event)))
+    ap (λ t. cond t b a) (later_comes_after b a (omega (arith, less, event)))
 
 -- Beside a level hit, two that are alike stay alike.
 alike_beside : (hit : Hit) (a b c : ℕ × Hit) → AreAlike hit a b → IsLevel hit c.1

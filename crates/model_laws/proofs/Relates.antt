@@ -22,8 +22,8 @@ earlier_comes_before a b less =
     let rest = ordering_then (nat_cmp a.1.moment b.1.moment) (nat_cmp a.0 b.0) in
     ap (λ o. is_lt (ordering_then o rest)) (sym (nat_cmp_is a.1.event b.1.event Less less))
 
-pub later_comes_behind : (a b : ℕ × Hit) → b.1.event < a.1.event → comes_before a b ≡ false
-later_comes_behind a b less =
+pub later_comes_after : (a b : ℕ × Hit) → b.1.event < a.1.event → comes_before a b ≡ false
+later_comes_after a b less =
     let rest = ordering_then (nat_cmp a.1.moment b.1.moment) (nat_cmp a.0 b.0) in
     ap (λ o. is_lt (ordering_then o rest)) (sym (nat_cmp_is a.1.event b.1.event Greater less))
 

@@ -13,7 +13,7 @@ use Rattle.run_model.specs.declared.scopes.Kind.{Kind}
 use Rattle.run_model.specs.Rules.{ArePast, IsWellFormed}
 use Rattle.model_laws.specs.Searches.{joined}
 use Rattle.model_laws.specs.Endings.{AreEarlier, EndingsStay, KeepsEndings}
-pub use Rattle.model_laws.proofs.Relates.{earlier_comes_before, later_comes_behind}
+pub use Rattle.model_laws.proofs.Relates.{earlier_comes_before, later_comes_after}
 use Rattle.model_laws.proofs.Relates.{IsKept, RowsRelate, first_hits_relate}
 use Rattle.model_laws.proofs.RunLemmas.{after_allowed, after_step, run_keeps}
 use Rattle.model_laws.proofs.Follows.{HitFollows, RowsFollow, derived, ticked, cancel_follows}
@@ -53,7 +53,7 @@ joined_stays e s (Some a) up' (Some hit) own' high low = (
 joined_stays e s (Some a) up' None None high low = high
 joined_stays e s (Some a) up' None (Some hit) high low =
     let behind : comes_before (s, hit) a ≡ false =
-    later_comes_behind (s, hit) a (omega (arith, high.1, low)) in
+    later_comes_after (s, hit) a (omega (arith, high.1, low)) in
     (ap (λ x. joined x s (Some hit)) high.0 ∙ ap (λ b. Some (cond b (s, hit) a)) behind, high.1)
 joined_stays e s None None (Some hit) own' high low = (ap (joined None s) low.0, low.1)
 joined_stays e s None (Some a) (Some hit) own' high low =

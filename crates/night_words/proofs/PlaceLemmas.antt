@@ -504,9 +504,9 @@ module _ (c : Command) (one : IsOver c) where
       (ap (λ b. b && is_empty (use_fault again a [] [])) takes
       ∙ ap is_empty (subst (λ o. option_map_or (λ b. use_fault again b [] []) o [] ≡ []) at none))
 
-  pub behind_mark : (x : Text) → ReadsAlone c x (over c (mark ∷ x ∷ []))
+  pub after_mark : (x : Text) → ReadsAlone c x (over c (mark ∷ x ∷ []))
   unfolding walked
-  behind_mark x =
+  after_mark x =
       let at : over c (mark ∷ x ∷ []) ≡ placed (x ∷ []) true =
       ap (λ (w : Walk). walked (shape c).rules [] w x) (marks c [] None idle 1)
       ∙ (value_goes [] c true x (takes_first c one)).1 in
@@ -532,7 +532,7 @@ module _ (c : Command) (one : IsOver c) where
       let given : is_given (codes "STORE") (finished (shape c).rules (held [] None)) ≡ true =
       store_given c one (finished (shape c).rules (held [] None)) (subst (EndPasses c) at none) in
       absurd (never_given c one given)
-  mark_alone true none = behind_mark mark
+  mark_alone true none = after_mark mark
 
   pub first_alone : (x : Text) (t : Bool) → Passes c (x ∷ tail t)
       → ReadsAlone c x (over c (x ∷ tail t))

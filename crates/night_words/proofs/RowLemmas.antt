@@ -45,10 +45,10 @@ grows_full a b more full = subst IsFull (sym more.is) (full_both a more.more ful
 -- ---- what is read
 
 -- what was read first of an argument is read after more rows, too
-first_behind : (id v : Text) (rows more : List Row) → first_of id rows ≡ Some v
+first_after : (id v : Text) (rows more : List Row) → first_of id rows ≡ Some v
     → first_of id (rows ++ more) ≡ Some v
-first_behind id v [] more is = cc
-first_behind id v (r ∷ rs) more is = go (bytes_eq r.id id) (first_behind id v rs more) is
+first_after id v [] more is = cc
+first_after id v (r ∷ rs) more is = go (bytes_eq r.id id) (first_after id v rs more) is
   where
     go : (b : Bool) → (first_of id rs ≡ Some v → first_of id (rs ++ more) ≡ Some v)
         → option_and_then (λ q. slice_get q.values 0)
@@ -61,7 +61,7 @@ first_behind id v (r ∷ rs) more is = go (bytes_eq r.id id) (first_behind id v 
 pub grows_first : (id v : Text) (a b : List Row) → Grows a b → first_of id a ≡ Some v
     → first_of id b ≡ Some v
 grows_first id v a b more is =
-    ap (λ l. first_of id l) more.is ∙ first_behind id v a more.more is
+    ap (λ l. first_of id l) more.is ∙ first_after id v a more.more is
 
 -- of an argument that has no row yet, the row that goes after is read
 pub first_last : (id : Text) (new : Row) (rows : List Row) → has_row id rows ≡ false

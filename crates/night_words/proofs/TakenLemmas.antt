@@ -25,7 +25,7 @@ use Rattle.night_requests.specs.declared.asked.WordsFault.TheVariants.{SameStore
 use Rattle.night_words.proofs.LevelLemmas.{first_passes, lower_passes, rest_passes, start}
 use Rattle.night_words.proofs.LevelLemmas.{words_pass}
 use Rattle.night_words.proofs.PlaceLemmas.{Command, IsOver, IsUnset, Passes, ReadsAlone, Reads}
-use Rattle.night_words.proofs.PlaceLemmas.{behind_mark, crews, demos, first_alone, formats}
+use Rattle.night_words.proofs.PlaceLemmas.{after_mark, crews, demos, first_alone, formats}
 use Rattle.night_words.proofs.PlaceLemmas.{inspects, migrates, over, reads, renews, scripts, shape}
 use Rattle.night_words.proofs.PlaceLemmas.{text_is, word_of}
 use Rattle.night_words.proofs.TurnLemmas.{above, above_is_strict, first_none, mark}
@@ -355,7 +355,7 @@ module _ (c : Command) (one : IsOver c) (store : Text) where
       (alone_there name (store ∷ []) (first_alone c one store false
       (passes c (store ∷ []) (subst (λ w. faults_of w ≡ []) e none))))
   store_alone words none (name, inr (inl e)) = subst (StandsAlone c store) (sym e)
-      (alone_there name (mark ∷ store ∷ []) (behind_mark c one store))
+      (alone_there name (mark ∷ store ∷ []) (after_mark c one store))
   store_alone words none (name, inr (inr e)) = subst (StandsAlone c store) (sym e)
       (alone_there name (store ∷ mark ∷ []) (first_alone c one store true
       (passes c (store ∷ mark ∷ []) (subst (λ w. faults_of w ≡ []) e none))))

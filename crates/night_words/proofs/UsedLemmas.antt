@@ -39,7 +39,7 @@ shows false word = is_true word
 abbrev pub is_shown : Rule → List Row → Bool
 is_shown a rows = shows (takes_values a) (first_of a.id rows)
 
--- a first use leaves a value behind
+-- a first use leaves a value after
 record IsUsed (a : Rule) (values : List Text) (r : List Row) : Type 0 where
   first : Text
   rest : List Text

@@ -44,7 +44,7 @@ pub fn a_store_is_named()
     ensures inspect { (name : List ℕ) → faults_of (name ∷ codes "inspect" ∷ codes "a" ∷ []) ≡ [] }
     ensures before { (name : List ℕ)
         → faults_of (name ∷ codes "format" ∷ codes "--" ∷ codes "-a" ∷ []) ≡ [] }
-    ensures behind { (name : List ℕ)
+    ensures after { (name : List ℕ)
         → faults_of (name ∷ codes "format" ∷ codes "a" ∷ codes "--" ∷ []) ≡ [] }
 {}
 
@@ -54,11 +54,11 @@ pub fn a_new_store_is_named()
         → AsksForFormat (codes "a") false (name ∷ codes "format" ∷ codes "a" ∷ []) }
     ensures before { (name : List ℕ)
         → AsksForFormat (codes "-a") false (name ∷ codes "format" ∷ codes "--" ∷ codes "-a" ∷ []) }
-    ensures behind { (name : List ℕ)
+    ensures after { (name : List ℕ)
         → AsksForFormat (codes "a") false (name ∷ codes "format" ∷ codes "a" ∷ codes "--" ∷ []) }
     ensures new { (name : List ℕ)
         → AsksForFormat (codes "a") true (name ∷ codes "format" ∷ codes "--new" ∷ codes "a" ∷ []) }
-    ensures new_behind { (name : List ℕ)
+    ensures new_after { (name : List ℕ)
         → AsksForFormat (codes "a") true (name ∷ codes "format" ∷ codes "a" ∷ codes "--new" ∷ []) }
     ensures not_new { (name : List ℕ) → AsksForFormat (codes "--new") false
         (name ∷ codes "format" ∷ codes "--" ∷ codes "--new" ∷ []) }
@@ -71,7 +71,7 @@ pub fn a_script_may_be_strict()
         → AsksForScript (codes "a") false false (name ∷ codes "script" ∷ codes "a" ∷ []) }
     ensures before { (name : List ℕ) → AsksForScript (codes "a") true false
         (name ∷ codes "script" ∷ codes "--strict" ∷ codes "a" ∷ []) }
-    ensures behind { (name : List ℕ) → AsksForScript (codes "a") true false
+    ensures after { (name : List ℕ) → AsksForScript (codes "a") true false
         (name ∷ codes "script" ∷ codes "a" ∷ codes "--strict" ∷ []) }
     ensures timed { (name : List ℕ) → AsksForScript (codes "a") false true
         (name ∷ codes "script" ∷ codes "--now" ∷ codes "a" ∷ []) }
@@ -85,7 +85,7 @@ pub fn tasks_may_be_inspected()
         → AsksForInspect (codes "a") Whole (name ∷ codes "inspect" ∷ codes "a" ∷ []) }
     ensures before { (name : List ℕ) → AsksForInspect (codes "a") (Tasks None None)
         (name ∷ codes "inspect" ∷ codes "--tasks" ∷ codes "a" ∷ []) }
-    ensures behind { (name : List ℕ) → AsksForInspect (codes "a") (Tasks None None)
+    ensures after { (name : List ℕ) → AsksForInspect (codes "a") (Tasks None None)
         (name ∷ codes "inspect" ∷ codes "a" ∷ codes "--tasks" ∷ []) }
     ensures marked { (name : List ℕ) → AsksForInspect (codes "--tasks") Whole
         (name ∷ codes "inspect" ∷ codes "--" ∷ codes "--tasks" ∷ []) }
@@ -131,7 +131,7 @@ pub fn some_tasks_may_be_printed_as_json()
 pub fn other_views_may_be_printed()
     ensures json { (name : List ℕ) → AsksForInspect (codes "a") (Json None None)
         (name ∷ codes "inspect" ∷ codes "--json" ∷ codes "a" ∷ []) }
-    ensures json_behind { (name : List ℕ) → AsksForInspect (codes "a") (Json None None)
+    ensures json_after { (name : List ℕ) → AsksForInspect (codes "a") (Json None None)
         (name ∷ codes "inspect" ∷ codes "a" ∷ codes "--json" ∷ []) }
     ensures tree { (name : List ℕ) → AsksForInspect (codes "a") (Tree false)
         (name ∷ codes "inspect" ∷ codes "--tree" ∷ codes "a" ∷ []) }
@@ -151,7 +151,7 @@ pub fn other_views_may_be_printed()
 pub fn a_tree_may_be_without_tasks()
     ensures before { (name : List ℕ) → AsksForInspect (codes "a") (Tree true)
         (name ∷ codes "inspect" ∷ codes "--no-tasks" ∷ codes "--tree" ∷ codes "a" ∷ []) }
-    ensures behind { (name : List ℕ) → AsksForInspect (codes "a") (Tree true)
+    ensures after { (name : List ℕ) → AsksForInspect (codes "a") (Tree true)
         (name ∷ codes "inspect" ∷ codes "--tree" ∷ codes "a" ∷ codes "--no-tasks" ∷ []) }
     ensures alone { (name : List ℕ) → IsCausedBy NoTree
         (name ∷ codes "inspect" ∷ codes "--no-tasks" ∷ codes "a" ∷ []) }
@@ -168,11 +168,11 @@ pub fn a_tree_may_be_without_tasks()
 pub fn flags_are_taken()
     ensures new { (name : List ℕ)
         → faults_of (name ∷ codes "format" ∷ codes "--new" ∷ codes "a" ∷ []) ≡ [] }
-    ensures new_behind { (name : List ℕ)
+    ensures new_after { (name : List ℕ)
         → faults_of (name ∷ codes "format" ∷ codes "a" ∷ codes "--new" ∷ []) ≡ [] }
     ensures strict { (name : List ℕ)
         → faults_of (name ∷ codes "script" ∷ codes "--strict" ∷ codes "a" ∷ []) ≡ [] }
-    ensures strict_behind { (name : List ℕ)
+    ensures strict_after { (name : List ℕ)
         → faults_of (name ∷ codes "script" ∷ codes "a" ∷ codes "--strict" ∷ []) ≡ [] }
     ensures tasks { (name : List ℕ)
         → faults_of (name ∷ codes "inspect" ∷ codes "--tasks" ∷ codes "a" ∷ []) ≡ [] }
@@ -249,7 +249,7 @@ pub fn two_stores_are_named()
         → faults_of (name ∷ codes "migrate" ∷ codes "--" ∷ codes "-a" ∷ codes "-b" ∷ []) ≡ [] }
     ensures between { (name : List ℕ)
         → faults_of (name ∷ codes "migrate" ∷ codes "a" ∷ codes "--" ∷ codes "-b" ∷ []) ≡ [] }
-    ensures behind { (name : List ℕ)
+    ensures after { (name : List ℕ)
         → faults_of (name ∷ codes "migrate" ∷ codes "a" ∷ codes "b" ∷ codes "--" ∷ []) ≡ [] }
 {}
 
@@ -270,7 +270,7 @@ pub fn two_stores_may_be_renewed()
 pub fn a_store_may_be_renewed_in_place()
     ensures before { (name : List ℕ) → AsksForRenewalInPlace (codes "a")
         (name ∷ codes "renew" ∷ codes "--in-place" ∷ codes "a" ∷ []) }
-    ensures behind { (name : List ℕ) → AsksForRenewalInPlace (codes "a")
+    ensures after { (name : List ℕ) → AsksForRenewalInPlace (codes "a")
         (name ∷ codes "renew" ∷ codes "a" ∷ codes "--in-place" ∷ []) }
     ensures neither { (name : List ℕ)
         → IsCausedBy Place (name ∷ codes "renew" ∷ codes "a" ∷ []) }
@@ -313,13 +313,13 @@ pub fn a_crew_is_named()
         → AsksForCrew (codes "a") 4 false (name ∷ codes "crew" ∷ codes "a" ∷ []) }
     ensures before { (name : List ℕ) → AsksForCrew (codes "a") 1 false
         (name ∷ codes "crew" ∷ codes "--workers" ∷ codes "1" ∷ codes "a" ∷ []) }
-    ensures behind { (name : List ℕ) → AsksForCrew (codes "a") 8 false
+    ensures after { (name : List ℕ) → AsksForCrew (codes "a") 8 false
         (name ∷ codes "crew" ∷ codes "a" ∷ codes "--workers=8" ∷ []) }
     ensures taken { (name : List ℕ)
         → faults_of (name ∷ codes "crew" ∷ codes "a" ∷ codes "--workers" ∷ codes "1" ∷ []) ≡ [] }
     ensures known { (name : List ℕ)
         → AsksForCrew (codes "a") 4 true (name ∷ codes "crew" ∷ codes "--known" ∷ codes "a" ∷ []) }
-    ensures known_behind { (name : List ℕ) → AsksForCrew (codes "a") 2 true
+    ensures known_after { (name : List ℕ) → AsksForCrew (codes "a") 2 true
         (name ∷ codes "crew" ∷ codes "a" ∷ codes "--known" ∷ codes "--workers" ∷ codes "2" ∷ []) }
 {}
 

@@ -270,7 +270,7 @@ fn ended_when_told<
 }
 
 #[test]
-fn a_gate_is_told_behind_the_lock(rt: HostRuntime) {
+fn a_gate_is_told_after_the_lock(rt: HostRuntime) {
     let tasks: [Task; 2] = [(b"copy", b"a"); 2];
     let jobs = plain_jobs(&rt, rt.alloc(), 1);
     let parts = jobs.len() as u64 + 1;

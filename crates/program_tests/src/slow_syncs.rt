@@ -202,7 +202,7 @@ fn marks_of(rt: &impl Abort, alloc: Global) -> Arc<Marks> {
 // rings just after the flush that the first ring was for. Nobody else flushes before task 2 goes
 // on.
 #[test]
-fn a_finish_behind_a_slow_sync_becomes_durable(rt: HostRuntime) {
+fn a_finish_after_a_slow_sync_becomes_durable(rt: HostRuntime) {
     let marks = marks_of(&rt, rt.alloc());
     let jobs = jobs_of(&rt, rt.alloc(), rt, &marks);
     let parts = jobs.len() as u64 + 1;

@@ -36,9 +36,9 @@ module _
   passed_first front x more ok others (suc k) y found =
       ap (λ f. test f y) (sym (append_assoc front (x ∷ []) (take k more))) ∙ others k y found
 
-  passed_behind : (front : List X) (x : X) (more : List X) → ArePassed front (x ∷ more)
+  passed_after : (front : List X) (x : X) (more : List X) → ArePassed front (x ∷ more)
       → ArePassed (front ++ x ∷ []) more
-  passed_behind front x more all k y found =
+  passed_after front x more all k y found =
       ap (λ f. test f y) (append_assoc front (x ∷ []) (take k more)) ∙ all (suc k) y found
 
   pub more_take : (n : ℕ) (front : List X) (bytes : List ℕ) (x : List X × List ℕ)
@@ -80,7 +80,7 @@ module _
   more_again front (x ∷ more) rest passed ok =
       let here : test front x ≡ true =
       ap (λ f. test f x) (sym (append-nil front)) ∙ passed 0 x refl in
-      let others = more_again (front ++ x ∷ []) more rest (passed_behind front x more passed) ok.1
+      let others = more_again (front ++ x ∷ []) more rest (passed_after front x more passed) ok.1
       in
       rw (
         append_assoc (write x) (flat_map write more) rest,

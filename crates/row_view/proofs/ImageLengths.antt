@@ -52,10 +52,10 @@ scopes_short (row ∷ rows) kept right = (
   scopes_short rows kept.1 (λ s r hit found has. right (suc s) r hit found has),
 )
 
-pub behind_first : (rows : List Scope) (s : ℕ) (row : Scope) → slice_get (drop 1 rows) s ≡ Some row
+pub after_first : (rows : List Scope) (s : ℕ) (row : Scope) → slice_get (drop 1 rows) s ≡ Some row
     → slice_get rows (suc s) ≡ Some row
-behind_first [] s row found = absurd (none-some row found)
-behind_first (r ∷ rows) s row found = found
+after_first [] s row found = absurd (none-some row found)
+after_first (r ∷ rows) s row found = found
 
 head_len : (head : ImageHead) → length (head_bytes head) ≡ 23
 head_len head = by_version head.version
@@ -94,7 +94,7 @@ image_most version layout bytes p image =
     subst (λ l. length p.work.tasks ≤ most_tasks l) image.has_layout.work numbered.few_tasks in
     let right : AreHitRight rows =
     λ s row hit found has.
-    image.consistent.hits.kinds (suc s) row (behind_first p.tree.scopes s row found)
+    image.consistent.hits.kinds (suc s) row (after_first p.tree.scopes s row found)
     (ap is_some has) in
     let a = rows_most scope_bytes 192 rows (scopes_short rows image.ranged.scopes right) in
     let b = rows_most group_bytes 103 p.work.groups

@@ -123,10 +123,10 @@ module _
       IsTrue (test_e e) → IsTrue (test_f f) → M (make a b c d e f) rest) →
       six read_a read_b read_c read_d read_e read_f make bytes ≡ Some x → M x.0 x.1
   six_takes M bytes x made h =
-      let behind_b = λ (a : A) (b : B × List ℕ).
+      let after_b = λ (a : A) (b : B × List ℕ).
       four read_c read_d read_e read_f (make a b.0) b.1 in
-      let a = through (read_a bytes) (λ (a : A × List ℕ). read_b a.1 >>= behind_b a.0) x h in
-      let b = through (read_b a.0.1) (behind_b a.0.0) x a.2 in
+      let a = through (read_a bytes) (λ (a : A × List ℕ). read_b a.1 >>= after_b a.0) x h in
+      let b = through (read_b a.0.1) (after_b a.0.0) x a.2 in
       let taken = first.takes bytes a.0 a.1 in
       let next = second.takes a.0.1 b.0 b.1 in
       four_takes third fourth fifth sixth (make a.0.0 b.0.0) M b.0.1 x

@@ -228,9 +228,9 @@ module _ (h : History) (clock failures : ℕ) (kept : IsKept h clock failures) w
     write_made = All-push (λ w. w.moment < clock + 1) h.writes write made_next (omega arith)
 
     -- a place's byte after it
-    behind_write : (i : ℕ) → byte_after Take (and_write h write) (clock + 1) i
+    after_write : (i : ℕ) → byte_after Take (and_write h write) (clock + 1) i
         ≡ unwrap_or (byte_put at other i) (byte_whole h i)
-    behind_write i = byte_after-whole (and_write h write) (clock + 1) i write_made
+    after_write i = byte_after-whole (and_write h write) (clock + 1) i write_made
         ∙ byte-push (λ w. w.bytes) h.writes write i (get_or h.first i 0)
 
     pub written_kept : (failed : ℕ) → clock < last_moment → failed ≤ clock + 1
@@ -247,7 +247,7 @@ module _ (h : History) (clock failures : ℕ) (kept : IsKept h clock failures) w
     new_byte : (i : ℕ) → i < length h.first
         → get_or new i 0 ≡ unwrap_or (byte_put at other i) (get_or now i 0)
     new_byte i below =
-        now_byte (and_write h write) (clock + 1) i below ∙ behind_write i
+        now_byte (and_write h write) (clock + 1) i below ∙ after_write i
         ∙ ap (unwrap_or (byte_put at other i)) (sym (now_whole i below))
 
     new_outside : (i : ℕ) → ((i < at) ⊎ (at + length other ≤ i)) → get_or new i 0 ≡ get_or now i 0
@@ -346,7 +346,7 @@ module _ (h : History) (clock failures : ℕ) (kept : IsKept h clock failures) w
         away outside =
             outside_same outside
             ∙ is.bytes i below (is_unsynced-outside i outside synced)
-            ∙ behind_write i
+            ∙ after_write i
             ∙ ap (λ o. unwrap_or o (byte_whole h i)) (byte_put-outside at other i outside)
             ∙ sym (byte_after-whole h clock i kept.made)
 

@@ -22,8 +22,8 @@ use Rattle.run_lines.specs.SessionLines.{IsSaving}
 use Rattle.run_lines.specs.Progress.{Cut, EndStops, IsOfLine, IsStopped, LineRuns, LineStops}
 use Rattle.run_lines.specs.Progress.{Ran, Troubled, WritesTrouble, Wrote}
 use Rattle.state_views.specs.Told.{Told}
-use Rattle.run_lines.proofs.Lines.{cut_then, cut_troubled, trouble_behind}
-use Rattle.state_views.proofs.Told.{part_behind}
+use Rattle.run_lines.proofs.Lines.{cut_then, cut_troubled, trouble_after}
+use Rattle.state_views.proofs.Told.{part_after}
 
 -- Making room is no line.
 ran_told : {D : Type 0} {state : D → DiskState} {b : BookView D} {g m : List ℕ}
@@ -65,12 +65,12 @@ pub end_stopped : {D : Type 0} {g m : List ℕ} {w0 w1 : Option (List ℕ)} (why
     → EndStops why c end g w0 w2
 end_stopped {g} {m} {w0} {w1} fault.Output trouble c end w2 room stop =
     let P : List ℕ → Type 0 = λ t. WritesPart w0 w2 t in
-    inl (subst P (room_is g m w0 w1 room) (part_behind room.out m w0 w1 w2 room.written stop))
+    inl (subst P (room_is g m w0 w1 room) (part_after room.out m w0 w1 w2 room.written stop))
 end_stopped {g} {m} {w0} {w1} (fault.Store why) trouble c end w2 room stop =
     let P : List ℕ → Type 0 = λ t. WritesTrouble why t w0 w2 in
     let Q : Trouble → Type 0 = λ t. WritesTrouble t m w1 w2 in
     subst P (room_is g m w0 w1 room)
-    (trouble_behind why room.out m w0 w1 w2 room.written (subst Q (sym stop.0) stop.1))
+    (trouble_after why room.out m w0 w1 w2 room.written (subst Q (sym stop.0) stop.1))
 end_stopped fault.Input trouble c end w2 room stop = absurd stop
 end_stopped fault.InputTooLong trouble c end w2 room stop = absurd stop
 end_stopped fault.Memory trouble c end w2 room stop = absurd stop

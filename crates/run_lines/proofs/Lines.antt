@@ -16,7 +16,7 @@ use Rattle.console_lines.specs.Script.{after_lines, replies, reply, steps_of, af
 use Rattle.console_lines.specs.Progress.{WritesPart}
 use Rattle.console_lines.proofs.Steps.{replies-append}
 use Rattle.console_lines.proofs.Written.{appends_nothing, appends_then}
-use Rattle.state_views.proofs.Told.{part_behind}
+use Rattle.state_views.proofs.Told.{part_after}
 use Rattle.run_lines.specs.SessionLines.{IsSaving}
 use Rattle.run_lines.specs.Progress.{Cut, IsStopped, Lasts, Ran, Troubled, Untold, Wrote}
 use Rattle.state_views.specs.Told.{Told}
@@ -55,25 +55,25 @@ lasts_same b c same = subst (λ (s : Session). Lasts b s) (sym same) (stays_same
 
 -- ---- what is written after what was written
 
-pub trouble_behind :
+pub trouble_after :
     (why : Trouble) (x g : List ℕ) (w0 w1 w2 : Option (List ℕ))
     → Appends w0 w1 x
     → WritesTrouble why g w1 w2
     → WritesTrouble why (x ++ g) w0 w2
-trouble_behind why x g w0 w1 w2 h k =
+trouble_after why x g w0 w1 w2 h k =
     let P : List ℕ → Type 0 = λ t. Appends w0 w2 t in
     (k.0, k.1, subst P (sym (append_assoc x g k.0)) (appends_then w0 w1 w2 x (g ++ k.0) h k.2))
 
-wrote_behind :
+wrote_after :
     (why : RunFault) (x g : List ℕ) (w0 w1 w2 : Option (List ℕ))
     → Appends w0 w1 x
     → Wrote why g w1 w2
     → Wrote why (x ++ g) w0 w2
-wrote_behind fault.Output x g w0 w1 w2 h k = part_behind x g w0 w1 w2 h k
-wrote_behind (fault.Store why) x g w0 w1 w2 h k = trouble_behind why x g w0 w1 w2 h k
-wrote_behind fault.Input x g w0 w1 w2 h k = appends_then w0 w1 w2 x g h k
-wrote_behind fault.InputTooLong x g w0 w1 w2 h k = appends_then w0 w1 w2 x g h k
-wrote_behind fault.Memory x g w0 w1 w2 h k = appends_then w0 w1 w2 x g h k
+wrote_after fault.Output x g w0 w1 w2 h k = part_after x g w0 w1 w2 h k
+wrote_after (fault.Store why) x g w0 w1 w2 h k = trouble_after why x g w0 w1 w2 h k
+wrote_after fault.Input x g w0 w1 w2 h k = appends_then w0 w1 w2 x g h k
+wrote_after fault.InputTooLong x g w0 w1 w2 h k = appends_then w0 w1 w2 x g h k
+wrote_after fault.Memory x g w0 w1 w2 h k = appends_then w0 w1 w2 x g h k
 
 -- ---- lines that were run
 
@@ -269,7 +269,7 @@ cut_written {lines} {c} {g} {w0} {w1} {w2} ran cut =
       lines_are = sym (append-nil lines);
       of_line = tt;
       stopped = tt;
-      written = subst P (sym ran.replied) (part_behind ran.out g w0 w1 w2 ran.written cut);
+      written = subst P (sym ran.replied) (part_after ran.out g w0 w1 w2 ran.written cut);
       session = ran.session;
       tried = record { middle = c; taken = ran.taken; tried = inl refl };
       lasts = ran.lasts;
@@ -297,7 +297,7 @@ cut_then {state} {why} {xs} {b} {c} {d} {f} {g} {w0} {w1} {w2} one two =
           ∙ sym (append_assoc f s t)
           ∙ ap (λ x. x ++ t) one.replied
           ∙ append_assoc one.out g t))
-          (wrote_behind why one.out (g ++ t) w0 w1 w2 one.written two.written);
+          (wrote_after why one.out (g ++ t) w0 w1 w2 one.written two.written);
       session = session_then xs two.ran b.session c.session d.session one.session two.session;
       tried = record {
         middle = two.tried.middle;

@@ -49,7 +49,7 @@ seen p line name view (Some look) asks there shows text = record {
   text = text;
 }
 
--- What a state shows of a scope that is found by the word behind `scope `.
+-- What a state shows of a scope that is found by the word after `scope `.
 pub looked : (p : State) (line name : List ℕ) (n : ℕ) (r : Option LookView)
     → scope_word line ≡ Some name
     → IsName name

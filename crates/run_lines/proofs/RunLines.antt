@@ -194,14 +194,14 @@ module _ (until : Until) where
   last_stray m c line (Some x) h stray e = e ∙ sym (ends_so until m c line x (sym h))
 
   -- The lines of a run begin with those up to some LF, where it ends after none before the last.
-  pub lines_behind : (s : Session) (first : List (List ℕ)) (line front behind : List ℕ)
+  pub lines_after : (s : Session) (first : List (List ℕ)) (line front behind : List ℕ)
       → stray_until until 1 s first ≡ None
       → lines_of front ≡ first ++ line ∷ []
       → (more : List (List ℕ))
       × (lines_until until s (lines_of (front ++ 10 ∷ behind)) ≡ (first ++ line ∷ []) ++ more)
       × ((lines : List (List ℕ)) → (bytes : List ℕ) → (r : Option (List ℕ))
       → more ≡ [] → StandsFirst lines bytes 4096 → IsReadFor until lines bytes r)
-  lines_behind s first line front behind none lines =
+  lines_after s first line front behind none lines =
       let next = after_lf until (after_lines s first) line behind in (
         next.0,
         ap (lines_until until s)

@@ -31,11 +31,11 @@ use Rattle.run_lines.specs.Progress.{WritesTrouble, Wrote, lines_to, untried}
 use Rattle.run_lines.specs.Until.{IsReadFor, ends_at, lines_until, numbered}
 use Rattle.run_lines.proofs.Rows.{takes_join, tries_more, tries_next}
 use Rattle.run_lines.proofs.Lines.{cut_then, cut_written, ran_then, stopped_more}
-use Rattle.state_views.proofs.Told.{part_behind}
-use Rattle.run_lines.proofs.Lines.{trouble_behind}
+use Rattle.state_views.proofs.Told.{part_after}
+use Rattle.run_lines.proofs.Lines.{trouble_after}
 use Rattle.run_lines.proofs.Parts.{part_then}
 use Rattle.run_lines.proofs.RunLines.{at_end, ends_first, found_then, last_lines, last_stray}
-use Rattle.run_lines.proofs.RunLines.{left_over, lines_behind, read_first, search_on}
+use Rattle.run_lines.proofs.RunLines.{left_over, lines_after, read_first, search_on}
 
 -- ---- what is read
 
@@ -84,9 +84,9 @@ around xs part front behind e =
     ap (λ t. xs ++ t) e ∙ sym (append_assoc xs front (10 ∷ behind))
 
 -- Of a part that was read at once little comes after an LF.
-few_behind : (part front behind : List ℕ)
+few_after : (part front behind : List ℕ)
     → part ≡ front ++ 10 ∷ behind → length part ≤ 4096 → length behind < 4096
-few_behind part front behind e h =
+few_after part front behind e h =
     omega (arith, ap length e, length-append front (10 ∷ behind), h)
 
 -- ---- a run that stops
@@ -117,15 +117,15 @@ no_end [] ys e = e
 no_end (x ∷ xs) ys e = absurd (omega (arith, ap length e))
 
 -- Where no line is left after one that stopped, none follows.
-none_behind : (why : RunFault) (left more : List (List ℕ))
+none_after : (why : RunFault) (left more : List (List ℕ))
     → IsStopped why left → untried why (left ++ more) ≡ [] → more ≡ []
-none_behind (fault.Store why) [] more h e = absurd h
-none_behind (fault.Store why) (line ∷ left) more h e = no_end left more e
-none_behind fault.Memory [] more h e = absurd h
-none_behind fault.Memory (line ∷ left) more h e = no_end left more e
-none_behind fault.Input left more h e = no_end left more e
-none_behind fault.InputTooLong left more h e = no_end left more e
-none_behind fault.Output left more h e = no_end left more e
+none_after (fault.Store why) [] more h e = absurd h
+none_after (fault.Store why) (line ∷ left) more h e = no_end left more e
+none_after fault.Memory [] more h e = absurd h
+none_after fault.Memory (line ∷ left) more h e = no_end left more e
+none_after fault.Input left more h e = no_end left more e
+none_after fault.InputTooLong left more h e = no_end left more e
+none_after fault.Output left more h e = no_end left more e
 
 -- A line that stopped stops a run.
 stopped_so : (why : RunFault) (left : List (List ℕ)) → IsStopped why left
@@ -183,7 +183,7 @@ end_wrote : {D : Type 0} {state : D → DiskState} {b d : BookView D} {lines : L
     → IsWritten why b.session lines [] e w0 w3
 end_wrote {g} {w0} {w2} fault.Output e w3 ran (inl h) =
     let P : List ℕ → Type 0 = λ x. WritesPart w0 w3 x in
-    inl (subst P (sym ran.replied) (part_behind ran.out g w0 w2 w3 ran.written h))
+    inl (subst P (sym ran.replied) (part_after ran.out g w0 w2 w3 ran.written h))
 end_wrote {b} {d} {lines} {g} {w0} {w2} fault.Output e w3 ran (inr (saved, h)) =
     let P : List ℕ → Type 0 = λ x. WritesPart w0 w3 x in
     let s = b.session in
@@ -192,10 +192,10 @@ end_wrote {b} {d} {lines} {g} {w0} {w2} fault.Output e w3 ran (inr (saved, h)) =
     ap (λ t. replies s lines ++ closing t) (sym ran.session)
     ∙ ap (λ x. x ++ end) ran.replied
     ∙ append_assoc ran.out g end in
-    inr (refl, saved, subst P (sym text) (part_behind ran.out (g ++ end) w0 w2 w3 ran.written h))
+    inr (refl, saved, subst P (sym text) (part_after ran.out (g ++ end) w0 w2 w3 ran.written h))
 end_wrote {g} {w0} {w2} (fault.Store why) e w3 ran h =
     let P : List ℕ → Type 0 = λ x. WritesTrouble why x w0 w3 in
-    subst P (sym ran.replied) (trouble_behind why ran.out g w0 w2 w3 ran.written h)
+    subst P (sym ran.replied) (trouble_after why ran.out g w0 w2 w3 ran.written h)
 end_wrote fault.Memory e w3 ran h = absurd h
 end_wrote fault.Input e w3 ran h = absurd h
 end_wrote fault.InputTooLong e w3 ran h = absurd h
@@ -287,7 +287,7 @@ module _ {D : Type 0} {state : D → DiskState} {until : Until} where
           lines_are =
               is ∙ ap (λ l. l ++ more) cut.lines_are ∙ append_assoc cut.ran cut.left more;
           read_for = λ e.
-              let none = none_behind why cut.left more cut.stopped e in
+              let none = none_after why cut.left more cut.stopped e in
               subst P
               (cut.lines_are
               ∙ ap (λ l. cut.ran ++ l)
@@ -325,7 +325,7 @@ module _ {D : Type 0} {state : D → DiskState} {until : Until} where
       let here = whole_lines (open_line [] bytes) cut.front in
       let line = open_line (open_line [] bytes) cut.front in
       let up_to = lines_up_to bytes cut.front in
-      let rest = lines_behind until s (before ++ here) line front cut.behind
+      let rest = lines_after until s (before ++ here) line front cut.behind
       (search_on until c.session here so_far.ran.session so_far.clean ∙ cut.none)
       (up_to ∙ sym (append_assoc before here (line ∷ []))) in
       let tried = cut_then so_far.ran cut.cut in
@@ -338,11 +338,11 @@ module _ {D : Type 0} {state : D → DiskState} {until : Until} where
         behind = cut.behind;
         bytes_are = is_first;
         lines_are = up_to;
-        few_behind = few_behind part cut.front cut.behind cut.part_is few;
+        few_after = few_after part cut.front cut.behind cut.part_is few;
       }))
 
   -- The lines of a part were run, and what was gathered for them is cut.
-  pub stops_behind_part : {m k : ℕ} {bytes part tail more g : List ℕ} {b c d : BookView D}
+  pub stops_after_part : {m k : ℕ} {bytes part tail more g : List ℕ} {b c d : BookView D}
       {r0 r2 w0 w1 w2 w3 : Option (List ℕ)} (r1 : Option (List ℕ))
       → Consumes r0 r1 bytes
       → Consumes r1 r2 part
@@ -351,7 +351,7 @@ module _ {D : Type 0} {state : D → DiskState} {until : Until} where
       → PartRan state until m k (open_line [] bytes) part c d more [] g w1 w2
       → WritesPart w2 w3 g
       → Halts state until fault.Output b d r0 r2 w0 w3
-  stops_behind_part {bytes} {part} {d} {r0} {r2} r1 read next within so_far here cut =
+  stops_after_part {bytes} {part} {d} {r0} {r2} r1 read next within so_far here cut =
       let all = bytes ++ part in
       let lines = whole_lines [] all in
       let last = open_line [] all in
@@ -412,7 +412,7 @@ module _ {D : Type 0} {state : D → DiskState} {until : Until} where
               behind = strays.behind;
               bytes_are = is_first;
               lines_are = sym both.1;
-              few_behind = few_behind part strays.front strays.behind strays.part_is few;
+              few_after = few_after part strays.front strays.behind strays.part_is few;
             });
         ended = λ e. absurd (grind (arith, e));
         within = within;

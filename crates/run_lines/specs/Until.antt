@@ -28,7 +28,7 @@ pub record StandsFirst (lines : List (List ℕ)) (bytes : List ℕ) (few : ℕ) 
   pub behind : List ℕ
   pub bytes_are : bytes ≡ front ++ 10 ∷ behind
   pub lines_are : lines_of front ≡ lines
-  pub few_behind : length behind < few
+  pub few_after : length behind < few
 
 -- What was read for these lines: the whole input; or, if a run ends after one that strays, they may
 -- stand first in it, and no more than one read was made for them.

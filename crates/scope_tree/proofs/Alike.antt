@@ -18,7 +18,7 @@ use Rattle.run_model.specs.declared.scopes.Scope.{Scope}
 use Rattle.model_laws.specs.Endings.{EndingsStay}
 use Rattle.model_laws.specs.Searches.{joined}
 use Rattle.model_laws.proofs.Relates.{IsKept, RowsRelate, first_hits_relate}
-use Rattle.model_laws.proofs.Stays.{earlier_comes_before, later_comes_behind}
+use Rattle.model_laws.proofs.Stays.{earlier_comes_before, later_comes_after}
 use Rattle.scope_tree.specs.Checks.{AreEarlierOrAlike}
 use Rattle.tree_index.specs.Marks.{Struck}
 use Rattle.scope_tree.specs.Sound.{ArePastHits, IsPastHit}
@@ -36,7 +36,7 @@ record ComesBefore (h hit : Hit) : Type 0 where
 earlier_event : (h hit : Hit) → h.event < hit.event → ComesBefore h hit
 earlier_event h hit less = record {
   before = λ s t. earlier_comes_before (s, h) (t, hit) less;
-  behind = λ s t. later_comes_behind (t, hit) (s, h) less;
+  behind = λ s t. later_comes_after (t, hit) (s, h) less;
 }
 
 -- Of one event, the moments decide.

@@ -35,10 +35,10 @@ each_from P [] all n x found = absurd (none-some x found)
 each_from P (row ∷ rows) all zero x found = subst P (same_Some row x found) all.0
 each_from P (row ∷ rows) all (suc n) x found = each_from P rows all.1 n x found
 
-behind_first : {X : Type 0} (rows : List X) (n : ℕ)
+after_first : {X : Type 0} (rows : List X) (n : ℕ)
     → slice_get (drop 1 rows) n ≡ slice_get rows (suc n)
-behind_first [] n = refl
-behind_first (row ∷ rows) n = refl
+after_first [] n = refl
+after_first (row ∷ rows) n = refl
 
 -- ---- from the rows to the fields of an image
 
@@ -141,7 +141,7 @@ module _
     head = head_ranged;
     scopes =
         all_from (λ row. IsTrue (is_kept_scope row)) (drop 1 p.tree.scopes)
-        (λ s row found. scope_ranged s row (sym (behind_first p.tree.scopes s) ∙ found));
+        (λ s row found. scope_ranged s row (sym (after_first p.tree.scopes s) ∙ found));
     groups = all_from (λ row. IsTrue (is_kept_group row)) p.work.groups group_ranged;
     tasks = all_from (λ row. IsTrue (is_kept_task Two row)) p.work.tasks task_ranged;
   }
@@ -177,7 +177,7 @@ scopes_typed rows rooted kept zero row found =
 scopes_typed rows rooted kept (suc s) row found =
     kept_typed row
     (each_from (λ row. IsTrue (is_kept_scope row)) (drop 1 rows) kept s row
-    (behind_first rows s ∙ found))
+    (after_first rows s ∙ found))
 
 group_typed : (row : Group) → IsTrue (is_kept_group row) → IsTypedGroup row
 group_typed row ok =

@@ -25,7 +25,7 @@ use Rattle.scope_tree.specs.TreeRules.{AreTreeRows}
 use Rattle.scope_tree.proofs.Followers.{more_are, rules_at_first, more_again, AreAllKept}
 use Rattle.scope_tree.proofs.Sounding.{AreSound, tree_of}
 use Rattle.row_view.proofs.Checked.{cond_some_by}
-use Rattle.row_view.proofs.ImageLengths.{behind_first}
+use Rattle.row_view.proofs.ImageLengths.{after_first}
 
 -- ---- writing
 
@@ -33,12 +33,12 @@ pub not_first : (b : Bool) (s : ℕ) → (b ≡ true → suc s ≡ 0) → b ≡ 
 not_first true s first = absurd (let h = first refl in omega (arith, h))
 not_first false s first = refl
 
-writable_behind : (clock : ℕ) (rows : List Scope) → AreRooted rows → ArePastHits clock rows
+writable_after : (clock : ℕ) (rows : List Scope) → AreRooted rows → ArePastHits clock rows
     → AreWritable (drop 1 rows)
-writable_behind clock rows rooted hits s row found = record {
+writable_after clock rows rooted hits s row found = record {
   below_root = not_first (is_root row.kind) s (rooted.alone (suc s) row
-      (behind_first rows s row found));
-  can = λ hit has. (hits (suc s) row hit (behind_first rows s row found) has).can;
+      (after_first rows s row found));
+  can = λ hit has. (hits (suc s) row hit (after_first rows s row found) has).can;
 }
 
 -- The rows after root that are lent can be written.
@@ -47,7 +47,7 @@ pub lent_writable : (clock : ℕ) (rows lent : List Scope) → AreRooted rows �
 lent_writable clock rows lent rooted hits same =
     subst AreWritable
     (sym (take_all (length lent - 1) (drop 1 lent) (omega (arith, length-drop 1 lent))))
-    (subst (λ r. AreWritable (drop 1 r)) (sym same) (writable_behind clock rows rooted hits))
+    (subst (λ r. AreWritable (drop 1 r)) (sym same) (writable_after clock rows rooted hits))
 
 -- ---- reading
 

@@ -117,12 +117,12 @@ pub image_takes : (version : ImageVersion) (layout : Layout) (bytes : List ℕ) 
     → image_at layout bytes ≡ Some (version, p) → IsImage version layout bytes p
 unfolding image_at
 image_takes version layout bytes p e =
-    let behind_tree = λ (head : ImageHead) (tree : TreeState × List ℕ).
+    let after_tree = λ (head : ImageHead) (tree : TreeState × List ℕ).
     work_at layout head tree.1 >>= joined head tree.0 in
-    let behind_head = λ (head : ImageHead × List ℕ).
-    tree_at layout head.0 head.1 >>= behind_tree head.0 in
-    let head = through (head_at layout bytes) behind_head (version, p) e in
-    let tree = through (tree_at layout head.0.0 head.0.1) (behind_tree head.0.0) (version, p)
+    let after_head = λ (head : ImageHead × List ℕ).
+    tree_at layout head.0 head.1 >>= after_tree head.0 in
+    let head = through (head_at layout bytes) after_head (version, p) e in
+    let tree = through (tree_at layout head.0.0 head.0.1) (after_tree head.0.0) (version, p)
     head.2 in
     let work = through (work_at layout head.0.0 tree.0.1) (joined head.0.0 tree.0.0) (version, p)
     tree.2 in

@@ -38,7 +38,7 @@ pub fn put_rows(rows: &[Scope], out: &mut [u8], at: usize) -> usize
 
 /// Reads the rows of a tree of this layout after root's, and returns its clock and the bytes after
 /// its rows; `None` if the bytes begin with the rows of no such tree.
-pub fn read_behind_root<'a, A: Allocator>(
+pub fn read_after_root<'a, A: Allocator>(
     layout: Layout,
     rows: &mut Rows<A>,
     head: &ImageHead,

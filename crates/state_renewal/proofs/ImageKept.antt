@@ -32,10 +32,10 @@ all_from P [] each = tt
 all_from P (row ∷ rows) each = (each zero row refl, all_from P rows (λ n. each (suc n)))
 
 -- After the first row, numbers are one less.
-behind_get : {X : Type 0} (rows : List X) (n : ℕ)
+after_get : {X : Type 0} (rows : List X) (n : ℕ)
     → slice_get (drop 1 rows) n ≡ slice_get rows (suc n)
-behind_get [] n = refl
-behind_get (row ∷ rows) n = refl
+after_get [] n = refl
+after_get (row ∷ rows) n = refl
 
 -- ---- fields
 
@@ -118,11 +118,11 @@ scope_ranged p all m row found =
         same
         ∙ scope_in_range p old
         (all_at (λ r. IsTrue (is_kept_scope r)) (drop 1 p.tree.scopes) all s old
-        (behind_get p.tree.scopes s ∙ at))
+        (after_get p.tree.scopes s ∙ at))
 
-few_behind : (p : State) (layout : Layout) → HasLayout p layout → AreNumbered p
+few_after : (p : State) (layout : Layout) → HasLayout p layout → AreNumbered p
     → IsTrue (nat_lt (length (drop 1 p.tree.scopes)) (most_scopes layout))
-few_behind p layout has numbered =
+few_after p layout has numbered =
     let few : length p.tree.scopes ≤ most_scopes layout =
     subst (λ l. length p.tree.scopes ≤ most_scopes l) has.tree numbered.few_scopes in
     let some = slice_get_within p.tree.scopes 0 _ numbered.rooted in
@@ -148,7 +148,7 @@ head_in_range p version layout is has consistent =
     let new_tasks = nat_lt (length (renewed p).work.tasks) (most_tasks layout + 1) in
     from_five (is_moment p.tree.clock)
     (nat_lt p.count (2 ^ 63)) new_scopes new_groups new_tasks parts.0
-    parts.1 (few_behind (renewed p) layout now rules.numbered)
+    parts.1 (few_after (renewed p) layout now rules.numbered)
     (lt-ltb (length (renewed p).work.groups) (MOST_GROUPS + 1) (omega (arith, few_groups)))
     (lt-ltb (length (renewed p).work.tasks) (most_tasks layout + 1) (omega (arith, few_tasks)))
 
@@ -163,7 +163,7 @@ has_image version layout bytes p is = record {
         all_from (λ row. IsTrue (is_kept_scope row)) (drop 1 (renewed p).tree.scopes)
         (λ m row found.
         scope_ranged p is.ranged.scopes m row
-        (sym (behind_get (renewed p).tree.scopes m) ∙ found));
+        (sym (after_get (renewed p).tree.scopes m) ∙ found));
     groups =
         all_from (λ row. IsTrue (is_kept_group row)) (renewed p).work.groups
         (λ m row found.

@@ -100,10 +100,10 @@ count_left flags tell rows each =
     ∙ sym (length-map (kept (is_flagged flags) rows) tell)
 
 -- After the first row, which is kept, the rest is left.
-pub left_behind : {X : Type 0} (flags : List Bool) (tell : X → X) (rows : List X)
+pub left_after : {X : Type 0} (flags : List Bool) (tell : X → X) (rows : List X)
     → is_flagged flags 0 ≡ true
     → rows_left (drop 1 flags) tell (drop 1 rows) ≡ drop 1 (rows_left flags tell rows)
-left_behind [] tell rows is = absurd (true≢false (sym is))
-left_behind (true ∷ flags) tell [] is = refl
-left_behind (true ∷ flags) tell (row ∷ rows) is = refl
-left_behind (false ∷ flags) tell rows is = absurd (true≢false (sym is))
+left_after [] tell rows is = absurd (true≢false (sym is))
+left_after (true ∷ flags) tell [] is = refl
+left_after (true ∷ flags) tell (row ∷ rows) is = refl
+left_after (false ∷ flags) tell rows is = absurd (true≢false (sym is))

@@ -109,11 +109,11 @@ more_swapped false true n = refl
 more_swapped false false n = refl
 
 -- A row after the first has the number that it has without the first, or one more.
-pub number_behind : (keeps : ℕ → Bool) (n : ℕ)
+pub number_after : (keeps : ℕ → Bool) (n : ℕ)
     → new_number keeps (suc n) ≡ one_more_if (keeps zero) (new_number (λ k. keeps (suc k)) n)
-number_behind keeps zero = refl
-number_behind keeps (suc n) =
-    ap (one_more_if (keeps (suc n))) (number_behind keeps n)
+number_after keeps zero = refl
+number_after keeps (suc n) =
+    ap (one_more_if (keeps (suc n))) (number_after keeps n)
     ∙ more_swapped (keeps (suc n)) (keeps zero) (new_number (λ k. keeps (suc k)) n)
 
 front_get : {X : Type 0} (b : Bool) (r : X) (rows : List X) (n : ℕ)
@@ -127,7 +127,7 @@ kept_get goes [] n is = refl
 kept_get goes (r ∷ rows) zero is =
     ap (λ b. slice_get (in_front_if b r (kept (λ n. goes (suc n)) rows)) zero) is
 kept_get goes (r ∷ rows) (suc n) is =
-    ap (slice_get (kept goes (r ∷ rows))) (number_behind goes n)
+    ap (slice_get (kept goes (r ∷ rows))) (number_after goes n)
     ∙ front_get (goes zero) r (kept (λ n. goes (suc n)) rows)
     (new_number (λ n. goes (suc n)) n)
     ∙ kept_get (λ n. goes (suc n)) rows n is
@@ -140,14 +140,14 @@ record ComesFrom
   is_kept : keeps number ≡ true
   told : m ≡ new_number keeps number
 
-comes_behind : {X : Type 0} (keeps : ℕ → Bool) (r : X) (rows : List X) (m : ℕ) (row : X)
+comes_after : {X : Type 0} (keeps : ℕ → Bool) (r : X) (rows : List X) (m : ℕ) (row : X)
     → ComesFrom (λ k. keeps (suc k)) rows m row
     → ComesFrom keeps (r ∷ rows) (one_more_if (keeps zero) m) row
-comes_behind keeps r rows m row from = record {
+comes_after keeps r rows m row from = record {
   number = suc from.number;
   found = from.found;
   is_kept = from.is_kept;
-  told = ap (one_more_if (keeps zero)) from.told ∙ sym (number_behind keeps from.number);
+  told = ap (one_more_if (keeps zero)) from.told ∙ sym (number_after keeps from.number);
 }
 
 kept_back : {X : Type 0} (keeps : ℕ → Bool) (rows : List X) (m : ℕ) (row : X)
@@ -165,10 +165,10 @@ kept_back keeps (r ∷ rows) m row found =
         record { number = zero; found = at; is_kept = is; told = refl }
     by_first true is (suc k) at behind =
         subst (λ b. ComesFrom keeps (r ∷ rows) (one_more_if b k) row) is
-        (comes_behind keeps r rows k row (behind k at))
+        (comes_after keeps r rows k row (behind k at))
     by_first false is k at behind =
         subst (λ b. ComesFrom keeps (r ∷ rows) (one_more_if b k) row) is
-        (comes_behind keeps r rows k row (behind k at))
+        (comes_after keeps r rows k row (behind k at))
 
 length_in_front : {X : Type 0} (b : Bool) (row : X) (rows : List X)
     → length (in_front_if b row rows) ≡ one_more_if b (length rows)
@@ -182,7 +182,7 @@ length-kept keeps [] = refl
 length-kept keeps (r ∷ rows) =
     length_in_front (keeps zero) r (kept (λ k. keeps (suc k)) rows)
     ∙ ap (one_more_if (keeps zero)) (length-kept (λ k. keeps (suc k)) rows)
-    ∙ sym (number_behind keeps (length rows))
+    ∙ sym (number_after keeps (length rows))
 
 -- ---- told anew
 

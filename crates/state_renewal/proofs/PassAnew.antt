@@ -9,7 +9,7 @@ use Rattle.std.proofs.lemmas.List.Elements.{filter-append}
 use Rattle.std.proofs.lemmas.List.Folds.{find-append}
 use Rattle.state_renewal.specs.Renewed.{in_front_if, kept, new_number, one_more_if, rows_anew}
 use Rattle.model_laws.proofs.Admission.{count_cons}
-use Rattle.state_renewal.proofs.Numbers.{number_behind}
+use Rattle.state_renewal.proofs.Numbers.{number_after}
 use Rattle.state_renewal.proofs.RowsAnew.{length-anew}
 
 -- ---- numbers that pass
@@ -167,10 +167,10 @@ pub record RowsPass
       → new_test (tell x) ≡ test x
   pub gone : (n : ℕ) (x : X) → slice_get rows n ≡ Some x → goes n ≡ false → test x ≡ false
 
-pass_behind : {X : Type 0} (goes : ℕ → Bool) (tell : X → X) (test new_test : X → Bool) (r : X)
+pass_after : {X : Type 0} (goes : ℕ → Bool) (tell : X → X) (test new_test : X → Bool) (r : X)
     (rows : List X) → RowsPass goes tell test new_test (r ∷ rows)
     → RowsPass (λ n. goes (suc n)) tell test new_test rows
-pass_behind goes tell test new_test r rows pass =
+pass_after goes tell test new_test r rows pass =
     record { on = λ n. pass.on (suc n); gone = λ n. pass.gone (suc n) }
 
 take_none : {X : Type 0} (n : ℕ) → take {A = X} n [] ≡ []
@@ -187,10 +187,10 @@ count_anew goes tell test new_test [] n pass =
     ∙ ap (count_by test) (sym (take_none n))
 count_anew goes tell test new_test (r ∷ rows) zero pass = refl
 count_anew {X = X} goes tell test new_test (r ∷ rows) (suc n) pass =
-    ap (λ k. count_by new_test (take k (rows_anew goes tell (r ∷ rows)))) (number_behind goes n)
+    ap (λ k. count_by new_test (take k (rows_anew goes tell (r ∷ rows)))) (number_after goes n)
     ∙ by_first (goes zero) refl
     (count_anew (λ k. goes (suc k)) tell test new_test rows n
-    (pass_behind goes tell test new_test r rows pass))
+    (pass_after goes tell test new_test r rows pass))
   where
     rest : List X
     rest = kept (λ k. goes (suc k)) rows
@@ -235,7 +235,7 @@ any_anew goes tell test new_test [] pass = refl
 any_anew {X = X} goes tell test new_test (r ∷ rows) pass =
     by_first (goes zero) refl
     (any_anew (λ k. goes (suc k)) tell test new_test rows
-    (pass_behind goes tell test new_test r rows pass))
+    (pass_after goes tell test new_test r rows pass))
   where
     rest : List X
     rest = kept (λ k. goes (suc k)) rows

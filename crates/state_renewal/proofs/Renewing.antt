@@ -24,7 +24,7 @@ use Rattle.state_renewal.specs.Marks.{rows_left, scope_by, task_by, task_stays_a
 use Rattle.state_renewal.specs.Renewed.{fits_in, keeps_scope, new_number, renewed, renewed_in}
 use Rattle.state_renewal.proofs.Keeps.{root_kept}
 use Rattle.state_renewal.proofs.Layouts.{rules_there}
-use Rattle.state_renewal.proofs.Marked.{count_left, groups_left, left_behind, marks_are}
+use Rattle.state_renewal.proofs.Marked.{count_left, groups_left, left_after, marks_are}
 use Rattle.state_renewal.proofs.Marked.{scopes_left, tasks_left}
 use Rattle.state_renewal.proofs.RulesKept.{rules_kept}
 use Rattle.run_state.proofs.Imaging.{ranged}
@@ -43,17 +43,17 @@ below p rules s row found =
     not_first (is_root row.kind) s
     (rules.numbered.one_root (suc s) row (behind p.tree.scopes s row found))
 
-pub behind_writable : (p : State) → IsConsistent p → AreWritable (drop 1 p.tree.scopes)
-behind_writable p rules s row found = record {
+pub after_writable : (p : State) → IsConsistent p → AreWritable (drop 1 p.tree.scopes)
+after_writable p rules s row found = record {
   below_root = below p rules s row found;
   can = λ hit has.
       rules.hits.kinds (suc s) row (behind p.tree.scopes s row found)
       (subst (λ o. IsSome o) (sym has) refl);
 }
 
-pub behind_known : (p : State) (many : ℕ) → IsConsistent p → many ≡ length p.tree.scopes → (s : ℕ)
+pub after_known : (p : State) (many : ℕ) → IsConsistent p → many ≡ length p.tree.scopes → (s : ℕ)
     (row : Scope) → slice_get (drop 1 p.tree.scopes) s ≡ Some row → row.parent < many
-behind_known p many rules same s row found =
+after_known p many rules same s row found =
     let at = behind p.tree.scopes s row found in
     let lower = rules.numbered.ordered (suc s) row at (below p rules s row found) in
     let within = slice_get_within p.tree.scopes (suc s) row at in
@@ -98,9 +98,9 @@ renewed_image layout p rules fits clock few scopes groups tasks =
 -- ---- the rows that are put
 
 -- A list that is lent from its second row on.
-pub behind_lent : {X : Type 0} (rows lent : List X) → lent ≡ rows
+pub after_lent : {X : Type 0} (rows lent : List X) → lent ≡ rows
     → take (length lent - 1) (drop 1 lent) ≡ drop 1 rows
-behind_lent rows lent same =
+after_lent rows lent same =
     take_all (length lent - 1) (drop 1 lent) (omega (arith, length-drop 1 lent))
     ∙ ap (drop 1) same
 
@@ -141,7 +141,7 @@ module _ (p : State) (scopes groups tasks : List Bool) (are : AreMarks p scopes 
     scopes_lent flags rows rules same same_rows =
         ap (λ f. rows_left f (scope_by scopes) rows) same
         ∙ ap (rows_left (drop 1 scopes) (scope_by scopes)) same_rows
-        ∙ left_behind scopes (scope_by scopes) p.tree.scopes
+        ∙ left_after scopes (scope_by scopes) p.tree.scopes
         (are.kept_scopes 0 ∙ root_kept p rules.numbered.rooted)
         ∙ ap (λ r. drop 1 r) (scopes_left p scopes groups tasks are)
 

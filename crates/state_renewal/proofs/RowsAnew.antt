@@ -4,7 +4,7 @@ use Rattle.run_model.proofs.Common.{length, map, Some, slice_get, refl, sym, ap,
 use Rattle.run_model.proofs.Common.{Option, None, option_map, option_map_or, length-map}
 use Rattle.run_model.proofs.Common.{slice_get-map, at_row}
 use Rattle.state_renewal.specs.Renewed.{in_front_if, kept, new_number, one_more_if, rows_anew}
-use Rattle.state_renewal.proofs.Numbers.{length-kept, number_behind, kept_get}
+use Rattle.state_renewal.proofs.Numbers.{length-kept, number_after, kept_get}
 use Rattle.std.proofs.lemmas.List.{map_push}
 
 -- ---- a row at the end
@@ -46,7 +46,7 @@ kept_at goes change (suc n) (r ∷ rows) is =
     ap (in_front_if (goes zero) r) (kept_at (λ n. goes (suc n)) change n rows is)
     ∙ front_at change (goes zero) r (new_number (λ n. goes (suc n)) n)
     (kept (λ n. goes (suc n)) rows)
-    ∙ ap (λ k. at_row change k (kept goes (r ∷ rows))) (sym (number_behind goes n))
+    ∙ ap (λ k. at_row change k (kept goes (r ∷ rows))) (sym (number_after goes n))
 
 map_at : {X : Type 0} (tell change : X → X) (n : ℕ) (rows : List X)
     → ((x : X) → tell (change x) ≡ change (tell x))

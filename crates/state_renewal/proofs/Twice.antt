@@ -17,7 +17,7 @@ use Rattle.state_renewal.specs.Renewed.{new_number, one_more_if, renewed, scope_
 use Rattle.state_renewal.specs.Renewed.{scope_told, task_told, Part, group_anew, rows_anew}
 use Rattle.state_renewal.specs.Renewed.{scope_anew, state_anew, task_anew}
 use Rattle.state_renewal.proofs.Keeps.{live_kept, all_at}
-use Rattle.state_renewal.proofs.Numbers.{number_behind, same_number}
+use Rattle.state_renewal.proofs.Numbers.{number_after, same_number}
 use Rattle.state_renewal.proofs.Hangs.{AreBoth}
 use Rattle.state_renewal.proofs.Stays.{kept_both}
 use Rattle.state_renewal.proofs.Chains.{AllGo, both_lines, done_anew, told_at}
@@ -49,14 +49,14 @@ number_twice goes keeps again within (suc n) =
     by_last false is before =
         before ∙ ap (λ b. one_more_if b (new_number keeps n)) (sym (within.off n is))
 
-within_behind : (goes keeps again : ℕ → Bool) (b : Bool) → goes zero ≡ b
+within_after : (goes keeps again : ℕ → Bool) (b : Bool) → goes zero ≡ b
     → IsWithin goes keeps again
     → IsWithin (λ n. goes (suc n)) (λ n. keeps (suc n)) (λ n. again (one_more_if b n))
-within_behind goes keeps again b is within = record {
+within_after goes keeps again b is within = record {
   on =
       λ n goes_n.
       ap (λ c. again (one_more_if c (new_number (λ k. goes (suc k)) n))) (sym is)
-      ∙ ap again (sym (number_behind goes n))
+      ∙ ap again (sym (number_after goes n))
       ∙ within.on (suc n) goes_n;
   off = λ n. within.off (suc n);
 }
@@ -67,7 +67,7 @@ kept_twice goes keeps again [] within = refl
 kept_twice {X = X} goes keeps again (r ∷ rows) within =
     by_first (goes zero) refl
     (λ b is. kept_twice (λ n. goes (suc n)) (λ n. keeps (suc n)) (λ n. again (one_more_if b n))
-    rows (within_behind goes keeps again b is within))
+    rows (within_after goes keeps again b is within))
   where
     rest : List X
     rest = kept (λ n. goes (suc n)) rows

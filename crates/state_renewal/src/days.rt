@@ -19,7 +19,7 @@ ghost use Rattle.state_renewal.specs.Told.{event_anew, names_part};
 
 /// A day's events name what goes on, by the new numbers. They lead the renewed store to what goes
 /// on of the old one; what is made on that day has the next numbers.
-pub fn a_day_behind_a_renewal()
+pub fn a_day_after_a_renewal()
     ensures names { all_name_part (going_on retried) day ≡ true }
     ensures events { map (event_anew (going_on retried)) day ≡ day_anew }
     ensures renewed { run (renewed retried) day_anew ≡ Some day_left }

@@ -3,19 +3,19 @@ use Rattle.std.specs.Prelude.{◌≡◌, ℕ, List, [], ◌++◌, Option}
 use Rattle.std.specs.Io.KnownBytes.{Appends}
 use Rattle.std.proofs.Common.{sym, ap, ◌∙◌, subst, append_assoc, append-nil}
 use Rattle.console_lines.specs.Progress.{WritesPart}
-use Rattle.console_lines.proofs.Written.{appends_nothing, appends_then, front_behind, front_more}
+use Rattle.console_lines.proofs.Written.{appends_nothing, appends_then, front_after, front_more}
 use Rattle.state_views.specs.Told.{Told}
 
 -- ---- a part
 
 -- Of some text that goes on what was written, a front was written, and not all.
-pub part_behind :
+pub part_after :
     (x g : List ℕ) (w0 w1 w2 : Option (List ℕ))
     → Appends w0 w1 x
     → WritesPart w1 w2 g
     → WritesPart w0 w2 (x ++ g)
-part_behind x g w0 w1 w2 h k =
-    (x ++ k.0, front_behind k.0 x g k.1, appends_then w0 w1 w2 x k.0 h k.2)
+part_after x g w0 w1 w2 h k =
+    (x ++ k.0, front_after k.0 x g k.1, appends_then w0 w1 w2 x k.0 h k.2)
 
 -- A front of the first of two texts is one of both.
 pub part_more : (x y : List ℕ) (w0 w1 : Option (List ℕ))
@@ -56,7 +56,7 @@ pub told_cut : (text g h : List ℕ) (w0 w1 w2 : Option (List ℕ))
     → WritesPart w0 w2 (g ++ text)
 told_cut text g h w0 w1 w2 told cut =
     let P : List ℕ → Type 0 = λ t. WritesPart w0 w2 t in
-    subst P (sym told.told) (part_behind told.out h w0 w1 w2 told.written cut)
+    subst P (sym told.told) (part_after told.out h w0 w1 w2 told.written cut)
 
 -- All was written, the text too.
 pub told_whole : (text g h : List ℕ) (w0 w1 w2 : Option (List ℕ))
@@ -96,4 +96,4 @@ told_part x y h w0 w1 w2 told cut =
     let same : told.out ++ (h ++ y) ≡ x ++ y =
     sym (append_assoc told.out h y) ∙ ap (λ t. t ++ y) (sym told.told) in
     subst (λ t. WritesPart w0 w2 t) same
-    (part_behind told.out (h ++ y) w0 w1 w2 told.written cut)
+    (part_after told.out (h ++ y) w0 w1 w2 told.written cut)

@@ -7,7 +7,7 @@ use arrayvec::ArrayString;
 use std::fmt::Write;
 use std::{fmt, io};
 
-/// Behind this the system's text says its number of the error, which is left out.
+/// After this the system's text says its number of the error, which is left out.
 const NUMBER: &str = " (os error ";
 
 /// Why a file isn't had, or why a call of it failed. It is printed as a text without an LF.
@@ -71,7 +71,7 @@ fn say(error: &io::Error, said: &mut ArrayString<96>) {
     append(said, without_number(whole.as_str()));
 }
 
-/// A text of the system's without the number of the error behind it.
+/// A text of the system's without the number of the error after it.
 fn without_number(whole: &str) -> &str {
     match whole.split_once(NUMBER) {
         Some((text, _)) => text,

@@ -240,7 +240,7 @@ fn assert_firsts(rt: &impl Abort, alloc: Global, disk: &MemoryDisk, calls: u64, 
             _ => *byte,
         };
         let found = bytes.get(*place as usize);
-        holds(rt, found == Some(&wanted), "behind call", calls as usize);
+        holds(rt, found == Some(&wanted), "after call", calls as usize);
         before = before.saturating_add(4);
     }
 }
@@ -333,7 +333,7 @@ static FUSED: [Call; 5] = [
 ];
 
 /// What is left by two calls.
-static BEHIND_FUSE: [Call; 1] = [Call::Read(0, &[1, 0, 0, 0])];
+static AFTER_FUSE: [Call; 1] = [Call::Read(0, &[1, 0, 0, 0])];
 
 /// The disk below a fuse that two calls pass, after these.
 fn below_fuse(rt: &impl Abort, alloc: Global, calls: &[Call]) -> MemoryDisk {
@@ -343,16 +343,16 @@ fn below_fuse(rt: &impl Abort, alloc: Global, calls: &[Call]) -> MemoryDisk {
 }
 
 /// Asserts that so many calls came to a disk, and what these give then.
-fn assert_behind(rt: &impl Abort, disk: MemoryDisk, counted: u64, calls: &[Call]) {
+fn assert_after(rt: &impl Abort, disk: MemoryDisk, counted: u64, calls: &[Call]) {
     let mut disk = disk;
     holds(rt, disk.calls() == counted, "calls", counted as usize);
-    play(rt, &mut disk, "behind", calls);
+    play(rt, &mut disk, "after", calls);
 }
 
 #[test]
 fn a_fuse_fails_for_good(rt: HostRuntime) {
     let disk = below_fuse(&rt, rt.alloc(), &FUSED);
-    assert_behind(&rt, disk, 2, &BEHIND_FUSE);
+    assert_after(&rt, disk, 2, &AFTER_FUSE);
 }
 
 /// Fails the second call alone.
@@ -363,7 +363,7 @@ static FAILED_ONCE: [Call; 3] = [
 ];
 
 /// What is left by three calls.
-static BEHIND_FAILURE: [Call; 1] = [Call::Read(0, &[1, 0, 3, 0])];
+static AFTER_FAILURE: [Call; 1] = [Call::Read(0, &[1, 0, 3, 0])];
 
 /// The disk below one whose call of this number fails, after these.
 fn below_fail_once(rt: &impl Abort, alloc: Global, failing: u64, calls: &[Call]) -> MemoryDisk {
@@ -375,7 +375,7 @@ fn below_fail_once(rt: &impl Abort, alloc: Global, failing: u64, calls: &[Call])
 #[test]
 fn one_call_fails_once(rt: HostRuntime) {
     let disk = below_fail_once(&rt, rt.alloc(), 2, &FAILED_ONCE);
-    assert_behind(&rt, disk, 3, &BEHIND_FAILURE);
+    assert_after(&rt, disk, 3, &AFTER_FAILURE);
 }
 
 /// A write of a byte, and then twice one of no byte: the second time where the disk fails.

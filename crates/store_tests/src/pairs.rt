@@ -154,7 +154,7 @@ fn fill<D: RunDisk>(
 ) -> Result<(), Fault> {
     holds(rt, journal.room() == count as u64, "room", count);
     let told = flush(rt, journal, &filled(rt, alloc, 0xA7, count));
-    holds(rt, journal.room() == 0, "room behind", count);
+    holds(rt, journal.room() == 0, "room after", count);
     told
 }
 
@@ -184,7 +184,7 @@ pub fn adopted<D: RunDisk>(rt: &impl Abort, alloc: Global, mut disk: D) -> Journ
 pub type Calls = &'static [(Call, Result<(), Fault>)];
 
 /// The disk of a store after these calls.
-pub fn behind<D: RunDisk>(rt: &impl Abort, alloc: Global, disk: D, calls: Calls) -> D {
+pub fn after_calls<D: RunDisk>(rt: &impl Abort, alloc: Global, disk: D, calls: Calls) -> D {
     let mut journal = adopted(rt, alloc, disk);
     call_all(rt, alloc, &mut journal, calls);
     journal.into_disk()
@@ -230,6 +230,6 @@ pub const FLUSH_TWICE: Calls = &[
 ];
 
 /// The disk of a small store, formatted over zeros, after these calls.
-pub fn small_behind(rt: &impl Abort, alloc: Global, calls: Calls) -> MemoryDisk {
-    behind(rt, alloc, formatted(rt, alloc, Layout::Small, 0), calls)
+pub fn small_after(rt: &impl Abort, alloc: Global, calls: Calls) -> MemoryDisk {
+    after_calls(rt, alloc, formatted(rt, alloc, Layout::Small, 0), calls)
 }

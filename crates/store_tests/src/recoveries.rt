@@ -4,7 +4,7 @@ use crate::asserts::{done, holds};
 use crate::bytes::{Puts, blank, damaged, disk_of, filled};
 use crate::pairs::{
     AS_FORMATTED, FLUSH, FORMATTED, ONE_BATCH, Pair, fault_of, formatted, is_pair, recovered,
-    small_behind,
+    small_after,
 };
 use linked_list_allocator::LocalHeap;
 use run_disk::{FailOnce, MemoryDisk};
@@ -56,7 +56,7 @@ static DAMAGE: [Damage; 10] = [
         3,
     ),
     (
-        "an open gate behind it",
+        "an open gate after it",
         &[(1_310_751, &[0xA7, 0, 0, 0])],
         Err(BadBatch),
         3,
@@ -75,7 +75,7 @@ static DAMAGE: [Damage; 10] = [
         3,
     ),
     (
-        "another gate behind the batch",
+        "another gate after the batch",
         &[(1_310_751, &[0xFF])],
         Ok(&ONE_BATCH),
         3,
@@ -104,7 +104,7 @@ fn assert_told(rt: &impl Abort, alloc: Global, disk: &MemoryDisk, damage: &Damag
 
 #[test]
 fn damage_is_told(rt: HostRuntime) {
-    let disk = small_behind(&rt, rt.alloc(), FLUSH);
+    let disk = small_after(&rt, rt.alloc(), FLUSH);
     for damage in DAMAGE.iter() {
         assert_told(&rt, rt.alloc(), &disk, damage);
     }
@@ -171,7 +171,7 @@ fn fault_with(rt: &impl Abort, alloc: Global, bytes: Vec<u8>, call: u64) -> Opti
 
 #[test]
 fn a_failed_read_comes_before_what_a_later_read_would_tell(rt: HostRuntime) {
-    let disk = small_behind(&rt, rt.alloc(), FLUSH);
+    let disk = small_after(&rt, rt.alloc(), FLUSH);
     for call in 1..4u64 {
         for (puts, later) in LATER.iter() {
             let bytes = damaged(&rt, rt.alloc(), &disk, puts);
@@ -219,6 +219,6 @@ fn is_other_open(rt: &impl Abort, alloc: Global, mut disk: MemoryDisk) -> bool {
 fn the_other_slots_gate_is_told(rt: HostRuntime) {
     let disk = formatted(&rt, rt.alloc(), Layout::Small, 0);
     holds(&rt, !is_other_open(&rt, rt.alloc(), disk), "other gate", 0);
-    let disk = small_behind(&rt, rt.alloc(), FLUSH);
+    let disk = small_after(&rt, rt.alloc(), FLUSH);
     holds(&rt, is_other_open(&rt, rt.alloc(), disk), "other gate", 1);
 }

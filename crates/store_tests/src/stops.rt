@@ -4,8 +4,8 @@ use crate::asserts::holds;
 use crate::bytes::{disk_of, left};
 use crate::pairs::{
     AS_FORMATTED, AS_OPENED, BOTH_BATCHES, CHECKPOINTED, Call, Calls, FIRST, FLUSH_TWICE,
-    FORMATTED, ONE_BATCH, OPEN, OPENED, Pair, behind, formatted, holds_pair, recovered,
-    small_behind,
+    FORMATTED, ONE_BATCH, OPEN, OPENED, Pair, after_calls, formatted, holds_pair, recovered,
+    small_after,
 };
 use run_disk::{MemoryDisk, Torn};
 use run_journal::Stored;
@@ -57,7 +57,7 @@ fn assert_left(
     pair: &Pair,
 ) {
     let right = holds_pair(rt, alloc, left(rt, alloc, disk, calls, torn), pair);
-    holds(rt, right, "behind call", calls as usize);
+    holds(rt, right, "after call", calls as usize);
 }
 
 /// A stop after each call from this one on, torn in each way, leaves the pair from before, or once
@@ -83,7 +83,7 @@ fn walk(
 #[test]
 fn a_stop_leaves_the_old_pair_or_the_new(rt: HostRuntime) {
     for (calls, last, from, before, after) in STOPS.iter() {
-        let disk = small_behind(&rt, rt.alloc(), calls);
+        let disk = small_after(&rt, rt.alloc(), calls);
         holds(&rt, disk.calls() == *last, "calls", *last as usize);
         walk(&rt, rt.alloc(), &disk, *from, before, after);
     }
@@ -94,12 +94,12 @@ static AGAIN: [(u64, Torn); 2] = [(14, Torn::Front(9)), (16, Torn::Take)];
 
 #[test]
 fn a_checkpoint_that_was_stopped_can_be_made_again(rt: HostRuntime) {
-    let first = small_behind(&rt, rt.alloc(), OPEN);
+    let first = small_after(&rt, rt.alloc(), OPEN);
     holds(&rt, first.calls() == 18, "calls", 18);
     for (calls, torn) in AGAIN.iter() {
         let bytes = left(&rt, rt.alloc(), &first, *calls, *torn);
-        let again = behind(&rt, rt.alloc(), disk_of(&rt, rt.alloc(), bytes), OPEN);
-        holds(&rt, again.calls() == 10, "calls behind", *calls as usize);
+        let again = after_calls(&rt, rt.alloc(), disk_of(&rt, rt.alloc(), bytes), OPEN);
+        holds(&rt, again.calls() == 10, "calls after", *calls as usize);
         walk(&rt, rt.alloc(), &again, 3, &AS_FORMATTED, &AS_OPENED);
     }
 }
@@ -129,7 +129,7 @@ fn a_stop_of_a_format_leaves_no_pair_that_was_not_asked_for(rt: HostRuntime) {
             let bytes = left(&rt, rt.alloc(), &disk, calls, *torn);
             let mut found = disk_of(&rt, rt.alloc(), bytes);
             let right = leaves_no_other(rt.alloc(), &mut found, calls);
-            holds(&rt, right, "behind call", calls as usize);
+            holds(&rt, right, "after call", calls as usize);
         }
     }
 }

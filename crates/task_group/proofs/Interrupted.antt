@@ -31,10 +31,10 @@ pub stayed_row : (row : Task) → is_running row.stage ≡ false → interrupted
 stayed_row row e = stayed_by (is_running row.stage) _ row e
 
 -- After a restart the unfinished tasks are those that were not started.
-pub unfinished_behind : (g : ℕ) (row : Task)
+pub unfinished_after : (g : ℕ) (row : Task)
     → ((interrupted_row row).group == g && is_unfinished (interrupted_row row).stage)
     ≡ (row.group == g && is_fresh row.stage)
-unfinished_behind g row = by row.stage refl
+unfinished_after g row = by row.stage refl
   where
     still : (s : Stage) → row.stage ≡ s → is_running s ≡ false → is_unfinished s ≡ is_fresh s
         → ((interrupted_row row).group == g && is_unfinished (interrupted_row row).stage)

@@ -30,7 +30,7 @@ use Rattle.console_lines.specs.Asked.{asked_of}
 use Rattle.console_lines.specs.Script.{after_asked, after_line, after_lines}
 use Rattle.console_lines.proofs.Steps.{after_lines-append}
 use Rattle.timed_lines.specs.Forward.{AreForward}
-use Rattle.timed_lines.specs.Timed.{advance_line, advance_to, latest_asked, latest_behind}
+use Rattle.timed_lines.specs.Timed.{advance_line, advance_to, latest_asked, latest_after}
 use Rattle.timed_lines.proofs.Told.{asks_so}
 
 abbrev clock_of : Session → ℕ
@@ -165,7 +165,7 @@ asked_within s asked.Tally latest h = h
 
 pub line_within : (s : Session) (line : List ℕ) (latest : ℕ)
     → s.state.tree.clock ≤ latest
-    → (after_line s line).state.tree.clock ≤ latest_behind latest line
+    → (after_line s line).state.tree.clock ≤ latest_after latest line
 unfolding after_line
 line_within s line latest h = asked_within s (asked_of line) latest h
 
@@ -193,9 +193,9 @@ are_forward s latest (moment ∷ moments) (line ∷ lines) h fit =
     let t = after_lines s (advance_to latest moment) in
     let put = put_within s (nat_lt latest moment) latest moment h (fit 0 0 (omega arith)) in (
       λ is. grind (arith, nat_tests, is, h),
-      subst (λ u. AreForward u (latest_behind l line) moments lines)
+      subst (λ u. AreForward u (latest_after l line) moments lines)
           (sym (after_lines-append s (advance_to latest moment) (line ∷ [])))
-          (are_forward (after_line t line) (latest_behind l line) moments lines
+          (are_forward (after_line t line) (latest_after l line) moments lines
           (line_within t line l put)
           (λ k d fits. fit (suc k) d (omega (arith, fits)))),
     )

@@ -11,7 +11,7 @@ use Rattle.console_lines.specs.declared.lines.TheConstants.{LONGEST_LINE}
 use Rattle.console_lines.specs.Progress.{kept}
 use Rattle.console_lines.proofs.Digits.{moment_digits}
 use Rattle.console_lines.proofs.Splits.{kept_full}
-use Rattle.timed_lines.specs.Timed.{latest_behind, timed}
+use Rattle.timed_lines.specs.Timed.{latest_after, timed}
 use Rattle.timed_lines.specs.Weaving.{advance_text, left_of, moved, woven}
 use Rattle.timed_lines.proofs.Woven.{timed_is}
 
@@ -43,8 +43,8 @@ pub takes_more : (known : Option (List ℕ)) (ready more line next : List ℕ) (
 takes_more None ready more line next latest b bytes other e n = tt
 takes_more (Some told) ready more line next latest b bytes other e n =
     let on = woven latest told (kept (line ++ b ∷ [])) bytes in
-    let lf = 10 ∷ (advance_text (latest_behind latest line) told
-    ++ woven (moved (latest_behind latest line) told) (drop 1 told) [] bytes) in
+    let lf = 10 ∷ (advance_text (latest_after latest line) told
+    ++ woven (moved (latest_after latest line) told) (drop 1 told) [] bytes) in
     ap (λ t. t ++ woven latest told next bytes) e
     ∙ ap (λ l. (ready ++ b ∷ []) ++ woven latest told l bytes) n
     ∙ append_assoc ready (b ∷ []) on

@@ -10,14 +10,14 @@ use Rattle.console_lines.specs.Lines.{whole_lines, open_line, lines_of}
 use Rattle.console_lines.specs.Progress.{kept}
 use Rattle.console_lines.proofs.Cuts.{asked_of_kept}
 use Rattle.timed_lines.specs.Timed.{advance_line, advance_to, further, input_of, latest_asked}
-use Rattle.timed_lines.specs.Timed.{latest_behind, timed, timed_lines}
+use Rattle.timed_lines.specs.Timed.{latest_after, timed, timed_lines}
 use Rattle.timed_lines.specs.Weaving.{advance_text, left_of, moved, woven}
 
 -- The timed lines after the advance that stands before the first.
 abbrev first_timed : ℕ → List ℕ → List (List ℕ) → List (List ℕ)
 first_timed latest moments [] = []
 first_timed latest moments (line ∷ lines) =
-    line ∷ timed_lines (latest_behind latest line) moments lines
+    line ∷ timed_lines (latest_after latest line) moments lines
 
 -- ---- lines of which one is the last
 
@@ -111,20 +111,20 @@ line_ends : (latest : ℕ) (moments begun line bytes : List ℕ)
     → begun ≡ kept line
     → ((l : ℕ) (told : List ℕ)
     → input_of (first_timed l told (lines_of bytes)) ≡ woven l told [] bytes)
-    → line ++ further (timed_lines (latest_behind latest line) moments (lines_of bytes))
-    ≡ line ++ 10 ∷ (advance_text (latest_behind latest begun) moments
-    ++ woven (moved (latest_behind latest begun) moments) (drop 1 moments) [] bytes)
+    → line ++ further (timed_lines (latest_after latest line) moments (lines_of bytes))
+    ≡ line ++ 10 ∷ (advance_text (latest_after latest begun) moments
+    ++ woven (moved (latest_after latest begun) moments) (drop 1 moments) [] bytes)
 line_ends latest moments begun line bytes e h =
-    let same : latest_behind latest line ≡ latest_behind latest begun =
-    ap (latest_asked latest) (sym (asked_of_kept line)) ∙ ap (latest_behind latest) (sym e) in
+    let same : latest_after latest line ≡ latest_after latest begun =
+    ap (latest_asked latest) (sym (asked_of_kept line)) ∙ ap (latest_after latest) (sym e) in
     ap (λ l. line ++ further (timed_lines l moments (lines_of bytes))) same
-    ∙ ap (λ t. line ++ t) (behind (latest_behind latest begun) moments bytes h)
+    ∙ ap (λ t. line ++ t) (behind (latest_after latest begun) moments bytes h)
 
 -- A byte ends the line that was begun, or makes it longer.
 by_byte : (ends : Bool) (latest : ℕ) (moments begun line bytes : List ℕ) (b : ℕ)
-    → line ++ further (timed_lines (latest_behind latest line) moments (lines_of bytes))
-    ≡ line ++ 10 ∷ (advance_text (latest_behind latest begun) moments
-    ++ woven (moved (latest_behind latest begun) moments) (drop 1 moments) [] bytes)
+    → line ++ further (timed_lines (latest_after latest line) moments (lines_of bytes))
+    ≡ line ++ 10 ∷ (advance_text (latest_after latest begun) moments
+    ++ woven (moved (latest_after latest begun) moments) (drop 1 moments) [] bytes)
     → input_of (first_timed latest moments
     (whole_lines (line ++ b ∷ []) bytes ++ open_line (line ++ b ∷ []) bytes ∷ []))
     ≡ (line ++ b ∷ []) ++ woven latest moments (kept (begun ++ b ∷ [])) bytes
@@ -132,8 +132,8 @@ by_byte : (ends : Bool) (latest : ℕ) (moments begun line bytes : List ℕ) (b 
     ((if ends then line ∷ whole_lines [] bytes else whole_lines (line ++ b ∷ []) bytes)
     ++ (if ends then open_line [] bytes else open_line (line ++ b ∷ []) bytes) ∷ []))
     ≡ line ++ (if ends then
-    10 ∷ advance_text (latest_behind latest begun) moments
-    ++ woven (moved (latest_behind latest begun) moments) (drop 1 moments) [] bytes
+    10 ∷ advance_text (latest_after latest begun) moments
+    ++ woven (moved (latest_after latest begun) moments) (drop 1 moments) [] bytes
     else b ∷ woven latest moments (kept (begun ++ b ∷ [])) bytes)
 by_byte true latest moments begun line bytes b ended longer = ended
 by_byte false latest moments begun line bytes b ended longer =
@@ -146,7 +146,7 @@ woven_from : (latest : ℕ) (moments begun line bytes : List ℕ)
     → input_of (first_timed latest moments (whole_lines line bytes ++ open_line line bytes ∷ []))
     ≡ line ++ woven latest moments begun bytes
 woven_from latest moments begun line [] e =
-    ap (λ t. line ++ further t) (no_lines (latest_behind latest line) moments)
+    ap (λ t. line ++ further t) (no_lines (latest_after latest line) moments)
 woven_from latest moments begun line (b ∷ bytes) e =
     by_byte (b == 10) latest moments begun line bytes b
     (line_ends latest moments begun line bytes e

@@ -3,7 +3,7 @@
 use Rattle.std.specs.Prelude.{◌≡◌, ◌<◌, ℕ, nat_lt, max, true, List, [], ◌∷◌, ◌++◌, ⊤}
 use Rattle.run_model.specs.Session.{Session}
 use Rattle.console_lines.specs.Script.{after_lines}
-use Rattle.timed_lines.specs.Timed.{advance_to, latest_behind}
+use Rattle.timed_lines.specs.Timed.{advance_to, latest_after}
 
 -- When timed lines are run from this session on, each advance that is put before one of these lines
 -- is to a moment later than the clock is then.
@@ -13,4 +13,4 @@ AreForward s latest (moment ∷ moments) [] = ⊤
 AreForward s latest (moment ∷ moments) (line ∷ lines) =
     (nat_lt latest moment ≡ true → s.state.tree.clock < moment)
     × AreForward (after_lines s (advance_to latest moment ++ line ∷ []))
-    (latest_behind (max latest moment) line) moments lines
+    (latest_after (max latest moment) line) moments lines

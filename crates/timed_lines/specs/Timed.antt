@@ -23,8 +23,8 @@ latest_asked latest (asked.Step (step.Command (command.Advance moment))) = max l
 latest_asked latest _ = latest
 
 -- The latest moment after a line.
-abbrev pub latest_behind : ℕ → List ℕ → ℕ
-latest_behind latest line = latest_asked latest (asked_of line)
+abbrev pub latest_after : ℕ → List ℕ → ℕ
+latest_after latest line = latest_asked latest (asked_of line)
 
 -- Each of these lines comes at the next of these moments. An advance to the moment stands before
 -- the line if the moment is later than the latest so far. A line for which no moment is left comes
@@ -34,7 +34,7 @@ timed_lines latest [] lines = lines
 timed_lines latest (moment ∷ moments) [] = []
 timed_lines latest (moment ∷ moments) (line ∷ lines) =
     advance_to latest moment
-    ++ line ∷ timed_lines (latest_behind (max latest moment) line) moments lines
+    ++ line ∷ timed_lines (latest_after (max latest moment) line) moments lines
 
 -- Each of these lines after an LF.
 abbrev pub further : List (List ℕ) → List ℕ

@@ -6,7 +6,7 @@ use Rattle.std.specs.Option.{option_map, option_and_then}
 use Rattle.console_lines.specs.Progress.{kept}
 use Rattle.timed_lines.specs.declared.inputs.TimedInput.{TimedInput}
 use Rattle.timed_lines.specs.declared.weaves.Weave.{Weave}
-use Rattle.timed_lines.specs.Timed.{advance_line, latest_behind}
+use Rattle.timed_lines.specs.Timed.{advance_line, latest_after}
 
 -- The advance before a line that comes at the next of these moments.
 abbrev pub advance_text : ℕ → (moments : List ℕ) → List ℕ
@@ -24,8 +24,8 @@ abbrev pub woven : ℕ → (moments begun bytes : List ℕ) → List ℕ
 woven latest moments begun [] = []
 woven latest moments begun (b ∷ bytes) =
     if b == 10 then
-    10 ∷ advance_text (latest_behind latest begun) moments
-    ++ woven (moved (latest_behind latest begun) moments) (drop 1 moments) [] bytes
+    10 ∷ advance_text (latest_after latest begun) moments
+    ++ woven (moved (latest_after latest begun) moments) (drop 1 moments) [] bytes
     else b ∷ woven latest moments (kept (begun ++ b ∷ [])) bytes
 
 -- The same, when it is known whether that moment was asked for.

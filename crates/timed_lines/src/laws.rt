@@ -9,7 +9,7 @@ ghost use Rattle.run_model.specs.declared.bounds.TheConstants.{GREATEST_MOMENT};
 ghost use Rattle.console_lines.specs.Asked.{asked_of};
 ghost use Rattle.console_lines.specs.Script.{after_line};
 ghost use Rattle.timed_lines.specs.Forward.{AreForward};
-ghost use Rattle.timed_lines.specs.Timed.{advance_line, latest_behind};
+ghost use Rattle.timed_lines.specs.Timed.{advance_line, latest_after};
 
 use console_lines::Asked;
 use run_model::{Command, Step};
@@ -23,7 +23,7 @@ pub fn an_advance_line_asks_for_an_advance()
 /// No line moves a clock past the latest moment after it, whatever the session is.
 pub fn no_line_moves_a_clock_past_the_latest_moment()
     ensures { (s : Session) (line : List ℕ) (latest : ℕ) → s.state.tree.clock ≤ latest
-        → (after_line s line).state.tree.clock ≤ latest_behind latest line }
+        → (after_line s line).state.tree.clock ≤ latest_after latest line }
 {}
 
 /// So each advance that is put before a line is to a moment later than the clock of the state that

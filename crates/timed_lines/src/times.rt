@@ -20,8 +20,8 @@ impl MachineTime for &[Moment] {
     ghost moments = { λ times. Some times.now };
 
     fn now(&mut self) -> Option<Moment> {
-        let (first, behind) = self.split_first()?;
-        *self = behind;
+        let (first, rest) = self.split_first()?;
+        *self = rest;
         Some(*first)
     }
 }

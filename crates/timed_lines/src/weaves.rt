@@ -4,7 +4,7 @@ ghost use Rattle.std.specs.Io.KnownBytes.{Consumes, Keeps};
 ghost use Rattle.std.specs.Prelude.{◌≡◌, ◌+◌, ◌∷◌, ◌++◌, ◌≤◌, ◌<◌, [], List, false, length};
 ghost use Rattle.std.specs.Prelude.{min, take, true, ℕ};
 ghost use Rattle.arrayvec.specs.ArrayVec.{array_vec_len};
-ghost use Rattle.timed_lines.specs.Timed.{advance_line, latest_asked, latest_behind};
+ghost use Rattle.timed_lines.specs.Timed.{advance_line, latest_asked, latest_after};
 ghost use Rattle.timed_lines.specs.Weaving.{left_in};
 
 use crate::times::MachineTime;
@@ -118,7 +118,7 @@ impl<C: MachineTime> Weave<C> {
     /// Ends the line that was begun.
     fn end_line(&mut self)
         ensures clock { self.new.clock ≡ self.old.clock }
-        ensures latest { self.new.latest ≡ latest_behind self.old.latest self.old.line.items }
+        ensures latest { self.new.latest ≡ latest_after self.old.latest self.old.line.items }
         ensures line { self.new.line.items ≡ [] }
         ensures unasked { self.new.is_asked ≡ false }
         ensures ready { self.new.ready ≡ self.old.ready }

@@ -16,7 +16,7 @@ use Rattle.run_model.specs.declared.scopes.Hit.{Hit}
 use Rattle.run_model.specs.declared.scopes.Scope.{Scope}
 use Rattle.model_laws.specs.Endings.{AreEarlier}
 use Rattle.model_laws.proofs.Follows.{tick_follows}
-use Rattle.model_laws.proofs.Stays.{earlier_comes_before, later_comes_behind}
+use Rattle.model_laws.proofs.Stays.{earlier_comes_before, later_comes_after}
 use Rattle.tree_index.specs.Deadlines.{deadline_at, due_at, key, Among, TakesFirst, AreWaiting}
 use Rattle.tree_index.specs.Marks.{AreKept, Struck}
 use Rattle.tree_index.proofs.Latest.{IsLatest, latest_stays}
@@ -78,7 +78,7 @@ latest_of rows due event n hit few before among is within of free t h own =
     elim (before t h own) [
       | inl less ↦ (
         earlier_comes_before (t, h) (n, hit) (omega (arith, less, of)),
-        later_comes_behind (n, hit) (t, h) (omega (arith, less, of)),
+        later_comes_after (n, hit) (t, h) (omega (arith, less, of)),
       )
       | inr same ↦ (let small : t < length rows = own_hit_within rows t h own in
           lex_before (t, h) (n, hit) (same.0 ∙ sym of)

@@ -59,9 +59,9 @@ module _ (rows : List Scope) (n : ℕ) (hit : Hit) (ordered : AreOrdered rows)
   ordered' : AreOrdered after
   ordered' = ordered_hit hit n rows ordered
 
-  behind_first : (s : ℕ) (b : ℕ × Hit) → first_hit rows s ≡ Some b
+  after_first : (s : ℕ) (b : ℕ × Hit) → first_hit rows s ≡ Some b
       → comes_before (n, hit) b ≡ false
-  behind_first s b found = (latest b.0 b.1 (first_hit_least rows s b found).own).1
+  after_first s b found = (latest b.0 b.1 (first_hit_least rows s b found).own).1
 
   module _ (s : ℕ) (row : Scope) (found : slice_get rows s ≡ Some row)
       (parents : is_root row.kind ≡ false
@@ -76,14 +76,14 @@ module _ (rows : List Scope) (n : ℕ) (hit : Hit) (ordered : AreOrdered rows)
         by_root true up = inl refl
         by_root false up = up refl
 
-    above_behind : (b : ℕ × Hit) → above (first_hit rows) None row ≡ Some b
+    above_after : (b : ℕ × Hit) → above (first_hit rows) None row ≡ Some b
         → comes_before (n, hit) b ≡ false
-    above_behind b is = by_root (is_root row.kind) is
+    above_after b is = by_root (is_root row.kind) is
       where
         by_root : (r : Bool) → cond r None (first_hit rows row.parent) ≡ Some b
             → comes_before (n, hit) b ≡ false
         by_root true at = absurd (none-some b at)
-        by_root false at = behind_first row.parent b at
+        by_root false at = after_first row.parent b at
 
     under_detached : (own own' : Option Hit)
         → Says n hit (joined (above (first_hit rows) None row) s own)
@@ -120,7 +120,7 @@ module _ (rows : List Scope) (n : ℕ) (hit : Hit) (ordered : AreOrdered rows)
         (joined (above (first_hit after) None row) s (option_or o (Some hit)))) (sym none)
         (subst (λ k. Says n hit (above (first_hit rows) None row)
         (joined (above (first_hit after) None row) k (Some hit))) (sym same)
-        (own_comes n hit _ _ above_behind above_says)))
+        (own_comes n hit _ _ above_after above_says)))
         (is_detached row.kind)))
 
   row_says : (s : ℕ) (row : Scope) → slice_get rows s ≡ Some row

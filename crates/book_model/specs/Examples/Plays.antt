@@ -58,16 +58,16 @@ all_played =
     ∷ []
 
 -- So many steps, each refused as Broken.
-abbrev pub none_behind : ℕ → List Reply
-none_behind n = replicate n (refused Broken)
+abbrev pub none_after : ℕ → List Reply
+none_after n = replicate n (refused Broken)
 
 -- Their replies when the device fails in the first flush.
 abbrev pub stopped_at_the_flush : List Reply
-stopped_at_the_flush = three_replies ++ faulty DiskFailed ∷ none_behind 8
+stopped_at_the_flush = three_replies ++ faulty DiskFailed ∷ none_after 8
 
 -- Their replies when the book is broken.
 abbrev pub refused_all : List Reply
-refused_all = none_behind 12
+refused_all = none_after 12
 
 -- The session after the first three steps, and after all.
 abbrev pub after_three : Session

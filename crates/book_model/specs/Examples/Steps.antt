@@ -50,25 +50,25 @@ new_book = record {
 }
 
 -- The book after three commands.
-abbrev pub behind_three : BookView Counts
-behind_three = record new_book { session = record after_three { history = first_events } }
+abbrev pub book_after_three : BookView Counts
+book_after_three = record new_book { session = record after_three { history = first_events } }
 
 -- The same after a flush of them, by six calls.
 abbrev pub flushed : BookView Counts
-flushed = record behind_three {
+flushed = record book_after_three {
   durable = 4;
   journal = record new_book.journal { disk = record { calls = 16; failures = 0 }; tail = 31 };
 }
 
 -- The same after a flush whose first call failed.
 abbrev pub failed : BookView Counts
-failed = record behind_three {
+failed = record book_after_three {
   journal = record new_book.journal { disk = record { calls = 11; failures = 1 }; broken = true };
 }
 
 -- The same after two batches, of one record and of two: twelve calls, and five bytes more.
 abbrev pub flushed_twice : BookView Counts
-flushed_twice = record behind_three {
+flushed_twice = record book_after_three {
   durable = 4;
   journal = record new_book.journal { disk = record { calls = 22; failures = 0 }; tail = 36 };
 }
@@ -76,7 +76,7 @@ flushed_twice = record behind_three {
 -- The book after three commands, when no generation is left, and after a flush of them.
 abbrev pub last_book : BookView Counts
 last_book =
-    record behind_three { journal = record new_book.journal { generation = 2 ^ 63 - 1 } }
+    record book_after_three { journal = record new_book.journal { generation = 2 ^ 63 - 1 } }
 
 abbrev pub last_flushed : BookView Counts
 last_flushed = record flushed { journal = record flushed.journal { generation = 2 ^ 63 - 1 } }

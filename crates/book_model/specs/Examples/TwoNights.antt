@@ -41,5 +41,5 @@ five =
     ∷ derive "c" "root" Cancel ∷ derive "d" "root" Cancel ∷ []
 
 -- The state after the first so many of them.
-abbrev pub behind_first : ℕ → State
-behind_first n = (session_after new_store (take n five)).state
+abbrev pub after_first : ℕ → State
+after_first n = (session_after new_store (take n five)).state

@@ -6,7 +6,7 @@ ghost use Rattle.run_model.specs.State.{State};
 ghost use Rattle.book_model.specs.Machines.{GoesOn, Stored};
 ghost use Rattle.book_model.specs.ManyNights.{moves_of};
 ghost use Rattle.book_model.specs.Stores.{restarted};
-ghost use Rattle.book_model.specs.Examples.TwoNights.{behind_first, first_night, second_night};
+ghost use Rattle.book_model.specs.Examples.TwoNights.{after_first, first_night, second_night};
 ghost use Rattle.book_model.specs.Examples.TwoNights.{store};
 
 /// Three events were acknowledged before the first crash, a fourth was accepted, and a fifth was
@@ -14,7 +14,7 @@ ghost use Rattle.book_model.specs.Examples.TwoNights.{store};
 /// was acknowledged is lost, nothing else is there, and in no other order.
 pub fn a_stop_leaves_one_of_three_states()
     ensures { (q : State) → GoesOn (Stored store) (moves_of first_night) (Stored q)
-        → (q ≡ behind_first 3) ⊎ (q ≡ behind_first 4) ⊎ (q ≡ behind_first 5) }
+        → (q ≡ after_first 3) ⊎ (q ≡ after_first 4) ⊎ (q ≡ after_first 5) }
 {}
 
 /// The first night may leave the first four, though no reply acknowledged the fourth; the second
@@ -22,5 +22,5 @@ pub fn a_stop_leaves_one_of_three_states()
 #[tactic(auto, using(crate::proofs::ExampleNights::both_nights))]
 pub fn two_nights_lead_to_a_restart_of_four()
     ensures { GoesOn (Stored store) (flat_map moves_of (first_night ∷ second_night ∷ []))
-        (Stored (restarted (behind_first 4))) }
+        (Stored (restarted (after_first 4))) }
 {}

@@ -19,7 +19,7 @@ ghost use Rattle.book_model.specs.Plays.{taken};
 ghost use Rattle.book_model.specs.Steps.{AnswersStep, Steps};
 ghost use Rattle.book_model.specs.Stores.{StoresNone};
 ghost use Rattle.book_model.specs.Examples.Plays.{first_events};
-ghost use Rattle.book_model.specs.Examples.Steps.{Counts, behind_three, failed, failing_call};
+ghost use Rattle.book_model.specs.Examples.Steps.{Counts, book_after_three, failed, failing_call};
 ghost use Rattle.book_model.specs.Examples.Steps.{failing_replies, first_call, first_command};
 ghost use Rattle.book_model.specs.Examples.Steps.{first_replies, flushed, flushed_twice, last_book};
 ghost use Rattle.book_model.specs.Examples.Steps.{last_flushed, new_book, second_call};
@@ -32,8 +32,8 @@ pub fn a_flush_is_done()
     ensures answered { Steps state_of new_book first_call first_replies flushed }
     ensures again { AnswersStep state_of flushed flush (acked 4) flushed }
     ensures counted { (new : BookView Counts)
-        → AnswersStep state_of behind_three flush (acked 3) new → ⊥ }
-    ensures batched { AnswersStep state_of behind_three flush (acked 4) flushed_twice → ⊥ }
+        → AnswersStep state_of book_after_three flush (acked 3) new → ⊥ }
+    ensures batched { AnswersStep state_of book_after_three flush (acked 4) flushed_twice → ⊥ }
 {}
 
 /// The first of the three is answered by scope 1, and by no other; and then the book has its event.
@@ -62,11 +62,11 @@ pub fn a_front_lacks_no_acknowledged_event()
 /// The first call of a flush fails: the flush returns this fault, the book is broken, and each step
 /// after it is refused and leaves the book as it is. The flush doesn't return it without a call.
 pub fn a_flush_fails()
-    ensures flush { AnswersStep state_of behind_three flush (faulty DiskFailed) failed }
-    ensures behind { AnswersStep state_of failed start (refused Broken) failed }
+    ensures flush { AnswersStep state_of book_after_three flush (faulty DiskFailed) failed }
+    ensures after { AnswersStep state_of failed start (refused Broken) failed }
     ensures save { AnswersStep state_of failed checkpoint (refused Broken) failed }
     ensures answered { Steps state_of new_book failing_call failing_replies failed }
-    ensures caused { AnswersStep state_of behind_three flush (faulty DiskFailed) behind_three → ⊥ }
+    ensures caused { AnswersStep state_of book_after_three flush (faulty DiskFailed) book_after_three → ⊥ }
 {}
 
 /// A crash between two calls, or within the second: three events were acknowledged by the first

@@ -36,7 +36,7 @@ pub fn damaged_stores_mean_nothing()
 {}
 
 /// A retry stands after an image of version 2, and after none of version 1.
-pub fn a_retry_stands_behind_version_2()
+pub fn a_retry_stands_after_version_2()
     ensures two { MeansIn Two Small (interrupted_image Two) (retry_record ∷ [])
         (step one_interrupted.state (Retry 0)) }
     ensures one { MeansNone Small (interrupted_image One) (retry_record ∷ []) BadEvent }

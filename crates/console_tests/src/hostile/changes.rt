@@ -35,7 +35,7 @@ static CHANGES: [Change; 19] = [
         Some(Fault::BadImage),
     ),
     (
-        "a length of 24, with 0 behind",
+        "a length of 24, with 0 after",
         &[(524_300, b"\x18")],
         Err(Fault::BadImage),
         Some(Fault::BadImage),

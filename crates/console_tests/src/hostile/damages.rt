@@ -70,7 +70,7 @@ static ROWS: [Row; 5] = [
 type Stored = (u64, usize, Option<Phase>);
 
 /// What is stored after so many events of the night.
-fn stored_behind(events: u64) -> Stored {
+fn stored_after(events: u64) -> Stored {
     match events {
         0 | 1 => (events, 1, None),
         4 => (4, 3, None),
@@ -81,9 +81,9 @@ fn stored_behind(events: u64) -> Stored {
 }
 
 /// Says whether what is stored is the state after so many events of the night.
-fn is_behind(found: &Result<Stored, Fault>, events: u64) -> bool {
+fn is_after(found: &Result<Stored, Fault>, events: u64) -> bool {
     match found {
-        Ok(stored) => *stored == stored_behind(events),
+        Ok(stored) => *stored == stored_after(events),
         Err(_) => false,
     }
 }
@@ -104,8 +104,8 @@ fn night<D: RunDisk + Drop>(alloc: Global, disk: D, printed: &mut Vec<u8>) -> (E
     match open(alloc, disk) {
         Ok(mut book) => {
             let run = ran(alloc, &mut &TYPED[..], printed, &mut book);
-            let behind = said(alloc, b"", &mut Vec::new(alloc), &mut book);
-            ((None, run, behind), book.into_disk())
+            let after = said(alloc, b"", &mut Vec::new(alloc), &mut book);
+            ((None, run, after), book.into_disk())
         }
         Err((fault, disk)) => ((Some(fault), Ok(()), Ok(())), disk),
     }
@@ -166,7 +166,7 @@ fn opened(alloc: Global, disk: MemoryDisk) -> Option<(u64, u64)> {
 fn assert_stored(rt: &impl Abort, alloc: Global, ended: &Left, row: &Row, call: u64, hurt: Hurt) {
     for torn in TEARS {
         let found = stored(rt, alloc, left(rt, alloc, &ended.2, torn));
-        let is_kept = is_behind(&found, row.3) || is_behind(&found, row.4);
+        let is_kept = is_after(&found, row.3) || is_after(&found, row.4);
         holds_torn(rt, is_kept, hurt.name(), call, torn);
     }
 }
@@ -224,8 +224,8 @@ fn a_call_that_damages_its_range_loses_nothing_acknowledged(rt: HostRuntime) {
     let whole = whole_night(&rt, rt.alloc());
     for row in ROWS.iter() {
         for call in row.0..row.1 {
-            let behind = call.saturating_add(7);
-            let before = image(&rt, rt.alloc(), &whole, behind, Torn::Take);
+            let after = call.saturating_add(7);
+            let before = image(&rt, rt.alloc(), &whole, after, Torn::Take);
             assert_hurt(&rt, rt.alloc(), row, call, &before);
         }
     }
@@ -247,7 +247,7 @@ fn assert_formats(rt: &impl Abort, alloc: Global, disk: MemoryDisk, call: u64) {
     let found = count_in(rt, alloc, left(rt, alloc, &disk, Torn::Keep));
     drop(disk);
     let is_new = fault.is_none() && found == Ok(0);
-    holds(rt, is_new, "formatted behind call", call as usize);
+    holds(rt, is_new, "formatted after call", call as usize);
 }
 
 /// Asserts what a format of zeros leaves one of whose calls damages and fails: what it may leave,

@@ -22,7 +22,7 @@ use test_fixtures::{Ask, Call, Said, are_same};
 static FRONT: [Call; 3] = [Group(b"g", b"root"), Bare(b"h", b"root"), Wait(b"h")];
 
 /// Steps after a full log.
-static BEHIND: [Call; 16] = [
+static AFTER: [Call; 16] = [
     Advance(95_320),
     Derive(b"a", b"root", Ask::Cause),
     Group(b"k", b"root"),
@@ -70,7 +70,7 @@ fn filling(rt: &impl Abort, alloc: Global) -> Vec<Step> {
     let mut steps = steps_of(rt, alloc, &FRONT);
     add_again(rt, &mut steps, Limit(b"g", Some(2)), 8);
     add_advances(rt, &mut steps, 0, 95_319);
-    add_calls(rt, &mut steps, &BEHIND);
+    add_calls(rt, &mut steps, &AFTER);
     steps
 }
 

@@ -90,11 +90,11 @@ fn likely_bytes(rt: &impl Abort, alloc: Global, dice: &mut Dice, len: usize) -> 
 fn headed(rt: &impl Abort, alloc: Global, dice: &mut Dice, head: &Head) -> Vec<u8> {
     let mut bytes = laid(rt, alloc, SMALL_LEN, OPENED_ONCE);
     put(rt, &mut bytes, head.1, head.2);
-    let behind = head.1.saturating_add(head.2.len());
+    let after = head.1.saturating_add(head.2.len());
     put(
         rt,
         &mut bytes,
-        behind,
+        after,
         &likely_bytes(rt, alloc, dice, head.3),
     );
     bytes
@@ -111,12 +111,12 @@ fn refusal(
 ) -> Option<Fault> {
     match tried(rt, alloc, bytes, steps) {
         Ok(fault) => fault,
-        Err(wrong) => panic!(rt; "{wrong}, behind {what}, store {n}"),
+        Err(wrong) => panic!(rt; "{wrong}, after {what}, store {n}"),
     }
 }
 
 #[test]
-fn random_bytes_behind_a_head_are_refused_or_a_store(rt: HostRuntime) {
+fn random_bytes_after_a_head_are_refused_or_a_store(rt: HostRuntime) {
     let steps = steps_of(&rt, rt.alloc(), &USES);
     let mut dice = Dice::new(7);
     for head in HEADS.iter() {

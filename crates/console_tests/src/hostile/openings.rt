@@ -59,7 +59,7 @@ fn assert_stops(
             let is_so = found == wanted(openings, calls, torn);
             assert!(rt;
                 is_so,
-                "behind call {calls}, {torn:?}, and before {before:?}"
+                "after call {calls}, {torn:?}, and before {before:?}"
             );
         }
     }

@@ -29,10 +29,10 @@ fn place(dice: &mut Dice, len: usize, live: &[usize]) -> usize {
     if dice.roll(8) == 0 {
         return dice.place(len);
     }
-    let behind = dice.place(4);
+    let after = dice.place(4);
     match live.get(dice.place(live.len())) {
-        Some(place) => place.saturating_add(behind),
-        None => behind,
+        Some(place) => place.saturating_add(after),
+        None => after,
     }
 }
 

@@ -99,7 +99,7 @@ fn kept(
     if is_kept {
         return again(rt, alloc, bytes, seen);
     }
-    Err("another state is recovered behind its use")
+    Err("another state is recovered after its use")
 }
 
 /// Says what is wrong with another opening of a store.
@@ -118,7 +118,7 @@ fn again(
     if is_again {
         return Ok(None);
     }
-    Err("another state is opened behind its use")
+    Err("another state is opened after its use")
 }
 
 /// Says whether a state can be the restart of another: one event more, no task that runs, and as

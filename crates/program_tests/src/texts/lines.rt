@@ -66,7 +66,7 @@ static WISHES: [Row; 6] = [
 ];
 
 #[test]
-fn a_wish_has_the_words_behind_its_kind(rt: HostRuntime) {
+fn a_wish_has_the_words_after_its_kind(rt: HostRuntime) {
     assert_read(&rt, &WISHES);
 }
 

@@ -91,7 +91,7 @@ static OFFSETS: [Row; 12] = [
 ];
 
 #[test]
-fn offsets_lie_behind_the_local_time(rt: HostRuntime) {
+fn offsets_lie_after_the_local_time(rt: HostRuntime) {
     assert_moments(&rt, &OFFSETS);
 }
 

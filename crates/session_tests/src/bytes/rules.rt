@@ -49,7 +49,7 @@ static NAMES_AND_PARENTS: [Pair; 8] = [
         &[b"\x01a\x00\x01\x01\x00"],
     ),
     (
-        "a parent behind it",
+        "a parent after it",
         (2, 0, 0),
         &[b"\x01a\x00\x00\x01\x00", B, LIVE],
         &[b"\x01a\x00\x02\x01\x00", B, LIVE],
@@ -291,7 +291,7 @@ static RUNNING_TASKS: [(&str, Counts, bool, Pieces); 10] = [
         &[ONE, FRESH, RUNNING],
     ),
     (
-        "running behind one that ended",
+        "running after one that ended",
         (0, 1, 2),
         true,
         &[ONE, SUCCESS, RUNNING],
@@ -391,7 +391,7 @@ static LINKS: [Pair; 10] = [
         &[TWO_GROUPS, INTERRUPTED, b"\x00\x00\x01j\x01a\x00\x00\x01"],
     ),
     (
-        "a retry of a task behind it",
+        "a retry of a task after it",
         (0, 2, 2),
         &[TWO_GROUPS, INTERRUPTED, RETRY],
         &[TWO_GROUPS, b"\x00\x00\x01j\x01a\x00\x00\x01", INTERRUPTED],

@@ -157,7 +157,7 @@ static DAMAGED: [(&str, Head, Pieces, bool); 11] = [
         &[],
         false,
     ),
-    ("00 behind it", OPENED, &[b"\x00"], false),
+    ("00 after it", OPENED, &[b"\x00"], false),
     (
         "event count 2^63",
         Head {

@@ -83,7 +83,7 @@ fn restored(
     holds(
         rt,
         rest.is_empty(),
-        "the rest behind tasks",
+        "the rest after tasks",
         head.tasks as usize,
     );
     groups
@@ -223,7 +223,7 @@ static BAD_TASKS: [Rows; 11] = [
         b"\x01g\x00\x00\x01\xff\x00\x00\x00\x00\x01j\x01a\x00\x00\x00",
     ),
     (
-        "a retry of a task behind it",
+        "a retry of a task after it",
         (1, 2),
         b"\x01g\x00\x00\x01\xff\x00\x00\
         \x00\x00\x01j\x01a\x00\x00\x01\x00\x00\x01j\x01a\x00\xff\xff",

@@ -60,7 +60,7 @@ fn call(rt: &impl Abort, groups: &mut Groups, plain: &mut Plain, call: Call) {
     holds(
         rt,
         alike,
-        "the answer to a call behind tasks",
+        "the answer to a call after tasks",
         plain.tasks.len(),
     );
 }
@@ -68,7 +68,7 @@ fn call(rt: &impl Abort, groups: &mut Groups, plain: &mut Plain, call: Call) {
 /// Interrupts the running tasks of both, which tell the same scopes.
 fn restart(rt: &impl Abort, alloc: Global, groups: &mut Groups, plain: &mut Plain) {
     let alike = groups.restart().as_slice() == plain.restart(rt, alloc).as_slice();
-    holds(rt, alike, "a restart behind tasks", plain.tasks.len());
+    holds(rt, alike, "a restart after tasks", plain.tasks.len());
 }
 
 /// Ends the last thirty tasks of both, if they are running.

@@ -162,7 +162,7 @@ static REFUSED: [Rows; 23] = [
     ("a scope too many", 1024, b"\x01a\x00\x00\x01\x00"),
     ("its own parent", 1, b"\x01a\x00\x01\x01\x00"),
     (
-        "a parent behind it",
+        "a parent after it",
         2,
         b"\x01a\x00\x02\x01\x00\x01b\x00\x00\x01\x00",
     ),

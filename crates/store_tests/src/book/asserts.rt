@@ -18,6 +18,6 @@ pub fn holds(rt: &impl Abort, it: bool, what: &str, row: u64) {
 }
 
 /// Asserts that something holds after so many calls, torn in this way.
-pub fn holds_behind(rt: &impl Abort, it: bool, calls: u64, torn: Torn) {
-    assert!(rt; it, "behind call {calls}, {torn:?}");
+pub fn holds_after(rt: &impl Abort, it: bool, calls: u64, torn: Torn) {
+    assert!(rt; it, "after call {calls}, {torn:?}");
 }

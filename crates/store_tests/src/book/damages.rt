@@ -127,11 +127,11 @@ static IN_SEGMENTS: [Damage; 8] = [
         Err(Fault::BadBatch),
     ),
     (
-        "an open gate behind it",
+        "an open gate after it",
         &[(1_310_751, b"\xa7")],
         Err(Fault::BadBatch),
     ),
-    ("another gate behind it", &[(1_310_751, b"\xff")], Ok(4)),
+    ("another gate after it", &[(1_310_751, b"\xff")], Ok(4)),
     (
         "a record's tag",
         &[(1_310_725, b"\x0c")],

@@ -7,7 +7,7 @@
 //! change nothing. What is left rests on `CarriesOn`: whatever failed, no acknowledged event is
 //! lost.
 
-use crate::book::asserts::{holds, holds_behind};
+use crate::book::asserts::{holds, holds_after};
 use crate::book::calls::{assert_replies, steps_of};
 use crate::book::disks::{
     Shown, TEARS, book_of, counted, counted_on, disk_of, formatted, played_on, room, shown_by,
@@ -135,7 +135,7 @@ fn assert_kept(rt: &impl Abort, alloc: Global, disk: &MemoryDisk, call: u64) {
     for torn in TEARS.iter() {
         let calls = before.saturating_add(8);
         let found = counted(rt, alloc, torn_image(rt, alloc, disk, calls, *torn));
-        holds_behind(rt, found == Ok(left(before, *torn)), before, *torn);
+        holds_after(rt, found == Ok(left(before, *torn)), before, *torn);
     }
 }
 
@@ -242,7 +242,7 @@ fn a_format_that_fails_hands_the_disk_back(rt: HostRuntime) {
     for calls in 0..9 {
         let fault = (calls < 8).then_some(Fault::DiskFailed);
         let found = unformatted(&rt, rt.alloc(), calls);
-        holds(&rt, found == (fault, calls), "behind call", calls);
+        holds(&rt, found == (fault, calls), "after call", calls);
     }
 }
 
@@ -267,15 +267,15 @@ fn a_recovery_that_fails_tells_so(rt: HostRuntime) {
 }
 
 /// After a second flush that failed event 4 is durable, and events 5 and 6 are lost.
-static BEHIND: [(Call, Said<'static>); 3] = [
+static AFTER: [(Call, Said<'static>); 3] = [
     (Flush, Said::Acked(5)),
     (Derive(b"c", b"root", Ask::Cause), Said::Scope(3)),
     (Flush, Said::Acked(6)),
 ];
 
 #[test]
-fn a_store_goes_on_behind_a_failure(rt: HostRuntime) {
+fn a_store_goes_on_after_a_failure(rt: HostRuntime) {
     let steps = steps_of(&rt, rt.alloc(), &[&NIGHT]);
     let back = play_over_failure(&rt, rt.alloc(), &steps, 19);
-    played_on(&rt, rt.alloc(), back.0, &[&BEHIND]);
+    played_on(&rt, rt.alloc(), back.0, &[&AFTER]);
 }

@@ -32,7 +32,7 @@ fn settled(rt: &impl Abort, alloc: Global, steps: &[Step], kill: u64) -> MemoryD
     let is_settled = settle(&mut disk).is_ok();
     // A format's eight calls, those of the night, and the sync.
     let is_one_call = disk.calls() == kill.saturating_add(9);
-    holds(rt, is_settled && is_one_call, "settled behind call", kill);
+    holds(rt, is_settled && is_one_call, "settled after call", kill);
     disk
 }
 
@@ -46,14 +46,14 @@ fn cut_image(rt: &impl Abort, alloc: Global, disk: &MemoryDisk, cut: Cut) -> Vec
 #[derive(Drop)]
 struct Stored {
     before: Listing,
-    behind: Listing,
+    after: Listing,
 }
 
 impl Stored {
     /// The one that a cut leaves: the opening's last call syncs the gate that the one before wrote.
-    fn behind(&self, cut: Cut) -> &Listing {
+    fn after(&self, cut: Cut) -> &Listing {
         if cut.1 == 10 || (cut.1 == 9 && opens(cut.2)) {
-            return &self.behind;
+            return &self.after;
         }
         &self.before
     }
@@ -63,18 +63,18 @@ impl Stored {
 /// it: nothing acknowledged is lost of either.
 fn both_of(rt: &impl Abort, alloc: Global, disk: &MemoryDisk, kill: u64) -> Stored {
     let before = recovered(rt, alloc, now(rt, alloc, disk));
-    let (_, behind) = opened_over(rt, alloc, now(rt, alloc, disk));
+    let (_, after) = opened_over(rt, alloc, now(rt, alloc, disk));
     // A gate that was written is read as it is, synced or not.
     let is_read = before.count == left(kill, Torn::Take);
     let is_kept = left(kill, Torn::Keep) <= before.count;
-    let is_next = behind.count == before.count.saturating_add(1);
-    holds(rt, is_read && is_kept && is_next, "killed behind", kill);
-    Stored { before, behind }
+    let is_next = after.count == before.count.saturating_add(1);
+    holds(rt, is_read && is_kept && is_next, "killed after", kill);
+    Stored { before, after }
 }
 
 fn assert_cut(rt: &impl Abort, alloc: Global, disk: &MemoryDisk, stored: &Stored, cut: Cut) {
     let found = recovered(rt, alloc, cut_image(rt, alloc, disk, cut));
-    assert!(rt; are_same(&found, stored.behind(cut)), "cut {cut:?}");
+    assert!(rt; are_same(&found, stored.after(cut)), "cut {cut:?}");
 }
 
 /// Asserts what each cut of the opening leaves, where the disk is settled before.
@@ -102,8 +102,8 @@ fn a_settled_disk_loses_nothing(rt: HostRuntime) {
 /// other slot. The cut loses the first write and keeps the second.
 fn loses_all(cut: Cut) -> bool {
     let (kill, calls, torn) = cut;
-    let is_behind_a_gate = kill == 9 || kill == 28;
-    is_behind_a_gate && calls == 4 && matches!(torn, Torn::Fill(0))
+    let is_after_a_gate = kill == 9 || kill == 28;
+    is_after_a_gate && calls == 4 && matches!(torn, Torn::Fill(0))
 }
 
 /// Asserts that a cut leaves what was acknowledged, or no store at all where that is said of it.

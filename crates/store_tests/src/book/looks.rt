@@ -29,7 +29,7 @@ pub fn assert_scopes(rt: &impl Abort, listing: &Listing, rows: &[ScopeSeen]) {
     holds(rt, is_count && listing.is_found, "scopes", count as u64);
     for (n, row) in rows.iter().enumerate() {
         let look = listing.scopes.get(n.saturating_add(1));
-        holds(rt, is_scope(look, row), "scope behind", n as u64);
+        holds(rt, is_scope(look, row), "scope after", n as u64);
     }
 }
 

@@ -7,7 +7,7 @@ mod faults;
 mod rooms;
 mod stores;
 
-use crate::book::asserts::{holds, holds_behind};
+use crate::book::asserts::{holds, holds_after};
 use crate::book::disks::{counted, now, opened_over, recovered, torn_image};
 use crate::book::looks::{assert_group, assert_scopes, assert_tasks};
 use crate::book::migrations::stores::{
@@ -125,6 +125,6 @@ fn a_stop_leaves_no_store_or_the_large_one(rt: HostRuntime) {
     for row in STOPS.iter() {
         let bytes = torn_image(&rt, rt.alloc(), &new, row.0, row.1);
         let found = counted(&rt, rt.alloc(), bytes);
-        holds_behind(&rt, found == row.2, row.0, row.1);
+        holds_after(&rt, found == row.2, row.0, row.1);
     }
 }

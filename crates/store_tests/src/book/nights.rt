@@ -5,7 +5,7 @@
 //! leaves), on `CarriesOn` (each acknowledged event is among it), on `Recovers`, and on
 //! `IsTornImage` of the disk in memory. Further stops of openings are in `console_tests`.
 
-use crate::book::asserts::{holds, holds_behind};
+use crate::book::asserts::{holds, holds_after};
 use crate::book::disks::{TEARS, counted, disk_of, played, played_on, small_disk, torn_image};
 use run_disk::{MemoryDisk, Torn};
 use run_model::Layout;
@@ -68,14 +68,14 @@ fn assert_stops(rt: &impl Abort, alloc: Global, disk: &MemoryDisk, before: u64) 
     holds(
         rt,
         disk.calls() == before.saturating_add(35),
-        "calls behind",
+        "calls after",
         before,
     );
     for calls in 0..36 {
         for torn in TEARS.iter() {
             let bytes = torn_image(rt, alloc, disk, before.saturating_add(calls), *torn);
             let found = counted(rt, alloc, bytes);
-            holds_behind(rt, found == Ok(left(calls, *torn)), calls, *torn);
+            holds_after(rt, found == Ok(left(calls, *torn)), calls, *torn);
         }
     }
 }

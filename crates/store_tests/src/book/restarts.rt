@@ -52,7 +52,7 @@ static STOPPED: [Stopped; 6] = [
         (7, Going::Interrupted, Going::Ready),
     ),
     (
-        "a finish behind it",
+        "a finish after it",
         &[
             &SUBMITTED,
             &[STARTED, (Flush, Said::Acked(6))],

@@ -31,7 +31,7 @@ pub fn bytes_of_state(rt: &impl Abort, alloc: Global, layout: Layout) -> usize {
 
 /// A layout, and what an opening takes after the state: the log, the room of an image, both slots'
 /// buffers and the segment's. A heap gives whole units of 16 bytes.
-static BEHIND_STATE: [(Layout, [usize; 5]); 2] = [
+static AFTER_STATE: [(Layout, [usize; 5]); 2] = [
     (
         Layout::Small,
         [1_048_576, 488_176, 524_288, 524_288, 262_144],
@@ -64,7 +64,7 @@ fn refused(rt: &impl Abort, alloc: Global, disk: MemoryDisk, bytes: usize) -> Me
 
 /// Asserts that an opening with a unit less than each sum of growths is refused, and gives the
 /// disk and the whole sum.
-fn refused_behind(
+fn refused_after(
     rt: &impl Abort,
     alloc: Global,
     disk: MemoryDisk,
@@ -95,7 +95,7 @@ fn refused_within(rt: &impl Abort, alloc: Global, disk: MemoryDisk, state: usize
 fn assert_growths(rt: &impl Abort, alloc: Global, layout: Layout, growths: &[usize]) {
     let state = bytes_of_state(rt, alloc, layout);
     let disk = refused_within(rt, alloc, formatted(rt, alloc, layout), state);
-    let (disk, sum) = refused_behind(rt, alloc, disk, state, growths);
+    let (disk, sum) = refused_after(rt, alloc, disk, state, growths);
     let heap = heap(rt, alloc, sum);
     holds(
         rt,
@@ -107,7 +107,7 @@ fn assert_growths(rt: &impl Abort, alloc: Global, layout: Layout, growths: &[usi
 
 #[test]
 fn a_refused_growth_comes_before_any_device_call(rt: HostRuntime) {
-    for row in BEHIND_STATE.iter() {
+    for row in AFTER_STATE.iter() {
         assert_growths(&rt, rt.alloc(), row.0, &row.1);
     }
 }
@@ -210,13 +210,13 @@ fn assert_kept(rt: &impl Abort, alloc: Global, layout: Layout) {
     for (n, row) in SECOND.iter().enumerate() {
         let reply = take(&mut book, &step(rt, row.0));
         let told = (said_by(&reply), heap.used());
-        holds(rt, told == (row.1, used), "bytes behind row", n as u64);
+        holds(rt, told == (row.1, used), "bytes after row", n as u64);
     }
     let found = [true, false, true, true, true, true, true];
     holds(rt, asked(rt, &book) == (found, [5, 3, 4, 1]), "answers", 0);
-    holds(rt, heap.used() == used, "bytes behind questions", 0);
+    holds(rt, heap.used() == used, "bytes after questions", 0);
     let disk = book.into_disk();
-    holds(rt, heap.used() == 0, "bytes behind calls", disk.calls());
+    holds(rt, heap.used() == 0, "bytes after calls", disk.calls());
 }
 
 #[test]

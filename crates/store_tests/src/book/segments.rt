@@ -41,7 +41,7 @@ fn pending(rt: &impl Abort, alloc: Global, limits: u64, advances: u64) -> Vec<St
 
 /// Takes steps over a new store, and then those of a table, each with its answer, and gives the
 /// disk back.
-fn played_behind(
+fn played_after(
     rt: &impl Abort,
     alloc: Global,
     layout: Layout,
@@ -71,15 +71,10 @@ fn assert_flushed(rt: &impl Abort, alloc: Global, row: Flushed) {
     let (layout, limits, advances, calls, acked) = row;
     let steps = pending(rt, alloc, limits, advances);
     let rows = [(Flush, Said::Acked(acked))];
-    let mut disk = played_behind(rt, alloc, layout, steps, &rows);
-    holds(
-        rt,
-        disk.calls() == calls,
-        "calls, behind advances",
-        advances,
-    );
+    let mut disk = played_after(rt, alloc, layout, steps, &rows);
+    holds(rt, disk.calls() == calls, "calls, after advances", advances);
     let found = counted_on(alloc, &mut disk);
-    holds(rt, found == Ok(acked), "events, behind advances", advances);
+    holds(rt, found == Ok(acked), "events, after advances", advances);
 }
 
 #[test]
@@ -109,13 +104,13 @@ static FILLED: [At; 4] = [
 fn a_segment_is_filled_to_its_last_byte(rt: HostRuntime) {
     let steps = filling(&rt, rt.alloc());
     let rows = [(Flush, Said::Acked(23_833))];
-    let disk = played_behind(&rt, rt.alloc(), Layout::Small, steps, &rows);
+    let disk = played_after(&rt, rt.alloc(), Layout::Small, steps, &rows);
     assert_bytes(&rt, &now(&rt, rt.alloc(), &disk), &FILLED);
 }
 
 /// After a full segment a flush of nothing, a checkpoint, and a flush of six bytes into the other
 /// segment.
-static BEHIND: [(Call, Said<'static>); 6] = [
+static AFTER: [(Call, Said<'static>); 6] = [
     (Flush, Said::Acked(23_833)),
     (Flush, Said::Acked(23_833)),
     (Limit(b"g", Some(3)), Said::Done),
@@ -134,9 +129,9 @@ static OTHER_SEGMENT: [At; 2] = [
 ];
 
 #[test]
-fn a_flush_behind_a_full_segment_is_a_checkpoint(rt: HostRuntime) {
+fn a_flush_after_a_full_segment_is_a_checkpoint(rt: HostRuntime) {
     let steps = filling(&rt, rt.alloc());
-    let mut disk = played_behind(&rt, rt.alloc(), Layout::Small, steps, &BEHIND);
+    let mut disk = played_after(&rt, rt.alloc(), Layout::Small, steps, &AFTER);
     holds(&rt, disk.calls() == 37, "calls", 37);
     assert_bytes(&rt, &now(&rt, rt.alloc(), &disk), &OTHER_SEGMENT);
     let found = counted_on(rt.alloc(), &mut disk);
@@ -191,7 +186,7 @@ static NEXT: [(Call, Said<'static>); 1] = [(Start, Said::Started(95_328, 1, b"co
 #[test]
 fn a_start_that_just_fits_is_accepted(rt: HostRuntime) {
     let steps = nearly_full(&rt, rt.alloc());
-    let disk = played_behind(&rt, rt.alloc(), Layout::Small, steps, &FULL);
+    let disk = played_after(&rt, rt.alloc(), Layout::Small, steps, &FULL);
     played_on(&rt, rt.alloc(), disk, &[&NEXT]);
 }
 
@@ -206,5 +201,5 @@ static OVERFULL: [(Call, Said<'static>); 4] = [
 #[test]
 fn a_start_that_is_a_byte_too_long_is_refused(rt: HostRuntime) {
     let steps = pending(&rt, rt.alloc(), 5, 95_313);
-    played_behind(&rt, rt.alloc(), Layout::Large, steps, &OVERFULL);
+    played_after(&rt, rt.alloc(), Layout::Large, steps, &OVERFULL);
 }

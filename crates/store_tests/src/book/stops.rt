@@ -6,7 +6,7 @@
 //! of an opening what was stored or its restart; of a format over zeros nothing, or a new store.
 //! What a crash may make of the bytes rests on `IsTornImage` of the disk in memory.
 
-use crate::book::asserts::{holds, holds_behind};
+use crate::book::asserts::{holds, holds_after};
 use crate::book::disks::{
     TEARS, counted, disk_of, formatted, played, played_on, recovered, torn_image,
 };
@@ -61,7 +61,7 @@ fn assert_left(
     stored: Stored,
 ) {
     let found = recovered(rt, alloc, torn_image(rt, alloc, disk, calls, torn));
-    holds_behind(rt, found.count == stored.0, calls, torn);
+    holds_after(rt, found.count == stored.0, calls, torn);
     assert_scopes(rt, &found, stored.1);
 }
 
@@ -142,7 +142,7 @@ fn assert_all_go_on(rt: &impl Abort, alloc: Global, disk: &MemoryDisk) {
 }
 
 #[test]
-fn a_store_goes_on_behind_a_stop(rt: HostRuntime) {
+fn a_store_goes_on_after_a_stop(rt: HostRuntime) {
     let disk = played(&rt, rt.alloc(), Layout::Small, &FLUSHED);
     assert_all_go_on(&rt, rt.alloc(), &disk);
 }
@@ -163,7 +163,7 @@ fn told(calls: u64, torn: Torn) -> Result<u64, Fault> {
 fn assert_told(rt: &impl Abort, alloc: Global, disk: &MemoryDisk, calls: u64) {
     for torn in TEARS.iter() {
         let found = counted(rt, alloc, torn_image(rt, alloc, disk, calls, *torn));
-        holds_behind(rt, found == told(calls, *torn), calls, *torn);
+        holds_after(rt, found == told(calls, *torn), calls, *torn);
     }
 }
 

@@ -2,7 +2,7 @@
 //!
 //! This rests on `Recovers` and `Opens`, whose `Stores` takes images of either version.
 
-use crate::book::asserts::{holds, holds_behind};
+use crate::book::asserts::{holds, holds_after};
 use crate::book::disks::{
     At, assert_bytes, counted, disk_of, now, played_on, recovered, small_disk, told_by_opening,
     torn_image,
@@ -127,7 +127,7 @@ static LEFT: [(u64, Torn, u64); 5] = [
 fn assert_left(rt: &impl Abort, alloc: Global, disk: &MemoryDisk) {
     for row in LEFT.iter() {
         let found = counted(rt, alloc, torn_image(rt, alloc, disk, row.0, row.1));
-        holds_behind(rt, found == Ok(row.2), row.0, row.1);
+        holds_after(rt, found == Ok(row.2), row.0, row.1);
     }
 }
 
@@ -171,12 +171,12 @@ fn assert_three(rt: &impl Abort, found: &Listing, count: u64) {
 }
 
 /// A store of version 1 with a record after its image.
-static BEHIND: [(usize, &'static [u8]); 2] = [(0, CANCELED), (1_048_576, DERIVED)];
+static AFTER: [(usize, &'static [u8]); 2] = [(0, CANCELED), (1_048_576, DERIVED)];
 
 #[test]
-fn records_behind_version_1_are_applied(rt: HostRuntime) {
-    assert_three(&rt, &stored(&rt, rt.alloc(), &BEHIND), 5);
-    let disk = disk_with(&rt, rt.alloc(), &BEHIND);
+fn records_after_version_1_are_applied(rt: HostRuntime) {
+    assert_three(&rt, &stored(&rt, rt.alloc(), &AFTER), 5);
+    let disk = disk_with(&rt, rt.alloc(), &AFTER);
     let disk = played_on(&rt, rt.alloc(), disk, &[]);
     assert_three(&rt, &stopped(&rt, rt.alloc(), &disk, 10), 6);
 }
@@ -185,7 +185,7 @@ fn records_behind_version_1_are_applied(rt: HostRuntime) {
 static RETRIED_BEFORE: [(usize, &'static [u8]); 2] = [(0, RESTARTED_BEFORE), (1_048_576, RETRY)];
 
 #[test]
-fn a_retry_behind_version_1_is_no_event(rt: HostRuntime) {
+fn a_retry_after_version_1_is_no_event(rt: HostRuntime) {
     let disk = disk_with(&rt, rt.alloc(), &RETRIED_BEFORE);
     let told = told_by_opening(rt.alloc(), disk);
     holds(&rt, told == (Some(Fault::BadEvent), 3), "calls", 3);

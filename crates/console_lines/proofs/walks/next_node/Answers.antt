@@ -8,10 +8,10 @@ returns-in-Some-clause-next c =
     child_next c.args.parents.now c.args.node c.in-Some.child c.requires.rising
     c.requires.at.within
     (found c.args.parents.now c.args.node c.args.node c.in-Some.child c.requires.at.within
-    (sym c.first_behind.ensures ∙ c.in-Some.is))
+    (sym c.first_after.ensures ∙ c.in-Some.is))
 
 pub returns-in-None-clause-next : goal.returns-in-None-clause-next
 returns-in-None-clause-next c =
     none_next c.args.parents.now c.args.node c.requires.at.within
-    (empty (children c.args.parents.now c.args.node) (sym c.first_behind.ensures ∙ c.in-None.is))
+    (empty (children c.args.parents.now c.args.node) (sym c.first_after.ensures ∙ c.in-None.is))
     ∙ ap (λ ns. c.args.node ∷ ns) c.next_beside.ensures.next

@@ -9,7 +9,7 @@ use Rattle.run_lines.specs.Until.{ends_at}
 use Rattle.run_lines.proofs.LineSteps.{same_asked, same_end}
 use Rattle.run_lines.proofs.Parts.{part_begins, part_then, part_written}
 use Rattle.run_lines.proofs.Wholes.{few_before, is_clean, part_read, ran_to_end, reads_all}
-use Rattle.run_lines.proofs.Wholes.{reads_stray, stops_at_last, stops_behind_part}
+use Rattle.run_lines.proofs.Wholes.{reads_stray, stops_at_last, stops_after_part}
 use Rattle.run_lines.proofs.Wholes.{stops_in_a_part, stops_reading}
 use Rattle.run_lines.proofs.inputs.run_lines.Goals as goal
 
@@ -169,7 +169,7 @@ returns-in_err-write_gathered-clause-stops g c =
     let size = part_read inv.0 room c.loop-total.room n c.min-most.result c.loop-total.total 4096
     inv.2 few c.read_some.auto.room c.min-most.ensures c.loop-total-test.true in
     rw (p.1, p.2, c.in_err-write_gathered.ensures.fault) (
-    stops_behind_part (g.R.Read.remaining c.loop-total.input) inv.1 c.in_ok-count.ensures.bytes.0
+    stops_after_part (g.R.Read.remaining c.loop-total.input) inv.1 c.in_ok-count.ensures.bytes.0
     size.within inv.4
     (is_clean c.in_ok-found.found (sym c.is_some.ensures ∙ c.if-is_some.false) ran)
     c.in_err-write_gathered.ensures.cut)

@@ -3,7 +3,7 @@ use Rattle.run_model.specs.declared.commands.Wish.TheVariants.{Cancel}
 use Rattle.run_model.specs.declared.faults.Fault.TheVariants.{DiskFailed}
 use Rattle.run_model.specs.declared.refusals.Refusal.TheVariants.{Broken}
 use Rattle.book_model.specs.Examples.Calls.{checkpoint, derive, faulty, flush, refused}
-use Rattle.book_model.specs.Examples.Steps.{behind_three, failed, state_of}
+use Rattle.book_model.specs.Examples.Steps.{book_after_three, failed, state_of}
 use Rattle.book_model.proofs.ExampleSteps.{flush_faulty, three_then}
 use Rattle.book_model.proofs.Stepping.{step_left}
 use Rattle.book_model.proofs.examples.steps.a_flush_fails.Goals as goal
@@ -26,5 +26,5 @@ returns-clause-answered c =
 
 pub returns-clause-caused : goal.returns-clause-caused
 returns-clause-caused c tells =
-    let left = step_left state_of behind_three flush (faulty DiskFailed) behind_three tells in
+    let left = step_left state_of book_after_three flush (faulty DiskFailed) book_after_three tells in
     cc ((left.failed refl).1)

@@ -1,7 +1,7 @@
 use Rattle.run_model.proofs.Common.{[], ◌∷◌, Ok, arith, refl, rules}
 use Rattle.book_model.specs.Books.{Flushes}
 use Rattle.book_model.specs.Examples.Calls.{acked, flush}
-use Rattle.book_model.specs.Examples.Steps.{behind_three, flushed, flushed_twice, state_of}
+use Rattle.book_model.specs.Examples.Steps.{book_after_three, flushed, flushed_twice, state_of}
 use Rattle.book_model.proofs.ExampleSteps.{done, fits, three_then}
 use Rattle.book_model.proofs.examples.steps.a_flush_is_done.Goals as goal
 
@@ -18,9 +18,9 @@ returns-clause-again c = record { result = Ok 4; told = refl; saves = search rul
 
 pub returns-clause-counted : goal.returns-clause-counted
 returns-clause-counted c new tells =
-    omega (arith, (done (Flushes state_of) behind_three new 3 tells).saves.answer.counted)
+    omega (arith, (done (Flushes state_of) book_after_three new 3 tells).saves.answer.counted)
 
 pub returns-clause-batched : goal.returns-clause-batched
 returns-clause-batched c tells =
-    let flushes = done (Flushes state_of) behind_three flushed_twice 4 tells in
+    let flushes = done (Flushes state_of) book_after_three flushed_twice 4 tells in
     omega (arith, (flushes.added (omega arith) fits).0.clock)

@@ -5,7 +5,7 @@ use Rattle.run_model.specs.declared.scopes.Scope.{Scope}
 use Rattle.row_view.specs.Image.{is_kept_scope, scope_bytes}
 use Rattle.row_view.specs.Writing.{put_at}
 use Rattle.scope_tree.specs.TreeRows.{AreWritable}
-use Rattle.state_renewal.proofs.Renewing.{behind_known, behind_lent, behind_writable, scopes_lent}
+use Rattle.state_renewal.proofs.Renewing.{after_known, after_lent, after_writable, scopes_lent}
 use Rattle.state_renewal.proofs.wholes.Renewal.put_renewed_scopes.Goals as goal
 
 pub put_scopes-requires : goal.put_scopes-requires
@@ -13,9 +13,9 @@ put_scopes-requires g c =
     let p = c.args.state.now in
     let rules = c.count-rules.ensures.rules in
     let each = c.requires.marks.each_scope in
-    let flags = behind_lent c.args.self.now.scopes c.flags-flags.result.now
+    let flags = after_lent c.args.self.now.scopes c.flags-flags.result.now
     c.flags-flags.ensures in
-    let rows = behind_lent p.tree.scopes c.rows-rows.result.now
+    let rows = after_lent p.tree.scopes c.rows-rows.result.now
     (c.rows-rows.ensures ∙ ap (λ (t : TreeState). t.scopes) c.tree.ensures) in
     let left = scopes_lent p c.args.self.now.scopes c.args.self.now.groups
     c.args.self.now.tasks c.requires.marks _ _ rules flags rows in
@@ -24,11 +24,11 @@ put_scopes-requires g c =
           ap (λ l. length l) flags ∙ length-drop 1 c.args.self.now.scopes
           ∙ ap (λ n. n - 1) each ∙ sym (length-drop 1 p.tree.scopes)
           ∙ ap (λ l. length l) (sym rows);
-      rows = subst AreWritable (sym rows) (behind_writable p rules);
+      rows = subst AreWritable (sym rows) (after_writable p rules);
       known =
           subst (λ l. (n : ℕ) (row : Scope) → slice_get l n ≡ Some row
           → row.parent < length c.args.self.now.scopes) (sym rows)
-          (behind_known p (length c.args.self.now.scopes) rules each);
+          (after_known p (length c.args.self.now.scopes) rules each);
       room =
           subst (λ l. c.args.at + 192 * length l ≤ length c.args.out.now) (sym left)
           c.requires.room;
@@ -38,9 +38,9 @@ pub returns : goal.returns
 returns g c =
     let p = c.args.state.now in
     let put = c.put_scopes.ensures in
-    let flags = behind_lent c.args.self.now.scopes c.flags-flags.result.now
+    let flags = after_lent c.args.self.now.scopes c.flags-flags.result.now
     c.flags-flags.ensures in
-    let rows = behind_lent p.tree.scopes c.rows-rows.result.now
+    let rows = after_lent p.tree.scopes c.rows-rows.result.now
     (c.rows-rows.ensures ∙ ap (λ (t : TreeState). t.scopes) c.tree.ensures) in
     let left = scopes_lent p c.args.self.now.scopes c.args.self.now.groups
     c.args.self.now.tasks c.requires.marks _ _

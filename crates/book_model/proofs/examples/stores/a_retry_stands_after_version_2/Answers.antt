@@ -5,7 +5,7 @@ use Rattle.book_model.specs.Examples.Retries.{one_interrupted}
 use Rattle.book_model.specs.Examples.Stores.{interrupted_image, retry_record}
 use Rattle.book_model.proofs.Meaning.{said}
 use Rattle.book_model.proofs.OnLiterals.{stores_on_literals}
-use Rattle.book_model.proofs.examples.stores.a_retry_stands_behind_version_2.Goals as goal
+use Rattle.book_model.proofs.examples.stores.a_retry_stands_after_version_2.Goals as goal
 
 pub returns-clause-two : goal.returns-clause-two
 unfolding stores_on_literals

@@ -1,6 +1,6 @@
 use Rattle.std.proofs.Common.{◌≡◌, drop}
 use Rattle.console_lines.specs.Trees.{behind, places_of}
-use Rattle.console_lines.proofs.walks.first_behind.Given as goal
+use Rattle.console_lines.proofs.walks.first_after.Given as goal
 
 -- The places up to this one have another parent.
 abbrev pub invariant-loop-place : goal.invariant-loop-place

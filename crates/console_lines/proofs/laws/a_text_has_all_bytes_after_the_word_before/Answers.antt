@@ -1,5 +1,5 @@
 use Rattle.console_lines.proofs.LawLemmas.{value_text, deadline_cause, timeout_cause}
-use Rattle.console_lines.proofs.laws.a_text_has_all_bytes_behind_the_word_before.Goals as goal
+use Rattle.console_lines.proofs.laws.a_text_has_all_bytes_after_the_word_before.Goals as goal
 
 pub returns-clause-value : goal.returns-clause-value
 returns-clause-value c = value_text

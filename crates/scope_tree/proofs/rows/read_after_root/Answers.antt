@@ -1,6 +1,6 @@
 use Rattle.std.proofs.Common.{arith, rules}
 use Rattle.scope_tree.proofs.TreeReads.{no_moment, too_many, no_tree, tree_read}
-use Rattle.scope_tree.proofs.rows.read_behind_root.Goals as goal
+use Rattle.scope_tree.proofs.rows.read_after_root.Goals as goal
 
 pub returns-in_err-clock-clause-none : goal.returns-in_err-clock-clause-none
 returns-in_err-clock-clause-none g c =

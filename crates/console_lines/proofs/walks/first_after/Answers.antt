@@ -1,7 +1,7 @@
 use Rattle.std.proofs.Common.{ap, ◌∙◌, sym, slice_get, add-one, drop}
 use Rattle.console_lines.specs.Trees.{places_of}
 use Rattle.console_lines.proofs.WalkLemmas.{places_end, places_here, places_past}
-use Rattle.console_lines.proofs.walks.first_behind.Goals as goal
+use Rattle.console_lines.proofs.walks.first_after.Goals as goal
 
 pub loop-place-init : goal.loop-place-init
 loop-place-init c =

@@ -1,4 +1,4 @@
-use Rattle.program_tests.proofs.locks.a_gate_is_told_behind_the_lock.Given as goal
+use Rattle.program_tests.proofs.locks.a_gate_is_told_after_the_lock.Given as goal
 
 abbrev pub ghosts-ended_when_told-S-Ledger : goal.ghosts-ended_when_told-S-Ledger
 ghosts-ended_when_told-S-Ledger g a = record { name = a.starts.name; parts = a.starts.parts }
