@@ -162,8 +162,8 @@ pub indexed_given_back : (old : Numbered) (rows scopes scope_rest : List Scope)
     → mark_len ≡ length marks'
     → IsIndexed (record { room = old.room; rows = take scope_len (scopes ++ scope_rest) })
     (take mark_len (marks' ++ mark_rest)) names links due' reaches m u
-indexed_given_back old rows scopes scope_rest marks marks' mark_rest names links due due' reaches n k
-    m u was size same kept found waiting reached all_n all_k =
+indexed_given_back old rows scopes scope_rest marks marks' mark_rest names links due due' reaches n
+    k m u was size same kept found waiting reached all_n all_k =
     let rows_back = given_back n scopes scope_rest all_n ∙ same in
     let marks_back = given_back k marks' mark_rest all_k in
     rw (rows_back, marks_back) (record {
@@ -191,7 +191,8 @@ same_numbered room room' rows rows' a b = rw (a, b) refl
 -- Rows that are lent, changed and given back are the changed ones.
 pub numbered_back : (change : List Scope → List Scope) (room : ℕ)
     (rows lent changed rest : List Scope) (len : ℕ) → lent ≡ rows → changed ≡ change lent
-    → len ≡ length changed → numbered room (take len (changed ++ rest)) ≡ numbered room (change rows)
+    → len ≡ length changed
+    → numbered room (take len (changed ++ rest)) ≡ numbered room (change rows)
 numbered_back change room rows lent changed rest len lent_is is size =
     same_numbered room room (change rows) (take len (changed ++ rest)) refl
     (given_back len changed rest size ∙ is ∙ ap change lent_is)

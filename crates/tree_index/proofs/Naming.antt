@@ -4,7 +4,8 @@ use Rattle.run_model.proofs.Common.{◌++◌, length, map, Option, Some, None, s
 use Rattle.run_model.proofs.Common.{inr, refl, sym, subst, ap, ◌∙◌, arith, nat_lt, is_none}
 use Rattle.run_model.proofs.Common.{option_map, option_map_or, bytes_eq, cases_lt, cases_eq}
 use Rattle.run_model.proofs.Common.{lt-ltb, le-ltb, length-map, same_Some, slice_get_within}
-use Rattle.run_model.proofs.Common.{slice_get-get_or, slice_get-map, slice_get_read, get_or_from_slice_get}
+use Rattle.run_model.proofs.Common.{slice_get-get_or, slice_get-map, slice_get_read}
+use Rattle.run_model.proofs.Common.{get_or_from_slice_get}
 use Rattle.run_model.proofs.Common.{bytes_eq-Decides, false≢true, at_row, with_hit, tick, hit_due}
 use Rattle.run_model.proofs.Common.{name_is_free, map_cases, map-append, IfSome, is_root}
 use Rattle.run_model.proofs.Common.{is_detached, ◌||◌}

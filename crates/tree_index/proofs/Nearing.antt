@@ -132,7 +132,8 @@ deadline_below rows s row up ordered found below is =
 pub new_reach_is : (rows : List Scope) (s : ℕ) (row : Scope) (up reach : Reach)
     → AreOrdered rows → slice_get rows s ≡ Some row → is_root row.kind ≡ false
     → IsReach rows row.parent up
-    → reach.deadline ≡ cond (is_detached row.kind) None (earlier (own_deadline row.kind) up.deadline)
+    → reach.deadline
+    ≡ cond (is_detached row.kind) None (earlier (own_deadline row.kind) up.deadline)
     → reach.holder ≡ cond (is_holder row.kind) s up.holder → IsReach rows s reach
 new_reach_is rows s row up reach ordered found below over deadline_is =
     by_holder (is_holder row.kind) refl

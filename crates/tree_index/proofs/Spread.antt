@@ -72,7 +72,8 @@ module _ (links : List (Option ℕ)) (old new : List (Option ℕ)) (at : ℕ) (w
           (λ e. no_some n (mark_of new c) none (subst (λ (m : ℕ). mark_of new m ≡ Some n) e
           (here.so_far.kept t n was))) ∙ here.so_far.kept t n was;
       fresh = λ t was. elim (cases_eq t c) [
-        | inl e ↦ inr (subst (λ (n : ℕ). mark_of (set new c (Some at)) n ≡ Some at) (sym e) here_now)
+        | inl e ↦ inr (subst (λ (n : ℕ). mark_of (set new c (Some at)) n ≡ Some at) (sym e)
+            here_now)
         | inr ne ↦ elim (here.so_far.fresh t was) [
           | inl h ↦ inl (get_or-set_other new c t (Some at) None ne
               ∙ h)

@@ -28,9 +28,9 @@ use std::marker::Model;
 /// have room for a fixed number, so no call but [`Rows::with_room`] takes memory.
 ///
 /// [`Rows::end`] and [`Rows::expire`] look at the scopes that they end, [`Rows::value`] at those
-/// upwards that hold a value, [`Rows::find`] at those whose names have one hash, and the other calls
-/// at a few. A deadline that is added or passes takes as many steps as the number of those that
-/// wait has binary digits.
+/// upwards that hold a value, [`Rows::find`] at those whose names have one hash, and the other
+/// calls at a few. A deadline that is added or passes takes as many steps as the number of those
+/// that wait has binary digits.
 #[derive(Drop)]
 pub struct Rows<A: Allocator> {
     scopes: Vec<Scope, A>,

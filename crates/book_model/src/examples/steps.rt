@@ -66,7 +66,8 @@ pub fn a_flush_fails()
     ensures after { AnswersStep state_of failed start (refused Broken) failed }
     ensures save { AnswersStep state_of failed checkpoint (refused Broken) failed }
     ensures answered { Steps state_of new_book failing_call failing_replies failed }
-    ensures caused { AnswersStep state_of book_after_three flush (faulty DiskFailed) book_after_three → ⊥ }
+    ensures caused { AnswersStep state_of book_after_three flush (faulty DiskFailed)
+        book_after_three → ⊥ }
 {}
 
 /// A crash between two calls, or within the second: three events were acknowledged by the first

@@ -26,5 +26,6 @@ returns-clause-answered c =
 
 pub returns-clause-caused : goal.returns-clause-caused
 returns-clause-caused c tells =
-    let left = step_left state_of book_after_three flush (faulty DiskFailed) book_after_three tells in
+    let left =
+    step_left state_of book_after_three flush (faulty DiskFailed) book_after_three tells in
     cc ((left.failed refl).1)
