@@ -28,7 +28,7 @@ pub record ShowsSame (one other : DiskState) : Type 0 where
   pub honest : one.honest → other.honest
   pub honest_back : other.honest → one.honest
 
--- The calls that such a disk fails by itself: from the first up to the one before `after`. The
+-- The calls that such a disk fails by itself: from the first up to the one before `behind`. The
 -- first call of all has number 0.
 pub record Gap : Type 0 where
   pub first : ℕ
