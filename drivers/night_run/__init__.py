@@ -10,7 +10,7 @@
     files      what lies beside the store          past, log   two of these files
     views      rows for a list and a report        summary     what is printed at the end
 
-docs/driver.md has the rules that keep it safe, and what it can't keep.
+docs/pipe.md has the rules that keep it safe, and docs/troubles.md its limits.
 """
 
 from __future__ import annotations

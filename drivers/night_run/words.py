@@ -72,8 +72,8 @@ The status is 0 where every command of the file is ok (or what was asked for is 
 
   0 22 * * *  night-run /var/backup/store /etc/backup.jobs --nightly --quiet
 
-is a line of a crontab. docs/driver.md and the manual page night-run(1) describe all of it, and what
-is not kept: that a command ran once."""
+is a line of a crontab. The manual page night-run(1) describes all of it, and its limits: a command
+may run twice."""
 
 # A clock of a store that is ahead by more seconds than this is not waited for.
 MOST_AHEAD = 60
