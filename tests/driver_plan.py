@@ -64,6 +64,24 @@ NEXT: list[tuple[str, str, dict[str, str], int, list[str]]] = [
     ("a done group", "g a x\nh b x", {"g": "why"}, 9, ["h b"]),
 ]
 
+# What `ask` prints; the text of the end that it tells, and of which kind that is.
+ANSWERS = [
+    ("ok", "ok", "ok"), ("exit 3", "exit 3", "failed"), ("signal 9", "signal 9", "failed"),
+    ("error no room", "no room", "failed"), ("error ok", "error ok", "failed"),
+    ("error withdrawn", "error withdrawn", "failed"), ("error exit 3", "exit 3", "failed"),
+    ("error interrupted", "error interrupted", "failed"),
+    ("error canceled: why", "error canceled: why", "failed"),
+    ("error canceled by hand", "canceled by hand", "failed"),
+    ("error error x", "error error x", "failed"), ("error running", "running", "failed"),
+    ("error " + "x" * 64, "x" * 64, "failed"),
+    ("error canceled: " + "x" * 54, "error canceled: " + "x" * 48, "failed"),
+    ("none", "", ""), ("running", "", "")]
+# Texts of ends, and of which kind each is.
+ENDS = [("ok", "ok"), ("withdrawn", "withdrawn"), ("interrupted", "interrupted"),
+        ("canceled: why", "canceled"), ("canceled: " + "x" * 54, "canceled"), ("exit 3", "failed"),
+        ("timeout 10m", "failed"), ("can't be started: why", "failed"), ("CANCELLED", "failed"),
+        ("error ok", "failed"), ("error error ok", "failed"), ("canceled by hand", "failed")]
+
 ALL = ("settings are limit N, until MOMENT, within TIME, after X.., retries N [wait TIME],"
        " timeout TIME, in FOLDER, env NAME=VALUE, stop on failure, background keep, via WORDS..,"
        " ask WORDS.., stop WORDS..")
@@ -158,7 +176,7 @@ def pair(words: str) -> Name:
 
 def facts_of(tries: Shared, ends: dict[str, str]) -> object:
     """The facts after these ends, all of a moment ten seconds ago."""
-    facts = driver_module(tries, "facts").Facts()
+    facts, read_end = driver_module(tries, "facts").Facts(), driver_module(tries, "ends").read_end
     for words, end in ends.items():
         name = pair(words)
         if not name[1]:
@@ -170,7 +188,7 @@ def facts_of(tries: Shared, ends: dict[str, str]) -> object:
         else:
             text, _, count = end.partition("*")
             for _ in range(int(count or 1)):
-                facts.ended(name, text, 990.0)
+                facts.ended(name, read_end(text), 990.0)
     return facts
 
 
@@ -196,7 +214,7 @@ def retries_wait(tries: Shared) -> None:
     plan = driver_module(tries, "plan")
     jobs = jobs_of(tries, "g: retries 1 wait 2s\ng a true")
     facts = driver_module(tries, "facts").Facts()
-    facts.ended(("g", "a"), "exit 3", 1000.0)
+    facts.ended(("g", "a"), driver_module(tries, "ends").failed("exit 3"), 1000.0)
     for now, wanted in ((1000.0, 1002.0), (1001.5, 1002.0), (1002.0, None), (999.0, None),
                         (-2600.0, None)):
         found = plan.may_begin(jobs, facts, [("g", "a")], 1, now)
@@ -234,4 +252,22 @@ def cycles_are_long(tries: Shared) -> None:
     tries.is_same("a long chain", count, found["g", f"k{count - 1}"].phase, "not begun")
 
 
-TABLES = [stand, next_ones, retries_wait, mistakes, moments, cycles_are_long]
+def ends(tries: Shared) -> None:
+    """A text is read as the end that it was written for, and each failure is one."""
+    ends, far = driver_module(tries, "ends"), driver_module(tries, "far")
+    for answer, text, kind in ANSWERS:
+        end = far.end_of(answer)
+        tries.is_same("an answer of ask", answer,
+                      (end.text, end.kind.value) if end else ("", ""), (text, kind))
+        tries.holds("an answer of ask: its text is that end's", answer,
+                    end is None or ends.read_end(end.text) == end and len(end.text) <= 64)
+    for text, kind in ENDS:
+        end = ends.read_end(text)
+        tries.is_same("the text of an end", text, (end.text, end.kind.value), (text, kind))
+    for why in "", "x" * 80, "\nx\u00e9":
+        for end in ends.failed(why), ends.canceled(why):
+            tries.holds("the text of an end: any reason", repr(why), len(end.text) <= 64
+                        and end.text.isprintable() and ends.read_end(end.text) == end, end)
+
+
+TABLES = [stand, ends, next_ones, retries_wait, mistakes, moments, cycles_are_long]

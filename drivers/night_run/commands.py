@@ -10,11 +10,11 @@ from __future__ import annotations
 import contextlib
 import errno
 import os
-import re
 import signal
 import time
 from collections.abc import Mapping
 
+from .ends import OK, End, failed
 from .far import BEGUN, PATIENCE, Elsewhere, Far, Named
 from .jobs import Job
 from .processes import boot, group_exists, group_lives, signal_group
@@ -30,11 +30,6 @@ LATER = (errno.EAGAIN, errno.ENOMEM, errno.EMFILE, errno.ENFILE, errno.ENOSPC, e
 STUCK = 5.0
 
 
-def text_of(words: str) -> str:
-    """Words as a text of a store: 1 to 64 bytes of printable ASCII."""
-    return re.sub(r"[^ -~]", "?", words)[:64] or "?"
-
-
 class NotNow(Exception):
     """The system has no room to begin it now."""
 
@@ -45,7 +40,7 @@ class Running:
     def __init__(self, job_name: tuple[str, str], pid: int) -> None:
         self.name, self.pid = job_name, pid
         self.stopped: float | None = None
-        self.why = ""  # why it was stopped, an error's text; empty where it was cut off
+        self.why: End | None = None  # the end that it was stopped for; None where it was cut off
         self.is_killed = False
         self.elsewhere: Elsewhere | None = None  # of one that runs by its group's words
 
@@ -54,7 +49,7 @@ class Running:
         """Whether its process group is surely its own."""
         return True
 
-    def stop(self, why: str) -> None:
+    def stop(self, why: End | None) -> None:
         """Asks it to end, once, here and elsewhere; after a grace `press` kills what is here.
         Without a why it is cut off."""
         if self.stopped is None:
@@ -203,19 +198,19 @@ class Command(Running):
         """Whether it has ended, and its process group hasn't."""
         return self.status is not None and not self.is_gone
 
-    def end(self) -> str | None:
-        """How it ended, as a store has it: `ok`, or an error's text; None where it was cut off.
-        One that was stopped is never ok, whatever its status."""
+    def end(self) -> End | None:
+        """How it ended; None where it was cut off. One that was stopped is never ok, whatever its
+        status."""
         if self.failure:
-            return text_of(f"can't be started: {self.failure}")
+            return failed(f"can't be started: {self.failure}")
         if self.stopped is not None:
-            return text_of(self.why) if self.why else None
+            return self.why
         if self.status == 0:
-            return "ok"
-        if self.elsewhere and self.elsewhere.end():
-            return text_of(self.elsewhere.end())
+            return OK
+        if self.elsewhere and (end := self.elsewhere.end()):
+            return end
         status = self.status or 0
-        return f"exit {status}" if status > 0 else f"signal {-status}"
+        return failed(f"exit {status}" if status > 0 else f"signal {-status}")
 
     def is_overdue(self) -> bool:
         return self.job.timeout is not None and self.has_begun \

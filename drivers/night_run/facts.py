@@ -8,12 +8,12 @@ from collections.abc import Iterator, Mapping
 from dataclasses import dataclass, field
 
 from . import Name, base_of, named, round_of
+from .ends import End, Kind
 from .log import Line, Tried
 from .past import Past
 from .settings import OF_ALL
 from .state import ENDED, Scope, State, Task
 
-CANCELED = "canceled: "
 PASSED = "its deadline has passed"
 
 
@@ -21,20 +21,23 @@ PASSED = "its deadline has passed"
 class Facts:
     """Of one night. A command that isn't in `ends` hasn't ended in it."""
 
-    ends: dict[Name, str] = field(default_factory=dict)  # `ok`, or an error's text
+    ends: dict[Name, End] = field(default_factory=dict)
     failures: dict[Name, int] = field(default_factory=dict)
     failed_at: dict[Name, float] = field(default_factory=dict)
     interrupted: set[Name] = field(default_factory=set)
     done: dict[str, str] = field(default_factory=dict)  # groups, with the cause
     busy: set[Name] = field(default_factory=set)  # those that live, or whose end isn't recorded
 
-    def ended(self, name: Name, end: str, now: float) -> None:
+    def ended(self, name: Name, end: End, now: float) -> None:
         """Takes in the end of a command."""
         self.interrupted.discard(name)
         self.ends[name] = end
-        if end != "ok":
+        if not end.is_ok:
             self.failures[name] = self.failures.get(name, 0) + 1
             self.failed_at[name] = now
+
+    def is_ok(self, name: Name) -> bool:
+        return name in self.ends and self.ends[name].is_ok
 
     def cancel(self, group: str, cause: str) -> None:
         self.done.setdefault(group, cause)
@@ -125,7 +128,7 @@ def facts_of(state: State, past: Past, lines: Mapping[Tried, Line], book: Book, 
     for name, count in forgiven.items():
         left = facts.failures.get(name, 0) - count
         facts.failures[name] = max(0, left)
-        if left <= 0 and facts.ends.get(name) != "ok":
+        if left <= 0 and not facts.is_ok(name):
             facts.ends.pop(name, None)
     read_done(facts, book, max(state.clock, now))
     return facts
@@ -135,21 +138,21 @@ def read_past_ends(facts: Facts, past: Past, lines: Mapping[Tried, Line], now: f
     """What the ends of a renewed store say, and how often a command had failed; of an older
     driver's the log says that."""
     failed = collections.Counter((group, key) for (group, key, _), line in lines.items()
-                                 if line.end not in ("ok", "interrupted"))
+                                 if line.end.kind not in (Kind.OK, Kind.INTERRUPTED))
     for group, key, end in past.ends:
         name = base_of(group), key
         facts.ended(name, end, now)
-        if end != "ok":
+        if not end.is_ok:
             facts.failures[name] = max(1, failed[group, key])
     # (also of one that was interrupted then, in another try)
     facts.failures.update(past.failures)
 
 
 def read_task(facts: Facts, task: Task, line: Line | None, now: float) -> None:
-    if task.phase in ENDED:
+    if task.end and task.phase in ENDED:
         when = line.ended_at() if line and task.error else None
         # (the log's moments are whole seconds)
-        facts.ended(task.name, task.end(), now if when is None else min(now, when + 1))
+        facts.ended(task.name, task.end, now if when is None else min(now, when + 1))
     else:
         facts.ends.pop(task.name, None)
         facts.interrupted.add(task.name)

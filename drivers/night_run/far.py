@@ -33,6 +33,7 @@ from dataclasses import dataclass
 from typing import IO
 
 from . import Fault, Name, base_of, round_of
+from .ends import OK, End, failed
 from .files import Files, sync_folder
 from .past import Past
 from .regular import open_regular
@@ -119,6 +120,13 @@ class Far:
         os.fsync(self.file)
 
 
+def end_of(answer: str) -> End | None:
+    """The end that an answer of `ask` tells; None where it tells none."""
+    if answer in ("", NONE, RUNNING):
+        return None
+    return OK if answer == "ok" else failed(answer.removeprefix("error "))
+
+
 class Call:
     """A run of words beside the loop; it is ended once it takes too long."""
 
@@ -188,9 +196,9 @@ class Elsewhere:
             self.answer = "" if found == RUNNING else found
         return bool(self.answer)
 
-    def end(self) -> str:
-        """How it ended, as a store has it; empty where it never began."""
-        return "" if self.answer == NONE else self.answer.removeprefix("error ")
+    def end(self) -> End | None:
+        """How it ended; None where it never began, or that isn't known yet."""
+        return end_of(self.answer)
 
     def stop(self) -> None:
         """Asks for its end, and notes before that its end doesn't count."""

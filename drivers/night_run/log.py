@@ -3,7 +3,7 @@
     Try  Group  Key  Began  Seconds  End  Command
 
 They are tabs apart, `parallel --joblog`'s way. Try is which one of the key in its group it was,
-from 0, as in the name of its output. End is `ok`, an error's text, or `interrupted`. Of a task
+from 0, as in the name of its output. End is the text of an end (`ends`). Of a task
 whose line was lost with a driver, and of one that was never begun, Began and Seconds are -. A line
 of another form is passed over.
 """
@@ -17,6 +17,7 @@ import time
 from collections.abc import Iterator
 from dataclasses import dataclass
 
+from .ends import End, read_end
 from .regular import open_regular, read_regular
 from .telling import note_once
 
@@ -32,7 +33,7 @@ Tried = tuple[str, str, int]
 class Line:
     began: str
     seconds: str
-    end: str
+    end: End
     command: str
 
     def began_at(self) -> float | None:
@@ -58,7 +59,8 @@ def read_log(path: str, shown: str) -> dict[Tried, Line]:
         text = read_regular(path).decode("utf-8", "surrogateescape")
         for line in text.split("\n"):
             if it := LINE.fullmatch(line):
-                found.setdefault((it[2], it[3], int(it[1])), Line(*it.groups()[3:]))
+                found.setdefault((it[2], it[3], int(it[1])),
+                                 Line(it[4], it[5], read_end(it[6]), it[7]))
     except FileNotFoundError:
         pass
     except OSError as error:
@@ -112,10 +114,10 @@ class Log:
                 self.lines[tried] = line
                 group, key, number = tried
                 made.append("\t".join([str(number), group, key, line.began, line.seconds,
-                                       line.end, line.command]) + "\n")
+                                       line.end.text, line.command]) + "\n")
         self.write("".join(made))
 
 
-def line_of(began: float | None, took: float | None, end: str, command: str) -> Line:
+def line_of(began: float | None, took: float | None, end: End, command: str) -> Line:
     when = "-" if began is None else time.strftime("%Y-%m-%dT%H:%M:%S%z", time.localtime(began))
     return Line(when, "-" if took is None else f"{took:.3f}", end, text_of_line(command))

@@ -40,8 +40,9 @@ from functools import partial
 
 from . import Fault, Name, base_of
 from .cancels import NO_GROUP, Desk, Request
-from .commands import Command, NotNow, Running, text_of
-from .facts import CANCELED, PASSED, Book, Facts, book_of, facts_of, numbered
+from .commands import Command, NotNow, Running
+from .ends import INTERRUPTED, End, canceled, failed
+from .facts import PASSED, Book, Facts, book_of, facts_of, numbered
 from .far import Elsewhere, Far, Named, outstanding
 from .files import Files
 from .jobs import Jobs
@@ -255,7 +256,7 @@ class Driver:
                                        command.environment(self.files.path, self.inherited))
             left.counts = counts and it.group in ours and not self.begins_night
             if not counts:
-                left.stop("it was stopped before")
+                left.stop(failed("it was stopped before"))
         if not its:
             self.far.clear()
 
@@ -269,15 +270,15 @@ class Driver:
     def ends_of(self, state: State) -> Iterator[tuple[Tried, Line]]:
         """The lines of the log for what the store has as ended."""
         for task, tried in numbered(state):
-            if task.end() and not task.is_withdrawn and tried not in self.log.lines:
+            if task.end and not task.is_withdrawn and tried not in self.log.lines:
                 job = self.jobs.all.get(task.name)
-                yield tried, self.line(task.name, task.end(), job.command if job else "-",
+                yield tried, self.line(task.name, task.end, job.command if job else "-",
                                        task.number)
 
-    def line(self, name: Name, end: str, text: str, number: int) -> Line:
+    def line(self, name: Name, end: End, text: str, number: int) -> Line:
         """The line of an end, with its times where its command is at hand."""
         it = self.commands.get(name)
-        if it and it.number == number and it.took is not None and end != "interrupted":
+        if it and it.number == number and it.took is not None and end is not INTERRUPTED:
             return line_of(it.began, it.took, end, it.job.command)
         return line_of(None, None, end, text)
 
@@ -394,8 +395,7 @@ class Driver:
             if end is None or command.number < 0:
                 self.forget(command)
                 continue
-            what = "ok" if end == "ok" else f"error {end}"
-            batch.add(f"finish {command.number} {what}", partial(self.recorded, command))
+            batch.add(f"finish {command.number} {end.words}", partial(self.recorded, command))
             self.facts.busy.discard(command.name)
             self.leave(command)
             self.facts.ended(command.name, end, now)
@@ -421,21 +421,21 @@ class Driver:
         if self.commands.get(command.name) is command:
             del self.commands[command.name]
         self.ran[command.name] = command
-        end = command.end() or "interrupted"
-        self.is_woken |= end != "ok"
+        end = command.end() or INTERRUPTED
+        self.is_woken |= not end.is_ok
         tried = command.group, command.job.key, command.tried
         began = None if command.is_adopted else command.began
         self.log.add(iter([(tried, line_of(began, command.took, end, command.job.command))]))
 
-    def reopen(self, name: Name, end: str) -> None:
+    def reopen(self, name: Name, end: End) -> None:
         """A command that failed may be tried again; one that failed for good may decide about
         others."""
-        if end == "ok" or name not in self.places:
+        if end.is_ok or name not in self.places:
             return
         job = self.jobs.all[name]
         if self.jobs.stops(name[0]):
             self.is_stale = True  # (another command may have failed while this one lingered)
-        elif self.facts.failures[name] <= job.retries and not end.startswith(CANCELED):
+        elif self.facts.failures[name] <= job.retries and not end.is_canceled:
             bisect.insort(self.open, self.places[name])
         elif self.jobs.matters(name):
             self.is_stale = True
@@ -608,13 +608,13 @@ class Driver:
             if command.has_begun and not command.poll(self.grace) and (
                     command.status is None or command.is_asked_for):
                 if command.is_overdue():
-                    self.stop(command, f"timeout {command.job.timeout_said}")
+                    self.stop(command, failed(f"timeout {command.job.timeout_said}"))
                 self.press_one(command)
         for left in self.left:
             if left.is_orphaned and left.elsewhere:
                 left.clear_here()
             elif left.is_orphaned or left.is_overdue():
-                self.stop(left, "")
+                self.stop(left, None)
             self.press_one(left)
 
     def press_one(self, it: Running) -> None:
@@ -624,12 +624,12 @@ class Driver:
                 and scope.deadline <= time.time():
             cause = self.book.said.get(it.name[0], PASSED)
         if cause is not None:
-            self.stop(it, text_of(f"{CANCELED}{cause}"))
+            self.stop(it, canceled(cause))
         elif self.asked_to_end > 1:
-            self.stop(it, "")
+            self.stop(it, None)
         it.press(self.grace)
 
-    def stop(self, it: Running, why: str) -> None:
+    def stop(self, it: Running, why: End | None) -> None:
         """Asks a command to end, once, and has a later driver know it."""
         if it.stopped is None and it.is_here:
             sign_stop(self.pids, it.pid)
@@ -755,9 +755,9 @@ class Driver:
         if not CLEAR:
             return
         ends = self.facts.ends
-        failed = sum(it != "ok" for it in ends.values())
+        bad = sum(not it.is_ok for it in ends.values())
         text = (f"{len(ends)} of {len(self.jobs.all)} done, {len(self.commands)} running,"
-                f" {failed} failed")
+                f" {bad} failed")
         with contextlib.suppress(OSError):
             columns = os.get_terminal_size(sys.stderr.fileno()).columns
             text = text[:columns - 1] if columns > 1 else text

@@ -12,6 +12,7 @@ from collections.abc import Iterable
 from dataclasses import replace
 
 from . import Fault, base_of, named
+from .ends import WITHDRAWN
 from .facts import Book
 from .files import Files
 from .jobs import Jobs
@@ -19,7 +20,7 @@ from .night import (ALREADY_DONE, CLOCK_NOT_FORWARD, FULL, LIMIT_WHILE_ACTIVE, N
                     NOTHING_READY,
                     WAITED, Session, ran, refusal)
 from .settings import OF_ALL, Deadline
-from .state import FRESH, JOB, WITHDRAWN, Scope, State, read_state
+from .state import FRESH, JOB, Scope, State, read_state
 
 MOST_BUSY = 100
 
@@ -61,13 +62,13 @@ def withdraw(session: Session, state: State) -> None:
         numbers = [it.split()[1] for it in replies if it.startswith("start ")]
         if not numbers:
             raise Fault(f"{left} tasks of the store can't be started: a group has the limit 0")
-        session.ask([f"finish {it} error {WITHDRAWN}" for it in numbers])
+        session.ask([f"finish {it} {WITHDRAWN.words}" for it in numbers])
         left -= len(numbers)
 
 
 def withdrawn(state: State) -> State:
     """The state after that."""
-    tasks = tuple(replace(it, phase="error", error=WITHDRAWN) if it.phase in FRESH else it
+    tasks = tuple(replace(it, phase="error", error=WITHDRAWN.text) if it.phase in FRESH else it
                   for it in state.tasks)
     return replace(state, tasks=tasks)
 

@@ -5,7 +5,7 @@
 so many events as the store had at least when it was written, which night it was, the greatest round
 that a name had, and how many lines follow. Each of these is one of
 
-    GROUP KEY END              END is `ok`, or an error's text
+    GROUP KEY END              END is the text of an end (`ends`)
     : GROUP CAUSE              the group's scope was done, and is gone, too
     : GROUP                    a name that was had, and that nothing else here has
     + GROUP KEY N              how often a command had failed, by its group in the file of commands
@@ -22,6 +22,7 @@ from collections.abc import Iterable
 from dataclasses import dataclass, field
 
 from . import Fault, Name, base_of, round_of
+from .ends import End, read_end
 from .files import sync_folder
 from .regular import read_regular
 
@@ -39,7 +40,7 @@ class Past:
     events: int = 0
     night: int = 1
     round: int = 0
-    ends: list[tuple[str, str, str]] = field(default_factory=list)
+    ends: list[tuple[str, str, End]] = field(default_factory=list)
     done: dict[str, str] = field(default_factory=dict)
     had: list[str] = field(default_factory=list)
     failures: dict[Name, int] = field(default_factory=dict)
@@ -73,7 +74,7 @@ def read_past(path: str, shown: str) -> Past:
     past = Past(int(head[1]), int(head[2] or 1), int(head[3] or 1))
     for number, line in enumerate(lines[1:-1], 2):
         if found := LINE.fullmatch(line):
-            past.ends.append((found[1], found[2], found[3]))
+            past.ends.append((found[1], found[2], read_end(found[3])))
         elif (found := NAMED.fullmatch(line)) and found[2]:
             past.done[found[1]] = found[2]
         elif found:
@@ -93,7 +94,7 @@ def write_past(path: str, past: Past) -> None:
                    f" lines {sum(map(len, (past.done, past.had, past.ends, past.failures)))}\n")
         file.writelines(f": {group} {cause}\n" for group, cause in past.done.items())
         file.writelines(f": {group}\n" for group in past.had)
-        file.writelines(f"{group} {key} {end}\n" for group, key, end in past.ends)
+        file.writelines(f"{group} {key} {end.text}\n" for group, key, end in past.ends)
         file.writelines(f"+ {group} {key} {it}\n" for (group, key), it in past.failures.items())
         file.flush()
         os.fsync(file.fileno())

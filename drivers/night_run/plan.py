@@ -6,7 +6,8 @@ from collections.abc import Iterable
 from dataclasses import dataclass
 
 from . import Name
-from .facts import CANCELED, Facts
+from .ends import canceled
+from .facts import Facts
 from .jobs import Job, Jobs
 
 # How a command stands. The last two are for now.
@@ -64,8 +65,8 @@ def first_failures(jobs: Jobs, facts: Facts) -> dict[str, Name]:
 def has_failed(job: Job, facts: Facts) -> bool:
     """Whether a command that has ended has failed for good."""
     end = facts.ends[job.name]
-    return end != "ok" and (end.startswith(CANCELED) or job.group in facts.done
-                            or facts.failures.get(job.name, 0) > job.retries)
+    return not end.is_ok and (end.is_canceled or job.group in facts.done
+                              or facts.failures.get(job.name, 0) > job.retries)
 
 
 def standing(job: Job, facts: Facts, failed: dict[str, Name], found: dict[Name, Standing],
@@ -74,13 +75,13 @@ def standing(job: Job, facts: Facts, failed: dict[str, Name], found: dict[Name, 
     name, end = job.name, facts.ends.get(job.name)
     if name in facts.busy:
         return Standing(RUNNING)
-    if end == "ok":
+    if end is not None and end.is_ok:
         return Standing(OK)
     stopped = failed.get(job.group)
     if end is not None and (stopped or has_failed(job, facts)):
-        return Standing(CANCELLED if end.startswith(CANCELED) else FAILED, end)
+        return Standing(CANCELLED if end.is_canceled else FAILED, end.text)
     if job.group in facts.done:
-        return Standing(CANCELLED, CANCELED + facts.done[job.group])
+        return Standing(CANCELLED, canceled(facts.done[job.group]).text)
     if stopped:
         return Standing(NEVER, f"{stopped[0]} {stopped[1]} failed, and the group stops on failure")
     for it in job.after:
@@ -90,7 +91,7 @@ def standing(job: Job, facts: Facts, failed: dict[str, Name], found: dict[Name, 
             whose = "" if isinstance(it, tuple) else f" by {'/'.join(other[1])}"
             return Standing(NEVER, f"after {said}, which {other[0]}{whose}")
     if end is not None:
-        return Standing(WAITING, end)
+        return Standing(WAITING, end.text)
     return Standing(INTERRUPTED if name in facts.interrupted else WAITING)
 
 
@@ -107,7 +108,7 @@ def group_standing(names: Iterable[Name], found: dict[Name, Standing]) -> tuple[
 def is_met(jobs: Jobs, facts: Facts, need: Name | str) -> bool:
     """Whether what a command waits for is ok."""
     names = jobs.members[need] if isinstance(need, str) else (need,)
-    return all(facts.ends.get(it) == "ok" and it not in facts.busy for it in names)
+    return all(facts.is_ok(it) and it not in facts.busy for it in names)
 
 
 def may_begin(jobs: Jobs, facts: Facts, left: Iterable[Name], places: int, now: float) -> Next:

@@ -14,6 +14,7 @@ import time
 from collections.abc import Callable, Mapping
 
 from . import Fault, Name, base_of, named
+from .ends import End
 from .facts import Book, book_of, facts_of, numbered
 from .files import Files, sync_folder
 from .jobs import Jobs
@@ -56,8 +57,8 @@ def keep(files: Files, log: Log, past: Past, jobs: Jobs, state: State, events: i
     """Keeps how each command of the night has ended."""
     night = max(state.night(), past.night)
     book = book_of(state, past, night)
-    log.add((tried, line_of(None, None, task.end(), text(jobs, task.name)))
-            for task, tried in numbered(state) if task.end() and not task.is_withdrawn)
+    log.add((tried, line_of(None, None, task.end, text(jobs, task.name)))
+            for task, tried in numbered(state) if task.end and not task.is_withdrawn)
     log.sync()
     ends = ends_of(past if past.night == night else Past(), state, book)
     made = Past(events, night, max([past.round, *book.rounds.values()], default=1),
@@ -74,12 +75,12 @@ def text(jobs: Jobs, name: Name) -> str:
     return jobs.all[name].command if name in jobs.all else "-"
 
 
-def ends_of(past: Past, state: State, book: Book) -> dict[Name, tuple[str, str, str]]:
+def ends_of(past: Past, state: State, book: Book) -> dict[Name, tuple[str, str, End]]:
     """The last end of each command of the night; none of one that was interrupted then."""
     last = {(base_of(group), key): (group, key, end) for group, key, end in past.ends}
     for name, task in book.last.items():
-        if task.phase in ENDED:
-            last[name] = task.group, task.key, task.end()
+        if task.end and task.phase in ENDED:
+            last[name] = task.group, task.key, task.end
         else:
             last.pop(name, None)
     return last

@@ -11,6 +11,7 @@ import time
 import unicodedata
 from collections.abc import Iterable
 
+from .ends import read_end
 from .rows import OF_ALL, PHASES, Group, Report, Row, Try
 
 # A line of somebody else's that is longer is cut.
@@ -107,9 +108,7 @@ def why_done(group: Group) -> list[str]:
 
 def kind_of(it: Try) -> str:
     """The phase that a try's end stands for."""
-    if it.end.startswith("canceled"):
-        return "canceled"
-    return {"": "running", "ok": "ok", "interrupted": "interrupted"}.get(it.end, "failed")
+    return read_end(it.end).kind.value if it.end else "running"
 
 
 def end_of(it: Try) -> float | None:

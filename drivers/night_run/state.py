@@ -17,11 +17,10 @@ from dataclasses import dataclass, replace
 from typing import Any
 
 from . import Fault, Name, base_of, round_of
+from .ends import INTERRUPTED, OK, WITHDRAWN, End, Kind, failed, read_end
 from .settings import OF_ALL
 
 JOB = "sh"
-# The error of a task that was submitted and is not begun: it counts as if it weren't there.
-WITHDRAWN = "withdrawn"
 ENDED, FRESH = ("success", "error"), ("held", "ready")
 
 
@@ -63,13 +62,16 @@ class Task:
 
     @property
     def is_withdrawn(self) -> bool:
-        return self.phase == "error" and self.error == WITHDRAWN
+        return self.end is WITHDRAWN
 
-    def end(self) -> str:
-        """How it ended, as the log says it; empty where it hasn't."""
-        if self.phase in ENDED:
-            return self.error or "ok"
-        return "interrupted" if self.phase == "interrupted" else ""
+    @functools.cached_property
+    def end(self) -> End | None:
+        """How it ended; None where it hasn't."""
+        if self.phase == "error":
+            made = read_end(self.error or "")
+            # (an older driver stored what `ask` printed as it was)
+            return failed(self.error or "") if made.kind in (Kind.OK, Kind.INTERRUPTED) else made
+        return {"success": OK, "interrupted": INTERRUPTED}.get(self.phase)
 
 
 @dataclass(frozen=True)

@@ -7,7 +7,7 @@ import os
 import subprocess
 from collections.abc import Mapping
 
-from . import Name, rows
+from . import Name, base_of, rows
 from .commands import SHELL
 from .files import Files
 from .jobs import Jobs
@@ -54,8 +54,8 @@ def printable(line: str) -> str:
 
 def changed(jobs: Jobs, report: rows.Report, lines: Mapping[Tried, Line]) -> list[str]:
     """The commands whose text is another one than that which ended ok."""
-    had = {(group.partition("--")[0], key): line.command
-           for (group, key, _), line in lines.items() if line.end == "ok" and line.command != "-"}
+    had = {(base_of(group), key): line.command
+           for (group, key, _), line in lines.items() if line.end.is_ok and line.command != "-"}
     return [f"{it.group} {it.key}: its command has changed since it ended; --again runs it"
             for it in report.rows if it.phase == OK
             and had.get((it.group, it.key), None) not in (None, text_of_line(it.command))]

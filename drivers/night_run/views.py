@@ -8,6 +8,7 @@ from collections.abc import Mapping
 from dataclasses import dataclass, replace
 
 from . import Name, base_of, rows
+from .ends import INTERRUPTED
 from .facts import Book, Facts, book_of, facts_of, numbered
 from .files import Files
 from .jobs import Jobs
@@ -125,11 +126,12 @@ def tries_of(view: View) -> dict[Name, list[tuple[str, rows.Try]]]:
     for tried, line in view.lines.items():
         if tried[0] in gone or tried[0] in ours:
             seen.add(tried)
-            add_try(found, tried, line.began_at(), line.took(), line.end)
+            add_try(found, tried, line.began_at(), line.took(), line.end.text)
     for task, tried in numbered(view.state):
         if task.group in ours and not task.is_withdrawn and tried not in seen:
             is_running = task.phase == "running" and task.name in view.facts.busy
-            add_try(found, tried, None, None, "" if is_running else task.end() or "interrupted")
+            end = "" if is_running else (task.end or INTERRUPTED).text
+            add_try(found, tried, None, None, end)
     return found
 
 

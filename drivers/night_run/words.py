@@ -16,7 +16,7 @@ import re
 import time
 
 from . import Fault, Mistake, Name, base_of, cancels, rows, telling
-from .commands import text_of
+from .ends import text_of
 from .facts import Book, Facts, book_of, facts_of, when_ended
 from .files import Files
 from .jobs import Jobs
