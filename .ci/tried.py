@@ -1,0 +1,137 @@
+"""The mutants of a repository, the text that each stands on, and the file that says over which text
+each was last refused.
+
+A mutant is a file crates/NAME/mutants/WHAT.edit. It stands on its own bytes, and on its crate and
+all below it: their lines of crates.txt, and each file of src/, specs/ and proofs/.
+"""
+import hashlib
+import os
+import re
+from collections.abc import Iterable, Iterator, Mapping
+from typing import NamedTuple
+
+FILE = ".ci/mutants.tried"
+HEAD = ("# .ci/mutants alone writes this file: each mutant that the prover refused, after the sum of"
+        " the text\n# that it stood on; last the sum of these lines.\n")
+PARTS = ("src", "specs", "proofs")
+
+
+class NotBelieved(Exception):
+    """The file claims what it can't show."""
+
+
+class Mutant(NamedTuple):
+    crate: str
+    name: str
+
+    def path(self, folder: str = "mutants") -> str:
+        """Returns where it stands, or stood in another folder of its crate."""
+        return f"crates/{self.crate}/{folder}/{self.name}.edit"
+
+    def __str__(self) -> str:
+        return f"{self.crate}/{self.name}"
+
+
+class Text:
+    """The crates of a repository whose top is a folder, and what stands in them."""
+
+    def __init__(self, top: str) -> None:
+        self.top, self.lines = top, dict[str, str]()
+        with open(f"{top}/crates.txt", encoding="utf-8") as file:
+            for line in file:
+                if found := re.match(r"(\w+)[^:#]*:", line):
+                    self.lines[found[1]] = line.partition("#")[0].strip()
+        self.sums: dict[str, bytes] = {}
+
+    def mutants(self) -> list[Mutant]:
+        """Returns every mutant, those of crates that crates.txt doesn't list, too."""
+        found = []
+        for crate in sorted(os.listdir(f"{self.top}/crates")):
+            folder = f"{self.top}/crates/{crate}/mutants"
+            names = os.listdir(folder) if os.path.isdir(folder) else []
+            found += [Mutant(crate, it.removesuffix(".edit")) for it in sorted(names)
+                      if it.endswith(".edit")]
+        return found
+
+    def closure(self, crate: str) -> list[str]:
+        """Returns the names of a crate and of all below it, each after those that it stands on."""
+        found: list[str] = []
+        for name in self.lines[crate].partition(":")[2].split():
+            if name in self.lines:
+                found += [it for it in self.closure(name) if it not in found]
+        return [*found, crate]
+
+    def sum_of(self, mutant: Mutant, folder: str = "mutants") -> str:
+        """Returns the sum of all that a mutant stands on."""
+        whole = hashlib.sha256()
+        for crate in sorted(self.closure(mutant.crate)):
+            whole.update(self.sum_of_crate(crate))
+        with open(f"{self.top}/{mutant.path(folder)}", "rb") as file:
+            whole.update(file.read())
+        return whole.hexdigest()[:32]
+
+    def sum_of_crate(self, crate: str) -> bytes:
+        """Returns the sum of a crate's own text."""
+        if crate not in self.sums:
+            whole = hashlib.sha256(repr(self.lines[crate]).encode())
+            for path in files_below(f"{self.top}/crates/{crate}"):
+                with open(f"{self.top}/crates/{crate}/{path}", "rb") as file:
+                    whole.update(repr((path, file.read())).encode())
+            self.sums[crate] = whole.digest()
+        return self.sums[crate]
+
+
+def files_below(folder: str) -> Iterator[str]:
+    """Yields each file of a crate that a check of it may read, by its path in the crate."""
+    for part in PARTS:
+        for at, folders, names in os.walk(f"{folder}/{part}"):
+            folders.sort()
+            yield from (os.path.relpath(f"{at}/{it}", folder) for it in sorted(names))
+
+
+def sum_of_lines(text: str) -> str:
+    return hashlib.sha256(text.encode()).hexdigest()[:32]
+
+
+def read(top: str) -> dict[Mutant, str]:
+    """Returns the sum of each mutant that the file names; none where there is no file."""
+    try:
+        with open(f"{top}/{FILE}", encoding="utf-8") as file:
+            text = file.read()
+    except FileNotFoundError:
+        return {}
+    *lines, last = text.removeprefix(HEAD).splitlines(keepends=True) or [""]
+    if not text.startswith(HEAD) or last != f"{sum_of_lines(''.join(lines))}\n":
+        raise NotBelieved(f"{FILE}: it isn't as .ci/mutants wrote it (its last line is the sum of"
+                          " those before): take it from one commit whole")
+    rows: dict[Mutant, str] = {}
+    for number, line in enumerate(lines, HEAD.count("\n") + 1):
+        found = re.fullmatch(r"([0-9a-f]{32}) (\w+)/([\w.-]+)\n", line)
+        if not found or Mutant(found[2], found[3]) in rows:
+            raise NotBelieved(f"{FILE}:{number}: no row, or the second of a mutant: {line.strip()}")
+        rows[Mutant(found[2], found[3])] = found[1]
+    return rows
+
+
+def write(top: str, rows: Mapping[Mutant, str]) -> None:
+    """Writes the file anew, with these rows."""
+    text = "".join(f"{rows[it]} {it}\n" for it in sorted(rows))
+    with open(f"{top}/{FILE}.new", "w", encoding="utf-8") as file:
+        file.write(f"{HEAD}{text}{sum_of_lines(text)}\n")
+    os.replace(f"{top}/{FILE}.new", f"{top}/{FILE}")
+
+
+def lost(text: Text, rows: Iterable[Mutant]) -> list[str]:
+    """Returns what is claimed of mutants that aren't there."""
+    return [f"{FILE}: there is no {it.path()}" for it in sorted(set(rows) - set(text.mutants()))]
+
+
+def unlisted(text: Text) -> list[str]:
+    """Returns which mutants are of no crate, so that nothing would try them."""
+    return [f"{it.path()}: crates.txt has no crate {it.crate}" for it in text.mutants()
+            if it.crate not in text.lines]
+
+
+def changed(text: Text, rows: Mapping[Mutant, str]) -> list[Mutant]:
+    """Returns the mutants that were never refused over the text that they stand on."""
+    return [it for it in text.mutants() if rows.get(it) != text.sum_of(it)]
