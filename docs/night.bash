@@ -57,7 +57,7 @@ _night_run() {
     COMPREPLY=()
     case $before in
         -j | --grace) return ;;
-        --on-failure)
+        --on-begin | --on-success | --on-failure)
             mapfile -t COMPREPLY < <(compgen -c -- "$current" | sort -u)
             return ;;
         --report)
@@ -72,8 +72,9 @@ _night_run() {
     esac
     if [[ $current == -* ]]; then
         mapfile -t COMPREPLY < <(
-            compgen -W "-j --grace --failed --again --nightly --quiet --on-failure --list --json \
-                --dry-run --report --cancel --version --help" -- "$current")
+            compgen -W "-j --grace --failed --again --nightly --resume --quiet --on-begin \
+                --on-success --on-failure --list --json --dry-run --report --cancel --version \
+                --help" -- "$current")
     else
         compopt -o filenames 2> /dev/null
         mapfile -t COMPREPLY < <(compgen -f -- "$current")

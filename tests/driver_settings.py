@@ -150,18 +150,20 @@ def limits(tries: Shared) -> None:
 def summaries(tries: Shared) -> None:
     """What a night says at its end, with --quiet too, and what --on-failure is given."""
     kind = "a summary"
-    alarm = "{ echo $NIGHT_FAILED $NIGHT_STORE; cat; } > alarm"
+    alarm = "{ echo $NIGHT_STATUS $NIGHT_FAILED $NIGHT_LEFT $NIGHT_STORE; cat; } > alarm"
     room = Room(tries, ["g a for i in 1 2 3 4 5; do echo line $i; done; exit 3", "g b true"])
     wanted = ("g a: exit 3; s.out/g.a.0\n    line 3\n    line 4\n    line 5\n"
               "2 commands: 1 ok, 1 failed; 2 run now\n")
     tries.is_same(kind, room.path, room.run("s", "JOBS", "--on-failure", alarm), (1, wanted))
     tries.is_same(f"{kind}: the alarm", room.path, room.text("alarm"),
-                  f"1 {os.path.realpath(room.path)}/s\n{wanted}")
-    os.remove(f"{room.path}/alarm")
+                  f"1 1 0 {os.path.realpath(room.path)}/s\n{wanted}")
     status, output = room.run("s", "JOBS", "--quiet", "--on-failure", alarm)
     tries.holds(f"{kind}: nothing to do after a failure", room.path, status == 1
-                and "nothing to do: 2 ended before" in output and "--failed" in output
-                and not room.has("alarm"), (status, output))
+                and "nothing to do: 2 ended before" in output and "--failed" in output,
+                (status, output))
+    tries.is_same(f"{kind}: nothing to do after a failure: the alarm", room.path,
+                  room.text("alarm"), f"1 1 0 {os.path.realpath(room.path)}/s\n{output}")
+    os.remove(f"{room.path}/alarm")
     room.set(["h: within 1h", "g a true", "g b true"])
     found = room.run("s", "JOBS", "--failed", "--quiet", "--on-failure", alarm), room.errors
     tries.is_same(f"{kind}: --quiet where all is well", room.path, (found, room.has("alarm")),
@@ -170,7 +172,7 @@ def summaries(tries: Shared) -> None:
     room.write("s.ended", "nothing of this\n")
     room.script([])
     tries.is_same(f"{kind}: a fault", room.path, room.run("s", "JOBS", "--on-failure", alarm)[0], 3)
-    tries.holds(f"{kind}: a fault: the alarm", room.path, room.text("alarm").startswith("1 ")
+    tries.holds(f"{kind}: a fault: the alarm", room.path, room.text("alarm").startswith("3 0 1 ")
                 and "s.ended" in room.text("alarm"), room.text("alarm"))
 
 

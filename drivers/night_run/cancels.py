@@ -25,12 +25,12 @@ from typing import BinaryIO
 
 from . import base_of
 from .files import Files
-from .processes import Process, lives, this_process
+from .processes import PID, START, Process, lives, this_process
 from .regular import open_regular
 from .telling import note_once
 
-LINE = re.compile(r"(?:(\S{36}|-) ([0-9]+) ([0-9]+) )?([a-z0-9_-]{1,32}) ([ -~]{1,64})")
-ANSWER = re.compile(r": (\S{36}|-) ([0-9]+) ([0-9]+) ([a-z0-9_-]{1,32}) (.+)")
+LINE = re.compile(rf"(?:(\S{{36}}|-) {PID} {START} )?([a-z0-9_-]{{1,32}}) ([ -~]{{1,64}})")
+ANSWER = re.compile(rf": (\S{{36}}|-) {PID} {START} ([a-z0-9_-]{{1,32}}) (.+)")
 NO_GROUP = "-"
 
 

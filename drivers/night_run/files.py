@@ -23,7 +23,7 @@ import stat
 import time
 
 from . import Fault, Mistake
-from .processes import Process, lives, this_process
+from .processes import PID, START, Process, lives, this_process
 from .regular import open_regular, read_regular
 from .telling import note
 
@@ -32,8 +32,8 @@ SIZES = 1_572_864, 6_291_456
 # So many seconds the lock is waited for: while another driver has it, and while a cancel does, as
 # that ends by itself.
 PATIENCE, OF_CANCELS = 3.0, 60.0
-SIZE = re.compile(r"^size ([0-9]+)$", re.M)
-HOLDER = re.compile(r"^process (\S+) ([0-9]+) ([0-9]+)$", re.M)
+SIZE = re.compile(r"^size ([0-9]{1,18})$", re.M)
+HOLDER = re.compile(rf"^process (\S+) {PID} {START}$", re.M)
 A_CANCEL = "a cancel"
 # So many seconds a look at a store may take to sync it.
 LOOK = 0.3

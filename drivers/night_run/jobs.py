@@ -114,7 +114,8 @@ class Jobs:
     def read_words(self, number: int, line: str) -> None:
         if "\0" in line:
             raise Wrong("it has a byte 0, as no text does")
-        words = line.split(None, 2)
+        # (what else is white, as a form feed, is part of a word, and so is told)
+        words = re.split("[ \t]+", line, maxsplit=2)
         if words[0].endswith(":"):
             self.set_group(words[0][:-1], number, line[len(words[0]):])
         elif len(words) > 1 and words[1].endswith(":"):

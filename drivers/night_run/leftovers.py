@@ -23,14 +23,15 @@ from . import Fault, base_of
 from .commands import Running
 from .files import Files, try_lock
 from .jobs import Job, Jobs
-from .processes import Process, age, boot, group_exists, lives, members, signal_group, stat_of
+from .processes import (NO_COMMAND, PID, START, Process, age, boot, group_exists, lives, members,
+                        signal_group, stat_of)
 from .regular import open_regular, read_regular
 from .settings import OF_ALL
 from .telling import note
 
-LINE = re.compile(r"([a-z0-9_-]{1,32}) ([a-z0-9_-]{1,32}) ([0-9]+) (\S+) ([0-9]+) ([0-9]+)")
-STOPPED = re.compile(r"stopped (\S+) ([0-9]+) ([0-9]+)")
-OLD_LINE = re.compile(r"([0-9]+) ([a-z0-9_-]{1,32}) ([a-z0-9_-]{1,32})")
+LINE = re.compile(rf"([a-z0-9_-]{{1,32}}) ([a-z0-9_-]{{1,32}}) ([0-9]{{1,6}}) (\S+) {PID} {START}")
+STOPPED = re.compile(rf"stopped (\S+) {PID} {START}")
+OLD_LINE = re.compile(rf"{PID} ([a-z0-9_-]{{1,32}}) ([a-z0-9_-]{{1,32}})")
 # So many seconds a command may take to write its line, and a `night` to end after its driver has.
 PATIENCE = 10.0
 
@@ -113,6 +114,8 @@ def written(text: str, files: Files, jobs: Jobs) -> Iterator[Leftover]:
         if found := LINE.fullmatch(line):
             group, key = found[1], found[2]
             process = Process(found[4], int(found[5]), int(found[6]))
+            if process.pid <= NO_COMMAND:
+                continue
         elif found := OLD_LINE.fullmatch(line):
             group, key = found[2], found[3]
             olds = set(processes_with(files.out)) if olds is None else olds

@@ -31,9 +31,6 @@ from __future__ import annotations
 import bisect
 import contextlib
 import os
-import select
-import signal
-import sys
 import time
 from collections.abc import Callable, Iterator
 from functools import partial
@@ -56,8 +53,9 @@ from .past import Past
 from .plan import Standing, may_begin, standings
 from .renewal import renew
 from .settings import OF_ALL
+from .signals import Signals
 from .state import ENDED, JOB, State
-from .telling import CLEAR, note, note_once, tell
+from .telling import note, note_once, progress, tell
 
 # So often in a row `night` may end by itself with no end of a command recorded between, ..
 MOST_LOST = 5
@@ -100,7 +98,8 @@ class Driver:
     opened: float  # when that was
 
     def __init__(self, files: Files, jobs: Jobs, log: Log, past: Past, pids: int,
-                 left: list[Leftover], most: int, grace: float) -> None:
+                 left: list[Leftover], most: int, grace: float, signals: Signals) -> None:
+        self.signals = signals
         self.files, self.jobs, self.log, self.past, self.pids = files, jobs, log, past, pids
         self.left, self.most, self.grace = left, most, grace
         self.desk, self.far = Desk(files), Far(files)
@@ -117,7 +116,7 @@ class Driver:
         self.before: State | None = None  # the state that was read before the next opening
         self.ran: dict[Name, Command] = {}  # those whose end was recorded in this run
         self.is_stale = True
-        self.asked_to_end = self.lost = self.busy = 0
+        self.lost = self.busy = 0
         self.is_full = self.cannot_renew = self.is_open = False
         self.missing = ""  # why the store isn't in its place
         self.has_looked = False  # whether `facts` are those of the store
@@ -126,8 +125,7 @@ class Driver:
         self.try_again = 0.0
         self.clock = self.ticked = 0
         self.inherited = dict(os.environ)
-        self.shown = ""
-        self.listen()
+        signals.raises = False
 
     # --- from the first round to the last
 
@@ -151,7 +149,15 @@ class Driver:
                     self.after(ended)
         finally:
             self.cut_off()
-            self.clear()
+            self.let_go()
+            progress.clear()
+
+    def let_go(self) -> None:
+        """Ends a session that a fault left: it has the store's lock."""
+        session: Session | None = getattr(self, "session", None)
+        if session:
+            with contextlib.suppress(NightEnded, OSError, ValueError):
+                session.close()
 
     def after(self, ended: NightEnded) -> None:
         """Decides whether another run of `night` is begun."""
@@ -176,7 +182,7 @@ class Driver:
         """Opens a session, and brings the store to what the file of commands asks for."""
         self.is_open = False
         before, self.before = self.before, None
-        self.session = Session(self.files.path, self.wake, self.meanwhile)
+        self.session = Session(self.files.path, self.signals.wake, self.meanwhile)
         sign_night(self.pids, self.session.it.pid)
         state = ready_state(self.session, self.files, before)
         self.files.keep_in_sight()
@@ -206,8 +212,8 @@ class Driver:
         with contextlib.suppress(NightEnded):
             self.session.close()
         if not self.cannot_renew and not self.is_fruitless:
-            self.past, is_renewed = renew(self.files, self.log, self.past, self.jobs, self.wake,
-                                          self.meanwhile)
+            self.past, is_renewed = renew(self.files, self.log, self.past, self.jobs,
+                                          self.signals.wake, self.meanwhile)
             self.is_full, self.is_fruitless = False, True
             if is_renewed:
                 return
@@ -682,7 +688,7 @@ class Driver:
     def cut_off(self) -> None:
         """Stops what still runs as the driver ends by a fault; what an earlier one left, only where
         a signal asks for that."""
-        is_asked, self.asked_to_end = self.asked_to_end > 1, max(self.asked_to_end, 2)
+        is_asked, self.signals.steps = self.asked_to_end > 1, max(self.asked_to_end, 2)
         self.left = self.left if is_asked else []
         while True:
             for it in [it for it in self.commands.values() if it.poll(self.grace)]:
@@ -702,21 +708,9 @@ class Driver:
 
     # --- signals and the terminal
 
-    def listen(self) -> None:
-        self.wake, wakes = os.pipe()
-        os.set_blocking(self.wake, False)
-        os.set_blocking(wakes, False)
-        self.wakes = wakes
-        signal.set_wakeup_fd(wakes, warn_on_full_buffer=False)
-        signal.signal(signal.SIGCHLD, lambda *_: None)
-        for it, steps in ((signal.SIGINT, 1), (signal.SIGTERM, 2), (signal.SIGHUP, 2)):
-            if signal.getsignal(it) != signal.SIG_IGN:
-                signal.signal(it, partial(self.end_soon, steps))
-
-    def end_soon(self, steps: int, *_: object) -> None:
-        self.asked_to_end += steps
-        if self.asked_to_end == 1:
-            tell("no command is begun any more; once more stops those that run")
+    @property
+    def asked_to_end(self) -> int:
+        return self.signals.steps
 
     def wait(self) -> None:
         """Sleeps until a command ends, a signal comes, the next thing is due, or a second."""
@@ -734,14 +728,10 @@ class Driver:
             moments.append(self.later)
         for it in moments:
             seconds = min(seconds, max(0.0, it - now))
-        poll = select.poll()
-        poll.register(self.wake, select.POLLIN)
-        poll.poll(seconds * 1000)
+        self.signals.wait(seconds)
 
     def drain(self) -> None:
-        with contextlib.suppress(BlockingIOError):
-            while os.read(self.wake, 4096):
-                self.is_woken = True
+        self.is_woken |= self.signals.drain()
 
     def meanwhile(self) -> float:
         """What goes on while `night` is waited for: commands are stopped that are due. How many
@@ -751,21 +741,10 @@ class Driver:
         return HURRY if self.asked_to_end > 1 else 1e9
 
     def show(self) -> None:
-        """A line of progress, on a terminal alone."""
-        if not CLEAR:
+        """A line of progress."""
+        if not progress.is_on:
             return
         ends = self.facts.ends
         bad = sum(not it.is_ok for it in ends.values())
-        text = (f"{len(ends)} of {len(self.jobs.all)} done, {len(self.commands)} running,"
-                f" {bad} failed")
-        with contextlib.suppress(OSError):
-            columns = os.get_terminal_size(sys.stderr.fileno()).columns
-            text = text[:columns - 1] if columns > 1 else text
-        if text != self.shown:
-            self.shown = text
-            with contextlib.suppress(OSError):
-                print(f"{CLEAR}{text}", end="", file=sys.stderr, flush=True)
-
-    def clear(self) -> None:
-        with contextlib.suppress(OSError):
-            print(CLEAR, end="", file=sys.stderr, flush=True)
+        progress.show(f"{len(ends)} of {len(self.jobs.all)} done, {len(self.commands)} running,"
+                      f" {bad} failed")

@@ -10,6 +10,12 @@ from collections.abc import Iterator
 from dataclasses import dataclass
 
 
+# A process, and its start, in a line of a file: no number has more digits.
+PID, START = "([1-9][0-9]{0,6})", "([0-9]{1,20})"
+# These are no command: a signal to their groups goes to the driver's own, and to all there are.
+NO_COMMAND = 1
+
+
 @dataclass(frozen=True)
 class Process:
     boot: str
@@ -75,6 +81,8 @@ def age(it: Process) -> float:
 
 def group_exists(pid: int) -> bool:
     """Whether a process group has a member, a dead one that nobody has waited for, too."""
+    if pid <= NO_COMMAND:
+        return False
     try:
         os.killpg(pid, 0)
     except ProcessLookupError:
@@ -100,5 +108,7 @@ def members(group: int) -> Iterator[Stat]:
 
 
 def signal_group(pid: int, which: signal.Signals) -> None:
+    if pid <= NO_COMMAND:
+        return
     with contextlib.suppress(ProcessLookupError, PermissionError):
         os.killpg(pid, which)

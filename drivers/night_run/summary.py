@@ -3,18 +3,13 @@
 from __future__ import annotations
 
 import collections
-import os
-import subprocess
 from collections.abc import Mapping
 
 from . import Name, base_of, rows
-from .commands import SHELL
-from .files import Files
 from .jobs import Jobs
 from .log import Line, Tried, text_of_line
 from .plan import CANCELLED, FAILED, NEVER, NOT_KNOWN, OK
 from .report_words import commands
-from .telling import tell
 
 # The counts of the last line, in order.
 KINDS = ("ok", "failed", "canceled", "not begun", "left", "not known")
@@ -84,16 +79,8 @@ def failed_count(report: rows.Report) -> int:
     return sum(it.phase in (FAILED, CANCELLED, NEVER) for it in report.rows)
 
 
-def alarm(command: str, files: Files, count: int, text: str) -> None:
-    """Runs the command of --on-failure, with what was printed on its input."""
-    try:
-        subprocess.run([SHELL, "-c", command], input=text.encode("utf-8", "surrogateescape"),
-                       env={**os.environ, "NIGHT_STORE": files.path, "NIGHT_FAILED": str(count)},
-                       check=True)
-    except subprocess.CalledProcessError as error:
-        tell(f"--on-failure: it ended with status {error.returncode}")
-    except OSError as error:
-        tell(f"--on-failure: {error.strerror}")
+def left_count(report: rows.Report) -> int:
+    return sum(it.phase != OK for it in report.rows) - failed_count(report)
 
 
 def names_not_there(jobs: Jobs, left: set[Name]) -> list[Name]:

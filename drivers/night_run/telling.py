@@ -3,12 +3,10 @@
 
 from __future__ import annotations
 
-import contextlib
-import sys
+from .terminal import CLEAR, Progress, Writer
 
-# Takes away the line of progress, which only a terminal gets.
-CLEAR = "\r\x1b[K" if sys.stderr is not None and sys.stderr.isatty() else ""
-
+_writer = Writer(2)
+progress = Progress(_writer)
 _held: list[str] | None = None
 _once: set[str] = set()
 
@@ -28,9 +26,7 @@ def let_go() -> None:
 
 
 def tell(text: object) -> None:
-    # (a standard error that is closed or full ends no night)
-    with contextlib.suppress(OSError, ValueError):
-        print(f"{CLEAR}night-run: {text}", file=sys.stderr, flush=True)
+    _writer.write(f"{CLEAR}night-run: {text}\n")
 
 
 def note(text: str) -> None:
@@ -46,3 +42,8 @@ def note_once(text: str) -> None:
     if text not in _once:
         _once.add(text)
         note(text)
+
+
+def flush() -> None:
+    """Waits a while until all that was told is written."""
+    _writer.flush()

@@ -7,16 +7,18 @@ done; 1 where a command isn't; 2 where the words or the file have to be changed;
 from __future__ import annotations
 
 import argparse
-import contextlib
 import dataclasses
 import errno
 import json
 import os
 import re
+import sys
 import time
+from typing import NoReturn
 
-from . import Fault, Mistake, Name, base_of, cancels, rows, telling
+from . import Fault, Mistake, Name, base_of, cancels, exits, rows, telling
 from .ends import text_of
+from .exits import Hooks, Outcome, hooks_of, outcome_of
 from .facts import Book, Facts, book_of, facts_of, when_ended
 from .files import Files
 from .jobs import Jobs
@@ -29,10 +31,11 @@ from .past import Past, Unreadable, read_past
 from .plan import CANCELLED, FAILED, may_begin, standings
 from .renewal import make, make_anew, renew
 from .settings import OF_ALL
+from .signals import Signals
 from .state import State
-from .summary import (alarm, changed, failed_count, failures, is_well, list_lines,
+from .summary import (changed, failed_count, failures, is_well, left_count, list_lines,
                       names_not_there, nothing_to_do, total)
-from .telling import note, tell
+from .telling import note
 from .version import version
 from .views import View, look, remembered, report, without_past
 
@@ -68,7 +71,8 @@ standard input, and its output in STORE.out/GROUP.KEY.TRY. STORE.log says what r
 and how it ended. Ctrl-C once lets the commands that run end, twice stops them; so does SIGTERM.
 
 The status is 0 where every command of the file is ok (or what was asked for is printed or done),
-1 where one isn't, 2 where the words or the file have to be changed, 3 after a fault.
+1 where one isn't, 2 where the words or the file have to be changed, 3 after a fault. With
+NIGHT_DEBUG=1 in its environment the place of an error that nobody foresaw is shown.
 
   0 22 * * *  night-run /var/backup/store /etc/backup.jobs --nightly --quiet
 
@@ -82,10 +86,28 @@ CANCEL_SECONDS = 60.0
 FORMS = ("html", "text", "prom")
 
 
-def read_words() -> argparse.Namespace:
-    reader = argparse.ArgumentParser(
+# The commands that a night runs as it begins and ends.
+HOOKS = {"--on-begin": "begin", "--on-success": "success", "--on-failure": "failure"}
+# Words with which no night is run.
+LOOKS = ("--list", "--dry-run", "--report", "--cancel", "--help", "-h", "--version")
+
+
+class Unusable(Mistake):
+    """Words that can't be read."""
+
+
+class Reader(argparse.ArgumentParser):
+    """Reads the words of the command line."""
+
+    def error(self, message: str) -> NoReturn:
+        raise Unusable(f"{self.format_usage()}{self.prog}: error: {message}")
+
+
+def read_words(given: list[str]) -> argparse.Namespace:
+    reader = Reader(
         prog="night-run", description=HELP, epilog=FILE, allow_abbrev=False,
-        usage="night-run STORE JOBS [-j N] [--grace S] [--failed | --again | --nightly] [--quiet]\n"
+        usage="night-run STORE JOBS [-j N] [--grace S] [--failed | --again | --nightly | --resume]\n"
+              "                       [--quiet] [--on-begin COMMAND] [--on-success COMMAND]\n"
               "                       [--on-failure COMMAND]\n"
               "       night-run STORE JOBS --list [--json] | --dry-run | --report html|text|prom\n"
               "       night-run STORE --cancel GROUP [WHY..]\n"
@@ -97,16 +119,25 @@ def read_words() -> argparse.Namespace:
                         help="run so many commands at a time, 4 where it is left out")
     reader.add_argument("--grace", type=number, default=10, metavar="SECONDS",
                         help="kill what was asked to end after so many, 10 where it is left out")
-    reader.add_argument("--quiet", action="store_true", help="print nothing where all is well")
-    reader.add_argument("--on-failure", metavar="COMMAND", help="run this once at the end where"
-                        " something failed, with the summary on its standard input and NIGHT_STORE"
-                        " and NIGHT_FAILED, a count, in its environment")
+    reader.add_argument("--quiet", action="store_true",
+                        help="print nothing where all is well; a night that has ended and so runs"
+                        " nothing is said, but for --resume")
+    reader.add_argument("--on-begin", metavar="COMMAND", dest="begin",
+                        help="run this before the commands of the night")
+    reader.add_argument("--on-success", metavar="COMMAND", dest="success",
+                        help="run this at the end of a night in which every command is ok")
+    reader.add_argument("--on-failure", metavar="COMMAND", dest="failure",
+                        help="run this once at an end that is any other, also where nothing ran,"
+                        " with the summary on its standard input and NIGHT_STATUS, NIGHT_FAILED"
+                        " and NIGHT_LEFT (two counts) in its environment, as NIGHT_STORE is")
     what = reader.add_mutually_exclusive_group()
     what.add_argument("--failed", action="store_true",
                       help="run again what failed or was canceled in this night, too")
     what.add_argument("--again", action="store_true", help="begin the next night: all runs anew")
     what.add_argument("--nightly", action="store_true",
                       help="begin the next night where the last one has ended, else resume it")
+    what.add_argument("--resume", action="store_true",
+                      help="run what is left of the night, and else nothing, as after a reboot")
     what.add_argument("--list", action="store_true", help="print what isn't ok, and change nothing")
     what.add_argument("--dry-run", action="store_true",
                       help="print what would be begun, and change nothing")
@@ -116,7 +147,7 @@ def read_words() -> argparse.Namespace:
                       help="cancel a group, or `night`, also while another night-run runs it")
     reader.add_argument("--json", action="store_true", help="with --list: every command, as JSON")
     reader.add_argument("--version", action="version", version=f"night-run {version()}")
-    found = reader.parse_args()
+    found = reader.parse_args(given)
     if not found.cancel and found.jobs is None:
         reader.error("the file JOBS is missing")
     if found.json and not found.list:
@@ -132,21 +163,53 @@ def number(word: str) -> int:
 
 def main() -> int:
     keep_streams_open()
-    words = read_words()
+    given = sys.argv[1:]
     try:
-        return done(words)
-    except Mistake as mistake:
-        tell(mistake)
-        return 2
-    except (Fault, NightEnded) as fault:
-        tell(fault)
-    except NotPrinted as error:
-        tell(f"standard output: {error}")
-    except OSError as error:
-        tell(f"{error.filename}: {error.strerror}" if error.filename else error.strerror)
-    except KeyboardInterrupt:
-        tell("ended before it began")
-    return 3
+        words = read_words(given)
+    except Unusable as mistake:
+        return unusable(given, mistake)
+    if words.list or words.report or words.dry_run or words.cancel:
+        return exits.leave(looked(words), Hooks())
+    signals = Signals()
+    store = os.path.realpath(words.store)
+    hooks = hooks_of({it: getattr(words, name) for it, name in HOOKS.items()}, store, signals)
+    return exits.leave(Run(words, signals, hooks).outcome(), hooks)
+
+
+def unusable(given: list[str], mistake: Unusable) -> int:
+    """Ends a run whose words can't be read; of these the alarm alone counts."""
+    signals = Signals()
+    words = {} if set(given) & set(LOOKS) else {"--on-failure": word_after("--on-failure", given)}
+    hooks = hooks_of(words, "", signals)
+    signals.listen()
+    signals.raises = False
+    hooks.end(Outcome(exits.MISTAKE, (str(mistake),)))
+    sys.stderr.write(f"{mistake}\n")
+    telling.flush()
+    return exits.MISTAKE
+
+
+def word_after(flag: str, given: list[str]) -> str | None:
+    """What stands after a flag, in the same word or the next one."""
+    found = None
+    for word, after in zip(given, [*given[1:], ""]):
+        if word == flag:
+            found = after
+        elif word.startswith(f"{flag}="):
+            found = word.partition("=")[2]
+    return found
+
+
+def looked(words: argparse.Namespace) -> Outcome:
+    """What is asked for besides a night: a list, a report, a cancel."""
+    try:
+        files = Files(words.store)
+        files.look()
+        lines = [cancel(files, *words.cancel)] if words.cancel else \
+            shown(files, Jobs(words.jobs), words)
+        return Outcome(exits.WELL, lines=tuple(lines))
+    except (Exception, KeyboardInterrupt) as error:
+        return outcome_of(error)
 
 
 def keep_streams_open() -> None:
@@ -159,47 +222,20 @@ def keep_streams_open() -> None:
         os.set_inheritable(file, True)
 
 
-class NotPrinted(Exception):
-    """Standard output takes nothing more."""
-
-
-def printed(lines: list[str]) -> None:
-    """Prints lines, whatever bytes a command or an output had."""
-    text = "".join(f"{it}\n" for it in lines).encode("utf-8", "surrogateescape")
-    try:
-        while text:
-            text = text[os.write(1, text):]
-    except OSError as error:
-        raise NotPrinted(error.strerror) from None
-
-
-def done(words: argparse.Namespace) -> int:
-    files = Files(words.store)
-    files.look()
-    if words.cancel:
-        return cancel(files, *words.cancel)
-    jobs = Jobs(words.jobs)
-    if words.list or words.report or words.dry_run:
-        return shown(files, jobs, words)
-    return Run(files, jobs, words).run()
-
-
 # --- what only reads
 
-def shown(files: Files, jobs: Jobs, words: argparse.Namespace) -> int:
+def shown(files: Files, jobs: Jobs, words: argparse.Namespace) -> list[str]:
     view = look(files, jobs)
     made = report(files, jobs, view)
     if words.report:
         from . import report as forms
         form = {"html": forms.html, "text": forms.text, "prom": forms.prom}[words.report]
-        printed([form(made).rstrip("\n")])
-    elif words.dry_run:
-        printed(planned(jobs, view, words.most))
-    elif words.json:
-        printed([json.dumps([as_json(it) for it in made.rows], indent=1)])
-    else:
-        printed(list_lines(made))
-    return 0
+        return [form(made).rstrip("\n")]
+    if words.dry_run:
+        return planned(jobs, view, words.most)
+    if words.json:
+        return [json.dumps([as_json(it) for it in made.rows], indent=1)]
+    return list_lines(made)
 
 
 def as_json(row: rows.Row) -> dict[str, object]:
@@ -224,15 +260,14 @@ def planned(jobs: Jobs, view: View, most: int) -> list[str]:
 
 # --- a cancel
 
-def cancel(files: Files, group: str, *words: str) -> int:
+def cancel(files: Files, group: str, *words: str) -> str:
     """Cancels a group: by the driver where one runs, else by itself."""
     if not files.exists():
         raise Mistake(f"{files.shown}: {os.strerror(errno.ENOENT)}")
     why = " ".join(words) or "canceled by hand"
     if text_of(why) != why:
         raise Mistake("WHY is 1 to 64 bytes of printable ASCII")
-    printed([f"{group}: {cancelled(files, group, why)}"])
-    return 0
+    return f"{group}: {cancelled(files, group, why)}"
 
 
 def cancelled(files: Files, group: str, why: str) -> str:
@@ -287,33 +322,61 @@ def cancel_alone(files: Files, group: str, why: str) -> str:
 class Run:
     """A run over a night, with its words."""
 
-    def __init__(self, files: Files, jobs: Jobs, words: argparse.Namespace) -> None:
-        self.files, self.jobs, self.words = files, jobs, words
-        self.driver: Driver | None = None
+    files: Files
+    jobs: Jobs
 
-    def run(self) -> int:
+    def __init__(self, words: argparse.Namespace, signals: Signals, hooks: Hooks) -> None:
+        self.words, self.signals, self.hooks = words, signals, hooks
+        self.driver: Driver | None = None
+        self.pids = -1
+        self.is_alone = False  # whether it has the locks
+
+    def outcome(self) -> Outcome:
+        """What the run came to. It has let its locks go then."""
+        try:
+            try:
+                self.signals.listen()
+                return self.run()
+            except (Exception, KeyboardInterrupt) as error:
+                self.signals.raises = False
+                return self.broken(error)
+        finally:
+            self.let_go()
+
+    def let_go(self) -> None:
+        if self.pids >= 0:
+            os.close(self.pids)
+        if self.is_alone:
+            self.files.release()
+
+    def run(self) -> Outcome:
         if self.words.quiet:
             telling.hold_back()
+        self.files = Files(self.words.store)
+        self.files.look()
+        self.jobs = Jobs(self.words.jobs)
         program()
         self.jobs.tell_unused()
         if not self.files.exists():
             self.files.look_for_log()
         if not self.files.take():
             raise Fault(f"{self.files.shown}: in use by another night-run")
+        self.is_alone = True
+        return self.run_alone()
+
+    def broken(self, error: BaseException) -> Outcome:
+        """What it came to where this ended it, with what is known of the night."""
+        it = outcome_of(error)
         try:
-            return self.run_alone()
-        except (Fault, NightEnded, OSError) as fault:
-            telling.let_go()
-            made = self.known()
-            ran = len(self.driver.ran) if self.driver else 0
-            lines = [*failures(made), total(made, ran)] if made else []
-            if self.words.on_failure:
-                text = "".join(f"{it}\n" for it in (f"night-run: {fault}", *lines))
-                count = failed_count(made) if made else 0
-                alarm(self.words.on_failure, self.files, max(1, count), text)
-            with contextlib.suppress(NotPrinted):
-                printed(lines)
-            raise
+            made = self.known() if self.is_alone else None
+        except Exception as another:  # (that nobody foresaw either)
+            return dataclasses.replace(it, told=(*it.told, exits.said_of(another)))
+        if made is None:
+            return it
+        ran = len(self.driver.ran) if self.driver else 0
+        return dataclasses.replace(
+            it, lines=(*failures(made), total(made, ran)), failed=failed_count(made),
+            left=left_count(made))
 
     def known(self) -> rows.Report | None:
         """The night after a fault: as the driver knows it, or as the store has it; else None."""
@@ -336,8 +399,8 @@ class Run:
         except (Fault, NightEnded, OSError):
             return None
 
-    def run_alone(self) -> int:
-        pids = open_pids(self.files)
+    def run_alone(self) -> Outcome:
+        pids = self.pids = open_pids(self.files)
         end_night(self.files, pids)
         left = left_commands(self.files, pids, self.jobs)
         for it in left:
@@ -352,10 +415,11 @@ class Run:
         check(self.files, state, self.past.events)
         self.log = Log(self.files.log, self.files.shown)
         driver = Driver(self.files, self.jobs, self.log, self.past, pids, left, self.words.most,
-                        self.words.grace)
+                        self.words.grace, self.signals)
         self.driver = driver
         if not self.prepare(driver, state):
             return self.idle()
+        self.hooks.begin()
         driver.run()
         return self.finish(driver)
 
@@ -408,7 +472,7 @@ class Run:
             self.files.sign()
             return None
         if state.is_nearly_full():
-            driver.past, _ = renew(self.files, self.log, self.past, self.jobs, driver.wake,
+            driver.past, _ = renew(self.files, self.log, self.past, self.jobs, self.signals.wake,
                                    driver.meanwhile)
             return None
         return None if self.files.is_marked() else state
@@ -420,31 +484,25 @@ class Run:
             note(f"{self.jobs.path} lacks {len(its)} commands that are left in"
                  f" {self.files.shown}: {shown}")
 
-    def idle(self) -> int:
+    def idle(self) -> Outcome:
         """Nothing is left to do in this night."""
         made, view = self.view(self.past)
         when = when_ended(view.facts, view.lines, set(self.jobs.all))
-        lines = [*failures(made), *changed(self.jobs, made, view.lines), nothing_to_do(made, when)]
-        return self.printed(lines, made)
+        return self.ended(made, view, nothing_to_do(made, when), has_run=False)
 
-    def finish(self, driver: Driver) -> int:
-        """Prints how the night stands, and runs what is to be run where something failed."""
+    def finish(self, driver: Driver) -> Outcome:
+        """How the night stands after its run."""
         made, view = self.view(driver.past)
-        lines = [*failures(made), *changed(self.jobs, made, view.lines),
-                 total(made, len(driver.ran))]
-        failed = failed_count(made)
-        status = self.printed(lines, made)
-        if failed and self.words.on_failure:
-            alarm(self.words.on_failure, self.files, failed, "".join(f"{it}\n" for it in lines))
-        return status
+        return self.ended(made, view, total(made, len(driver.ran)), has_run=True)
 
     def view(self, past: Past) -> tuple[rows.Report, View]:
         view = look(self.files, self.jobs, past)
         return report(self.files, self.jobs, view), view
 
-    def printed(self, lines: list[str], made: rows.Report) -> int:
-        is_quiet = self.words.quiet and is_well(made)
-        if not is_quiet:
-            telling.let_go()
-            printed(lines)
-        return 0 if is_well(made) else 1
+    def ended(self, made: rows.Report, view: View, last: str, has_run: bool) -> Outcome:
+        lines = (*failures(made), *changed(self.jobs, made, view.lines), last)
+        status = exits.WELL if is_well(made) else exits.NOT_WELL
+        # (a cron job that silently runs nothing is the worst)
+        is_silent = self.words.quiet and status == exits.WELL and (has_run or self.words.resume)
+        return Outcome(status, lines=lines, failed=failed_count(made), left=left_count(made),
+                       has_run=has_run, is_silent=is_silent)

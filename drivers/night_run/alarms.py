@@ -1,0 +1,82 @@
+"""The commands of `--on-begin`, `--on-success` and `--on-failure`. One that takes too long is
+ended, and so is one that runs as a signal asks the driver to end.
+"""
+
+from __future__ import annotations
+
+import contextlib
+import os
+import signal
+import subprocess
+import time
+from collections.abc import Mapping
+
+from .commands import SHELL
+from .processes import signal_group
+from .signals import Signals
+from .telling import tell
+
+# So many seconds such a command has, and from SIGTERM to SIGKILL.
+SECONDS, GRACE = 60.0, 2.0
+# How often one that runs is looked at.
+LOOK = 0.05
+
+
+class Alarm:
+    """A command of the command line, which the shell runs once."""
+
+    def __init__(self, word: str, command: str, signals: Signals) -> None:
+        self.word, self.command, self.signals = word, command, signals
+        self.seconds = SECONDS
+
+    def run(self, text: str, environment: Mapping[str, str]) -> None:
+        """Runs it with this text on its standard input; how it ends is told if it isn't well."""
+        try:
+            file = input_of(text)
+            try:
+                it = subprocess.Popen([SHELL, "-c", self.command], stdin=file,
+                                      env={**os.environ, **environment}, start_new_session=True)
+            finally:
+                os.close(file)
+        except (OSError, ValueError) as error:
+            tell(f"{self.word}: {error.strerror if isinstance(error, OSError) else error}")
+            return
+        why = self.waited_for(it)
+        if why:
+            end(it)
+        elif it.returncode:
+            why = f"it ended with status {it.returncode}" if it.returncode > 0 \
+                else f"signal {-it.returncode} ended it"
+        if why:
+            tell(f"{self.word}: {why}")
+
+    def waited_for(self, it: subprocess.Popen[bytes]) -> str:
+        """Why it has to be ended; empty where it ends by itself."""
+        late, steps = time.monotonic() + self.seconds, self.signals.steps
+        while it.poll() is None:
+            if self.signals.steps > steps:
+                return "it was ended, as a signal asked for"
+            if time.monotonic() >= late:
+                return f"it was ended, since it took {self.seconds:.0f} s"
+            self.signals.drain()
+            self.signals.wait(LOOK)
+        return ""
+
+
+def input_of(text: str) -> int:
+    """A file in memory, as the disk may be full, with this text."""
+    file = os.memfd_create("summary")
+    left = text.encode("utf-8", "surrogateescape")
+    while left:
+        left = left[os.write(file, left):]
+    os.lseek(file, 0, os.SEEK_SET)
+    return file
+
+
+def end(it: subprocess.Popen[bytes]) -> None:
+    """Ends it with its process group."""
+    signal_group(it.pid, signal.SIGTERM)
+    with contextlib.suppress(subprocess.TimeoutExpired):
+        it.wait(GRACE)
+    signal_group(it.pid, signal.SIGKILL)
+    it.wait()

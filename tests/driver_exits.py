@@ -1,0 +1,284 @@
+"""How a night ends that doesn't run or doesn't end well, and what it tells then: strange files,
+alarms, the one exit, signals and terminals."""
+
+from __future__ import annotations
+
+import os
+import re
+import signal
+import subprocess
+import termios
+import time
+
+from driver_cases import small_store
+from driver_kills import RENEWING
+from driver_plan import driver_module
+from driver_room import Room, Shared, environments, job, kill, locked
+from nights_room import copied
+
+# Lines of a file of commands that are white and no empty line: no-break spaces, a form feed, ..
+WHITE = ("\u00a0", "\f", "\v", "\u2003 \u2003", "\x85x", "\x1c")
+A_LINE = "a line is GROUP KEY COMMAND.., or GROUP: and settings"
+LONG = "9" * 5000
+
+
+def white_lines(tries: Shared) -> None:
+    kind = "a line of another white"
+    for line in WHITE:
+        room = Room(tries, [line, "g a true"])
+        tries.is_same(kind, repr(line), (room.run(), room.errors),
+                      ((2, ""), f"night-run: JOBS: line 1: {A_LINE}\n"))
+
+
+def strange_numbers(tries: Shared) -> None:
+    """A number of too many digits, and a process that is no command, count for nothing."""
+    processes = driver_module(tries, "processes")
+    boot, first = processes.boot(), processes.stat_of(1)
+    start = first.start if first else 0
+    for name, line in (
+            ("s.cancel", f"{boot} {LONG} 1 g why"), ("s.cancel", f"{boot} 1 {LONG} g why"),
+            ("s.cancel", f": {boot} {LONG} 1 g done"), ("s.pids", f"g a 0 {boot} {LONG} 1"),
+            ("s.pids", f"g a {LONG} {boot} 1 1"), ("s.pids", f"g a 0 {boot} 4294967297 1"),
+            ("s.pids", f"stopped {boot} {LONG} 1"), ("s.pids", f"{LONG} g a"),
+            ("s.pids", f"g a 0 {boot} 0 0"), ("s.pids", f"g a 0 {boot} 1 {start}"),
+            ("s.pids", f"night script 0 {boot} {LONG} 1"),
+            ("s.lock", f"process {boot} {LONG} 1\nsize {LONG}")):
+        kind, room = f"a strange number in {name}", Room(tries, ["g a true"])
+        room.write(name, f"{line}\n")
+        what = line.replace(LONG, "9..").replace(boot, "BOOT")
+        found = room.run(seconds=20)
+        tries.is_same(kind, what, (found, "Traceback" in room.errors),
+                      ((0, "1 command: 1 ok; 1 run now\n"), False))
+        room.write(name, f"{line}\n")
+        tries.is_same(f"{kind}: listed", what, room.run("s", "JOBS", "--list"), (0, ""))
+
+
+# --- alarms
+
+# What a night runs as it ends: a line, and its input.
+ALARM = ("echo $NIGHT_STATUS $NIGHT_FAILED $NIGHT_LEFT $NIGHT_STORE >> alarm; cat > told;"
+         " [ ! -e out ] || wc -c < out > printed")
+
+
+def alarmed(room: Room) -> list[list[str]]:
+    """Of each time the alarm was run the status and the two counts."""
+    return [it.split()[:3] for it in room.lines("alarm")]
+
+
+def nothing_runs(tries: Shared) -> None:
+    """Whatever keeps a night from running is told by the alarm, once."""
+    kind = "an alarm where nothing runs"
+    good, twice = ["g a true"], ["g a true", "g a true"]
+    for what, jobs, words, status, why in (
+            ("a mistake", twice, ("s", "JOBS"), 2, "JOBS: line 2: the key a of g stands twice"),
+            ("no file", good, ("s", "gone", "--nightly"), 2, "gone: No such file or directory"),
+            ("no store", good, ("JOBS", "JOBS"), 2, "JOBS: it has 9 bytes, and so is no store"),
+            ("a store that is gone", good, ("s", "JOBS"), 3, "s is not there, and s.log is"),
+            ("a held lock", good, ("s", "JOBS"), 3, "s: in use by another night-run"),
+            ("no night", good, ("s", "JOBS"), 3, "NIGHT names no program: ./missing"),
+            ("a misspelled option", good, ("s", "JOBS", "--nigthly"), 2, "--nigthly"),
+            ("a bad number", good, ("s", "JOBS", "-j", "many"), 2, "'many' is not a number")):
+        room = Room(tries, jobs)
+        if what == "a store that is gone":
+            room.write("s.log", "")
+        night = "./missing" if what == "no night" else ""
+        with locked(f"{room.path}/s.lock" if what == "a held lock" else os.devnull):
+            found = room.run(*words, "--quiet", "--on-failure", ALARM, night=night)
+        tries.is_same(kind, what, (found, alarmed(room)), ((status, ""), [[str(status), "0", "0"]]))
+        tries.holds(f"{kind}: why", what, why in room.text("told") and why in room.errors,
+                    (room.text("told"), room.errors))
+    room = Room(tries, good)
+    tries.is_same(f"{kind}: no list is a night", room.path, (
+        room.run("s", "gone", "--list", "--on-failure", ALARM)[0], room.has("alarm")), (2, False))
+
+
+def not_printed(tries: Shared) -> None:
+    """A standard output that is full keeps no alarm from being raised, and is a reason for one."""
+    kind = "an alarm over a full standard output"
+    for what, jobs, counts in (("a failure", ["g a false"], ["1", "1", "0"]),
+                               ("all is well", ["g a true"], ["3", "0", "0"])):
+        room = Room(tries, jobs)
+        with open("/dev/full", "w", encoding="ascii") as full:
+            run = room.start("s", "JOBS", "--on-failure", ALARM, "--on-success", "touch success",
+                             stdout=full)
+            run.wait(timeout=60)
+        tries.is_same(kind, what, (run.returncode, alarmed(room), room.has("success"),
+                                   room.text("errors")),
+                      (3, [counts], False,
+                       "night-run: standard output: No space left on device\n"))
+    kind = "an alarm comes first"
+    room = Room(tries, ["g a false"])
+    with open(f"{room.path}/out", "w", encoding="ascii") as file:
+        room.start("s", "JOBS", "--on-failure", ALARM, stdout=file).wait(timeout=60)
+    tries.is_same(kind, room.path, (room.text("printed"), room.text("told")),
+                  ("0\n", room.text("out")))
+
+
+def left(tries: Shared) -> None:
+    """Commands that are left are told, too: by a store that is full, and after a signal."""
+    kind = "an alarm where commands are left"
+    room = Room(tries, [f"g k{it} true" for it in range(8)])
+    small_store(room)
+    tries.is_same(f"{kind}: made", room.path, room.script([
+        "derive night root cause", "derive f night cause", "bare f f",
+        *(f"go f sh k{it}" for it in range(2044)), *(["start"] * 2044),
+        *(f"finish {it} ok" for it in range(2044))]), "")
+    room.night = room.program("between", RENEWING.format(night=tries.program, what="fails", at=0))
+    status, last = room.last("s", "JOBS", "--on-failure", ALARM)
+    said = re.fullmatch(r"8 commands: \d ok, (\d) left; \d run now", last)
+    tries.is_same(f"{kind}: a full store", room.path, (status, alarmed(room)),
+                  (1, [["1", "0", said[1] if said else last]]))
+    for what, which, counts in (("SIGTERM", signal.SIGTERM, ["1", "0", "2"]),
+                                ("Ctrl-C", signal.SIGINT, ["1", "0", "1"])):
+        room = Room(tries, [job("g", "a", 1), job("g", "b")])
+        run = room.start("s", "JOBS", "-j", "1", "--on-failure", ALARM, "--quiet")
+        room.until(lambda: room.lines("begun"))
+        kill([run.pid], which=which)
+        found = room.ended(run)
+        tries.is_same(f"{kind}: {what}", room.path, (found[0], alarmed(room), found[1]),
+                      (1, [counts], room.text("told")))
+    room = Room(tries, [job("g", "a")])
+    with locked(f"{room.path}/s.lock"):
+        run = room.start("s", "JOBS", "--on-failure", ALARM)
+        room.until(lambda: room.has("s.lock"))
+        time.sleep(1)
+        began = time.monotonic()
+        kill([run.pid], which=signal.SIGTERM)
+        found = room.ended(run)
+    tries.is_same(f"{kind}: before it began", room.path, (found, room.errors, alarmed(room)), (
+        (3, ""), "night-run: ended before it began\n", [["3", "0", "0"]]))
+    tries.holds(f"{kind}: at once", room.path, time.monotonic() < began + 2)
+
+
+def hung_alarm(tries: Shared) -> None:
+    """An alarm that hangs keeps neither the store nor a signal waiting, and has its time."""
+    kind = "an alarm that hangs"
+    room = Room(tries, ["g a [ -e well ]"])
+    run = room.start("s", "JOBS", "--on-failure", "trap '' TERM; touch hangs; sleep 71; sleep 72")
+    tries.holds(f"{kind}: it does", room.path, room.until(lambda: room.has("hangs")))
+    room.write("well", "")
+    tries.is_same(f"{kind}: the next night", room.path, room.last(
+        "s", "JOBS", "--nightly", errors="errors2"), (0, "1 command: 1 ok; 1 run now"))
+    began = time.monotonic()
+    kill([run.pid], which=signal.SIGTERM)
+    found, took = room.ended(run)[0], time.monotonic() - began
+    tries.is_same(f"{kind}: a signal ends it", room.path, (found, took < 10, room.errors), (
+        1, True, "night-run: --on-failure: it was ended, as a signal asked for\n"))
+    tries.is_same(f"{kind}: nothing is left of it", room.path,
+                  [it for it in environments(room.path) if "sleep\x007" in it], [])
+    alarms, told = driver_module(tries, "alarms"), list[str]()
+    made = alarms.Alarm("--on-failure", f"cd {room.path}; cat > input; exec sleep 73",
+                        driver_module(tries, "signals").Signals())
+    made.seconds, real, alarms.tell = 0.5, alarms.tell, told.append
+    began = time.monotonic()
+    made.run("x" * 100_000, {})
+    took = time.monotonic() - began
+    tries.is_same(f"{kind}: its time", room.path, (took < 5, told, len(room.text("input"))),
+                  (True, ["--on-failure: it was ended, since it took 0 s"], 100_000))
+    for command, why in (("exit 7", "it ended with status 7"), ("kill -9 $$", "signal 9 ended it"),
+                         ("true < /dev/null", "")):
+        told.clear()
+        made = alarms.Alarm("--on-begin", command, made.signals)
+        made.run("", {})
+        tries.is_same("an alarm that fails is told", command, told,
+                      [f"--on-begin: {why}"] if why else [])
+    alarms.tell = real
+
+
+def begin_and_success(tries: Shared) -> None:
+    """--on-begin and --on-success are run by a night that had something to do."""
+    kind = "the begin and the success of a night"
+    hooks = ("--on-begin", "echo begin >> hooks", "--on-success",
+             "echo $NIGHT_STATUS $NIGHT_FAILED $NIGHT_LEFT >> hooks; cat >> hooks; exit 5",
+             "--on-failure", "echo failure >> hooks")
+    room = Room(tries, ["g a echo command >> hooks; [ -e well ]"])
+    tries.is_same(f"{kind}: a failure", room.path, (room.run("s", "JOBS", *hooks)[0],
+                                                    room.lines("hooks")),
+                  (1, ["begin", "command", "failure"]))
+    room.write("well", "")
+    os.remove(f"{room.path}/hooks")
+    found = room.run("s", "JOBS", "--nightly", "--quiet", *hooks)
+    tries.is_same(kind, room.path, (found, room.lines("hooks"), room.errors), (
+        (0, ""), ["begin", "command", "0 0 0", "1 command: 1 ok; 1 run now"],
+        "night-run: --on-success: it ended with status 5\n"))
+    os.remove(f"{room.path}/hooks")
+    for words in ((), ("--resume",), ("--quiet",), ("--quiet", "--resume")):
+        status, output = room.run("s", "JOBS", *words, *hooks)
+        tries.is_same(f"{kind}: nothing to do", words, (status, room.has("hooks"), bool(output)),
+                      (0, False, words != ("--quiet", "--resume")))
+
+
+SAID = ("night-run: an error that nobody foresaw: ZeroDivisionError: integer division or modulo by"
+        " zero; NIGHT_DEBUG=1 shows its place")
+
+
+def unforeseen(tries: Shared) -> None:
+    """An error that nobody foresaw is a fault, in one line."""
+    kind = "an error that nobody foresaw"
+    folder = Room(tries, []).path
+    driver = copied(tries.driver, f"{folder}/driver", (
+        "night_run/plan.py", "free: dict[str, int] = {}",
+        "free: dict[str, int] = {str(1 // (len(facts.ends) - 1)): 1}"))
+    for debug in ("", "1"):
+        room = Room(tries, [job("g", "a"), job("g", "b", 3)])
+        room.before = ["env", f"NIGHT_DEBUG={debug}"]
+        found = room.run("s", "JOBS", "-j", "2", "--on-failure", ALARM, driver=driver)
+        tries.is_same(f"{kind}: status and alarm", debug, (found[0], [
+            it[0] for it in alarmed(room)]), (3, ["3"]))
+        if not debug:
+            tries.is_same(f"{kind}: a line", room.path, room.errors.splitlines()[-1], SAID)
+        tries.is_same(f"{kind}: its place", debug, "in may_begin" in room.errors, bool(debug))
+        tries.is_same(f"{kind}: nothing is left", room.path, room.settle(5), True)
+
+
+# --- terminals
+
+def stalled_terminal(tries: Shared) -> None:
+    """A terminal that takes nothing more, as after Ctrl-S, keeps no command and no timeout."""
+    kind = "a terminal that stalls"
+    room = Room(tries, [*(job("g", f"k{it}", 0.1) for it in range(30)), "h: timeout 2s",
+                        "h b echo h.b >> begun; exec sleep 60"])
+    ours, its = os.openpty()
+    with subprocess.Popen([tries.driver, "s", "JOBS", "-j", "3"], cwd=room.path, stderr=its,
+                          stdin=subprocess.DEVNULL, stdout=subprocess.DEVNULL,
+                          start_new_session=True, env={**os.environ, "NIGHT": room.night}) as run:
+        room.until(lambda: room.lines("begun"))
+        termios.tcflow(its, termios.TCOOFF)
+        done = room.until(lambda: len(room.lines("done")) == 30, 20)
+        ended = room.until(lambda: run.poll() is not None, 20)
+        termios.tcflow(its, termios.TCOON)
+        os.close(its)
+        os.close(ours)
+        kill([run.pid])
+    tries.is_same(kind, room.path, (done, ended, run.returncode), (True, True, 1))
+
+
+def writers(tries: Shared) -> None:
+    """Standard error is written in order, and never waited for."""
+    kind = "a writer"
+    terminal = driver_module(tries, "terminal")
+    ours, its = os.pipe()
+    writer = terminal.Writer(its)
+    tries.is_same(f"{kind}: nothing to wait for", "", writer.flush(0.1), True)
+    lines = [f"line {it} {'x' * 1000}\n" for it in range(200)]
+    began = time.monotonic()
+    for it in lines:
+        writer.write(it)
+    for at in range(100):
+        writer.show(f"progress {at}\n")
+    tries.is_same(f"{kind}: it doesn't wait", "", (time.monotonic() - began < 1,
+                                                   writer.flush(0.1)), (True, False))
+    found = b""
+    while not found.endswith(b"progress 99\n"):
+        found += os.read(ours, 65536)
+    text = found.decode()
+    tries.is_same(f"{kind}: all comes in its order", "", text.startswith("".join(lines)), True)
+    tries.is_same(f"{kind}: progress as it is by then", "", text[len("".join(lines)):],
+                  "progress 99\n")
+    os.close(ours)
+    writer.write("to nobody\n")
+    tries.is_same(f"{kind}: one that nobody reads", "", writer.flush(5), True)
+
+
+EXITS = [white_lines, strange_numbers, nothing_runs, not_printed, left, hung_alarm,
+         begin_and_success, unforeseen, stalled_terminal, writers]
