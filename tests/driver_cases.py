@@ -424,6 +424,63 @@ def hung_night(tries: Shared) -> None:
                   room.run("s", "JOBS", "--list")[1].splitlines()[-1], "h b: interrupted")
 
 
+# Stands for `night`, and is held by the system (state D) before its first start is durable, as in a
+# sync that hangs, until somebody opens the pipe `disk`.
+HELD = """#!/usr/bin/env python3
+import os, subprocess, sys
+night, started = {night!r}, False
+if sys.argv[1] != "script" or os.path.exists("was_held"):
+    os.execv(night, [night, *sys.argv[1:]])
+it = subprocess.Popen([night, *sys.argv[1:]], stdin=subprocess.PIPE, stdout=subprocess.PIPE)
+for line in sys.stdin.buffer:
+    if started and line == b"flush\\n" and not os.path.exists("was_held"):
+        open("was_held", "w").close()
+        os.posix_spawn("/bin/true", ["true"], {{}},
+                       file_actions=[(os.POSIX_SPAWN_OPEN, 9, "disk", os.O_RDONLY, 0)])
+    it.stdin.write(line), it.stdin.flush()
+    reply = it.stdout.readline()
+    started = started or reply.startswith(b"start ")
+    sys.stdout.buffer.write(reply), sys.stdout.buffer.flush()
+it.stdin.close()
+sys.stdout.buffer.write(it.stdout.read())
+sys.exit(it.wait())
+"""
+
+
+def held_night(tries: Shared) -> None:
+    """A `night` that the disk holds is waited for, or killed once its store has the mark."""
+    for is_left in (False, True):
+        kind = f"a night that the disk holds, {'left' if is_left else 'waited for'}"
+        room = Room(tries, [job("g", "a", 60)])
+        os.mkfifo(f"{room.path}/disk")
+        night = room.program("held", HELD.format(night=tries.program))
+        run = room.start("s", "JOBS", "--grace", "1", night=night)
+        tries.holds(f"{kind}: it is held", room.path, room.until(lambda: room.has("was_held")), "")
+        kill([run.pid], which=signal.SIGTERM)
+        is_told = room.until(lambda: "waiting for the disk" in room.text("errors"), 15)
+        tries.holds(f"{kind}: told, under the mark", room.path,
+                    is_told and room.has("s.failed"), (room.text("errors"), run.poll()))
+        time.sleep(1)
+        tries.is_same(f"{kind}: it isn't killed", room.path, run.poll(), None)
+        if is_left:
+            kill([run.pid], which=signal.SIGTERM)
+        else:
+            with open(f"{room.path}/disk", "wb"):
+                pass
+        began = time.monotonic()
+        room.ended(run, 40)
+        tries.holds(f"{kind}: it ends", room.path, time.monotonic() - began < 10
+                    and run.returncode == (3 if is_left else 1), (run.returncode, room.errors))
+        if is_left:
+            with open(f"{room.path}/disk", "wb"):
+                pass
+        room.settle()
+        tries.is_same(f"{kind}: run again", room.path, (
+            room.run("s", "JOBS", "--list")[1].splitlines()[-1], room.has("s.failed"),
+            tries.run("script", f"{room.path}/s").status, room.has("s.failed")),
+            ("g a: interrupted", True, 0, False))
+
+
 def missing_store(tries: Shared) -> None:
     kind = "a store that is gone"
     room = Room(tries, [job("g", "a")])
@@ -509,4 +566,4 @@ def order(tries: Shared) -> None:
 CASES = [short_commands, short_deadline, short_cancel, full_store, night_dies, lists, bad_cancels,
          held_cancels, late_cancels, cancel_beside, two_tries, backgrounds, stopped_ok, no_room,
          clock_ahead, clock_ahead_again, other_jobs, many_groups, texts, no_traces, hung_night,
-         missing_store, edits, second_evening, order]
+         held_night, missing_store, edits, second_evening, order]

@@ -10,7 +10,8 @@
     STORE.cancel     which groups somebody wants to have cancelled (`cancels`)
     STORE.ended      how commands ended whose groups a renewal has given back (`past`)
     STORE.far        which commands may run elsewhere (`far`)
-    STORE.failed     `night` has seen a sync of the store fail; its next opening mends it
+    STORE.failed     a sync of the store failed, or its `night` was killed in one; the next opening
+                     mends it
 """
 
 from __future__ import annotations
@@ -20,6 +21,7 @@ import fcntl
 import os
 import re
 import stat
+import subprocess
 import time
 
 from . import Fault, Mistake
@@ -35,8 +37,21 @@ PATIENCE, OF_CANCELS = 3.0, 60.0
 SIZE = re.compile(r"^size ([0-9]{1,18})$", re.M)
 HOLDER = re.compile(rf"^process (\S+) {PID} {START}$", re.M)
 A_CANCEL = "a cancel"
-# So many seconds a look at a store may take to sync it.
-LOOK = 0.3
+# So many seconds a look at a store may take to sync it, and the sync of a folder.
+LOOK, OF_FOLDER = 0.3, 2.0
+
+
+def leave_mark(store: str) -> None:
+    """Leaves the mark of a failed sync beside the store of this real path, as `night` does. Whoever
+    kills a `night` in a sync does so before: the system tells nobody else that it fails. The mark
+    is durable where a sync of the folder answers, which may hang, too."""
+    with contextlib.suppress(OSError):
+        os.close(os.open(f"{store}.failed", os.O_WRONLY | os.O_CREAT | os.O_EXCL | os.O_CLOEXEC,
+                         0o666))
+        sync = subprocess.Popen(["sync", os.path.dirname(store)], stdin=subprocess.DEVNULL,
+                                stderr=subprocess.DEVNULL, start_new_session=True)
+        with contextlib.suppress(subprocess.TimeoutExpired):
+            sync.wait(OF_FOLDER)
 
 
 class Files:

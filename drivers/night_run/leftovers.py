@@ -21,13 +21,14 @@ from collections.abc import Iterator
 
 from . import Fault, base_of
 from .commands import Running
-from .files import Files, try_lock
+from .files import Files, leave_mark, try_lock
 from .jobs import Job, Jobs
-from .processes import (NO_COMMAND, PID, START, Process, age, boot, group_exists, lives, members,
-                        signal_group, stat_of)
+from .night import WHOLE_SECONDS
+from .processes import (NO_COMMAND, PID, START, Process, age, boot, group_exists, is_held, lives,
+                        members, signal_group, stat_of)
 from .regular import open_regular, read_regular
 from .settings import OF_ALL
-from .telling import note
+from .telling import note, note_once
 
 LINE = re.compile(rf"([a-z0-9_-]{{1,32}}) ([a-z0-9_-]{{1,32}}) ([0-9]{{1,6}}) (\S+) {PID} {START}")
 STOPPED = re.compile(rf"stopped (\S+) {PID} {START}")
@@ -143,12 +144,18 @@ def running_now(files: Files) -> set[tuple[str, str]]:
 
 def end_night(files: Files, pids: int) -> None:
     """Waits for the `night` of a killed driver, which ends with its input; one that doesn't, as
-    where it is stopped, is killed."""
+    where it is stopped, is killed; one that the disk holds in a sync only after longer."""
     its = [Process(it[4], int(it[5]), int(it[6]))
            for it in map(LINE.fullmatch, read(pids).splitlines()) if it and it[1] == OF_ALL]
-    end = time.monotonic() + PATIENCE
+    began = time.monotonic()
     while its := [it for it in its if lives(it)]:
-        if time.monotonic() >= end:
+        held = [it.pid for it in its if is_held(it.pid)]
+        waited = time.monotonic() - began
+        if waited >= PATIENCE and held:
+            note_once(f"waiting for the disk: the `night` of the last run, process {held[0]}, is in"
+                      f" a sync of {files.shown}")
+        if waited >= (WHOLE_SECONDS if held else PATIENCE):
+            leave_mark(files.path)
             for it in its:
                 note(f"the `night` of the last run didn't end: process {it.pid} is killed")
                 with contextlib.suppress(ProcessLookupError, PermissionError):

@@ -182,7 +182,8 @@ class Driver:
         """Opens a session, and brings the store to what the file of commands asks for."""
         self.is_open = False
         before, self.before = self.before, None
-        self.session = Session(self.files.path, self.signals.wake, self.meanwhile)
+        self.session = Session(self.files.path, self.signals.wake, self.meanwhile,
+                               lambda: self.asked_to_end)
         sign_night(self.pids, self.session.it.pid)
         state = ready_state(self.session, self.files, before)
         self.files.keep_in_sight()

@@ -1,6 +1,7 @@
 """The program `night`: the words that print at once, and a run of `night script`.
 
-A reply that doesn't come in its time is a fault: the run is killed then, a stopped one too.
+A reply that doesn't come in its time is a fault: the run is killed then, a stopped one too, under
+the mark of a failed sync. One that the disk holds up in a sync is waited for first.
 """
 
 from __future__ import annotations
@@ -14,8 +15,12 @@ import signal
 import subprocess
 import time
 from collections.abc import Callable, Sequence
+from typing import Any
 
 from . import Fault
+from .files import leave_mark
+from .processes import is_held
+from .telling import note
 
 # So many lines are sent before their replies are read. They have 256 bytes at most, and replies
 # fewer, so that neither fills a pipe, of one page of memory at least, whose other end waits.
@@ -30,6 +35,8 @@ SECONDS = 30.0
 WHOLE_SECONDS = 120.0
 # A renewal does both.
 RENEWAL_SECONDS = 300.0
+# So long one that was killed is waited for; the disk may hold it.
+KILLED_SECONDS = 1.0
 # So often in a row the store may be in use, a tenth of a second each.
 MOST_BUSY = 100
 # So often a format may be ended by a signal before that is a fault.
@@ -73,20 +80,30 @@ def ran(*words: str, seconds: float = WHOLE_SECONDS) -> str:
     """What `night` prints for these words. While the store is in use it is tried again, and so is
     an inspection that a signal ended."""
     for busy in range(MOST_BUSY):
+        it = subprocess.Popen([program(), *words], stdin=subprocess.DEVNULL, text=True,
+                              errors="replace", stdout=subprocess.PIPE, stderr=subprocess.PIPE,
+                              start_new_session=True)
         try:
-            done = subprocess.run([program(), *words], stdin=subprocess.DEVNULL, text=True,
-                                  errors="replace", capture_output=True, timeout=seconds,
-                                  start_new_session=True)
+            printed, told = it.communicate(timeout=seconds)
         except subprocess.TimeoutExpired:
+            kill(it, words[-1])
             raise NightEnded(-signal.SIGKILL, f"no end within {seconds:.0f} s") from None
-        if not done.returncode:
-            return done.stdout
-        ended = NightEnded(done.returncode, done.stderr)
-        was_killed = done.returncode < 0 and words[0] == "inspect"
+        if not it.returncode:
+            return printed
+        ended = NightEnded(it.returncode, told)
+        was_killed = it.returncode < 0 and words[0] == "inspect"
         if not (ended.is_in_use() or was_killed) or busy == MOST_BUSY - 1:
             break
         time.sleep(0.1)
     raise ended
+
+
+def kill(it: subprocess.Popen[Any], store: str) -> None:
+    """Kills a `night` over this store that is late. It may be in a sync: the mark is left first."""
+    leave_mark(store)
+    it.kill()
+    with contextlib.suppress(subprocess.TimeoutExpired):
+        it.wait(KILLED_SECONDS)
 
 
 def refusal(reply: str) -> int | None:
@@ -97,10 +114,12 @@ def refusal(reply: str) -> int | None:
 
 class Session:
     """A run of `night script` over a store. While a reply is waited for, what comes by `wake` is
-    served by `meanwhile`, which says how many seconds may still pass, if fewer than usual."""
+    served by `meanwhile`, which says how many seconds may still pass, if fewer than usual; `asked`
+    grows with each signal that asks for an end."""
 
-    def __init__(self, store: str, wake: int, meanwhile: Callable[[], float]) -> None:
-        self.meanwhile = meanwhile
+    def __init__(self, store: str, wake: int, meanwhile: Callable[[], float],
+                 asked: Callable[[], int] = lambda: 0) -> None:
+        self.store, self.meanwhile, self.asked = store, meanwhile, asked
         self.it = subprocess.Popen(
             [program(), "script", store], stdin=subprocess.PIPE, stdout=subprocess.PIPE,
             stderr=subprocess.PIPE, bufsize=0, start_new_session=True)
@@ -141,8 +160,10 @@ class Session:
             limit = min(SECONDS if self.has_replied else WHOLE_SECONDS, self.meanwhile())
             left = began + limit - time.monotonic()
             if left <= 0:
-                self.kill()
-                raise NightEnded(-signal.SIGKILL, f"no reply within {limit:.0f} s")
+                if not self.outlasts():
+                    raise NightEnded(-signal.SIGKILL, f"no reply within {limit:.0f} s")
+                began = time.monotonic()
+                continue
             self.poll.poll(min(left, 1.0) * 1000)
             self.fill()
         self.has_replied = True
@@ -179,16 +200,33 @@ class Session:
             self.meanwhile()
             time.sleep(0.002)
         if status is None:
-            self.kill()
-            raise NightEnded(-signal.SIGKILL, f"no end within {SECONDS:.0f} s")
+            if not self.outlasts():
+                raise NightEnded(-signal.SIGKILL, f"no end within {SECONDS:.0f} s")
+            return self.close()
         told = self.told.read().decode("utf-8", "replace")
         self.free()
         if status:
             raise NightEnded(status, told)
 
+    def outlasts(self) -> bool:
+        """Whether `night`, which is late, goes on after a sync in which the disk held it; else it
+        is killed."""
+        leave_mark(self.store)
+        asked, end = self.asked(), time.monotonic() + WHOLE_SECONDS
+        was_held = is_held(self.it.pid)
+        if was_held:
+            note(f"waiting for the disk: `night`, process {self.it.pid}, is in a sync of"
+                 f" {self.store}; another signal ends this")
+        while is_held(self.it.pid) and self.asked() == asked and time.monotonic() < end:
+            self.meanwhile()
+            time.sleep(0.02)
+        if was_held and not is_held(self.it.pid):
+            return True
+        self.kill()
+        return False
+
     def kill(self) -> None:
-        self.it.kill()
-        self.it.wait()
+        kill(self.it, self.store)
         self.free()
 
     def free(self) -> None:

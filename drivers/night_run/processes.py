@@ -69,6 +69,12 @@ def lives(it: Process) -> bool:
     return found is not None and found.start == it.start and not found.is_dead
 
 
+def is_held(pid: int) -> bool:
+    """Whether a process waits for a disk, as in a sync: no signal ends it before that does."""
+    found = stat_of(pid)
+    return found is not None and found.phase == "D"
+
+
 def age(it: Process) -> float:
     """How many seconds ago a process of this boot began; 0 where the system doesn't say."""
     try:

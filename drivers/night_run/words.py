@@ -425,8 +425,8 @@ class Run:
 
     def first_look(self) -> State:
         """The state of the store. One whose sync failed is mended by an opening first."""
+        self.files.forget_pages()
         if self.files.is_marked():
-            self.files.forget_pages()
             note(f"{self.files.shown}.failed is there, as after a failed sync; `night` sees to it")
             ran("script", self.files.path, seconds=RENEWAL_SECONDS)
         return inspected(self.files)
