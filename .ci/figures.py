@@ -22,19 +22,20 @@ class Figure:
 UNKNOWN = Figure(120, 120, 3 * GB)
 
 
-def kept_file() -> str:
-    """Returns the path of the file of this machine's figures."""
+def kept_file(way: str) -> str:
+    """Returns the path of the file of this machine's figures for builds of a kind."""
     cache = os.environ.get("XDG_CACHE_HOME") or os.path.expanduser("~/.cache")
-    return f"{cache}/pokhnier/build.json"
+    return f"{cache}/pokhnier/build-{way}.json"
 
 
 class Figures:
-    def __init__(self, kept: str):
-        self.kept, self.own = kept, read(kept)
-        self.known = read(FIRST) | self.own
+    def __init__(self, kept: str, factor: float = 1.0):
+        """Takes a machine's own figures, and those of figures.json so many times."""
+        self.kept, self.own, self.unknown = kept, read(kept), times(UNKNOWN, factor)
+        self.known = {it: times(row, factor) for it, row in read(FIRST).items()} | self.own
 
     def of(self, name: str) -> Figure:
-        return self.known.get(name, UNKNOWN)
+        return self.known.get(name, self.unknown)
 
     def note(self, name: str, figure: Figure) -> None:
         """Keeps a crate's new figures. Where the cache can't be written, they are lost."""
@@ -46,6 +47,10 @@ class Figures:
             os.replace(f"{self.kept}.new", self.kept)
         except OSError:
             pass
+
+
+def times(figure: Figure, factor: float) -> Figure:
+    return Figure(factor * figure.clock, factor * figure.spent, round(factor * figure.memory))
 
 
 def read(path: str) -> dict[str, Figure]:

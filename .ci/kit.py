@@ -1,111 +1,230 @@
-"""rt's own functions, for the scripts that take a step of it by themselves."""
-import importlib.machinery
-import importlib.util
+"""What the scripts need of Rattle's kit: a function for each need.
+
+They rest on what the kit documents: the commands of `rt`, whose page `rt doc` names, and the words
+of `rattle` and `rattle-link`, which their `--help` explains. `rt` is never read as a module. A step
+that `rattle` itself can take is taken so; where the kit lacks something of that, a command of `rt`
+takes it, which is slower, and one line says so.
+"""
+import functools
 import os
 import shutil
-from types import ModuleType
+import subprocess
+import sys
+import tempfile
+from collections.abc import Iterable, Iterator, Mapping
+from contextlib import contextmanager
+from dataclasses import dataclass
+from typing import IO
 
-# What the scripts use of rt. A kit without one of them is too old, or too new, for them.
-USED = ("in_lanes", "share_work", "read_files", "processors", "free", "left_on_disk", "handles_of",
-        "sweep", "FULL")
-# The file beside a library of statements alone that has its stamp.
-BRIEF = "brief"
+import guard
+from crates import PARTS, Crate, text_of
+
+SECONDS = 60  # of a question to the kit
+# What `rattle` is called with, in the kit's folder.
+LOGIC, PROJECT = "logic_built", "rattle/logic/antt-project.json"
+C_CODE = ("c/libos_c.a", "c/liblibc_c.a")
+FOR_A_CHECK = (LOGIC, PROJECT, "rlibs/std.rlib/format")
+FOR_A_PROGRAM = ("bin/rattle-link", "toolchain", *C_CODE)
+CHECK = ("--crate-name", "--extern", "-L", "--antt-project", "--logic-built", "--links", "--jobs")
 
 
 class NoKit(Exception):
-    """There is no rt, or none that these scripts know."""
+    """There is no kit of Rattle."""
 
 
-def load() -> ModuleType:
-    """Returns the module of the `rt` on the path, as it is."""
-    found = shutil.which("rt")
-    if found is None:
-        raise NoKit("there is no `rt` on the path: unpack the kit of Rattle, and link its bin/rt"
-                    " into a folder of the path")
-    loader = importlib.machinery.SourceFileLoader("rt", os.path.realpath(found))
-    spec = importlib.util.spec_from_loader("rt", loader)
-    assert spec is not None
-    rt = importlib.util.module_from_spec(spec)
+@dataclass(frozen=True)
+class Kit:
+    rt: str  # the command
+    folder: str  # what the kit's page calls KIT
+    name: str  # what `rt version` prints
+
+    @property
+    def rattle(self) -> str:
+        return f"{self.folder}/bin/rattle"
+
+    def lacks(self, command: str, words: Iterable[str], files: Iterable[str] = ()) -> str:
+        """Returns what this kit lacks for a command of `rattle` with these words, over these files
+        of the kit; nothing where it has all."""
+        lost = [it for it in ("bin/rattle", *files) if not os.path.exists(f"{self.folder}/{it}")]
+        if lost:
+            return f"the kit has no {lost[0]}"
+        known = set(help_of(self.rattle, command).replace("=", " ").split())
+        lost = [it for it in words if it not in known]
+        return f"the kit's `rattle {command}` has no {lost[0]}" if lost else ""
+
+
+def said_by(*words: str) -> str:
+    """Returns what a command prints; nothing where it can't be run."""
     try:
-        loader.exec_module(rt)
-    except (Exception, SystemExit) as error:  # (another program of that name may raise any)
-        raise NoKit(f"{found} can't be read as the `rt` of a kit: {error}") from error
-    lacking = [it for it in USED if not hasattr(rt, it)]
-    if lacking or not hasattr(rt, "rtlib"):
-        raise NoKit(f"{found} has no {', '.join(lacking) or 'rtlib'}: it isn't the `rt` of the kit"
-                    " that README names, or of one like it")
-    return rt
+        ran = subprocess.run(words, text=True, errors="replace", capture_output=True, check=False,
+                             stdin=subprocess.DEVNULL, timeout=SECONDS)
+    except (OSError, subprocess.TimeoutExpired):
+        return ""
+    return "" if ran.returncode else ran.stdout.strip()
 
 
-def load_rt() -> ModuleType:
-    """Returns rt as the gate uses it: over libraries that hold statements alone."""
-    rt = load()
+@functools.cache
+def help_of(rattle: str, command: str) -> str:
+    return said_by(rattle, command, "--help")
+
+
+def find() -> Kit:
+    """Returns the kit whose `rt` is on the path."""
+    rt = shutil.which("rt")
+    if rt is None:
+        raise NoKit("there is no `rt` on the path: link bin/rt of Rattle's kit into a folder of the"
+                    " path (docs/build.md)")
+    guide = said_by(rt, "doc")
+    if not os.path.isfile(guide):
+        raise NoKit(f"{rt} isn't the `rt` of Rattle's kit: `rt doc` names no page")
+    return Kit(rt, os.path.dirname(guide), said_by(rt, "version"))
+
+
+def tell(why: str, so: str) -> None:
+    """Says that the kit lacks something, and what is done in its place."""
+    print(f"{os.path.basename(sys.argv[0])}: {why}: {so}", file=sys.stderr, flush=True)
+
+
+# Libraries and the program
+
+
+def lacks_statements(kit: Kit) -> str:
+    """Returns what the kit lacks for libraries of statements and a program over them."""
+    words = (*CHECK, "--statements", "--toolchain")
+    return kit.lacks("build", words, (*FOR_A_CHECK, *FOR_A_PROGRAM))
+
+
+def words_for(kit: Kit, crate: Crate, jobs: int) -> list[str]:
+    """Returns what `rattle` is called with for a crate over built libraries."""
+    words = ["--crate-name", crate.name, crate.root]
+    for name in ("std", *crate.of_kit):
+        words += ["--extern", f"{name}={kit.folder}/rlibs/{name}.rlib"]
+    words += ["-L", f"dependency={kit.folder}/rlibs"]
+    for it in crate.deps:
+        words += ["--extern", f"{it.name}={it.rlib}"]
+    for it in crate.below():
+        words += ["-L", f"dependency={os.path.dirname(it.rlib)}"]
+    words += ["--antt-project", f"{kit.folder}/{PROJECT}"]
+    words += ["--logic-built", f"{kit.folder}/{LOGIC}"]
+    return [*words, "--links", f"{crate.name}=", "--jobs", str(jobs)]
+
+
+def statements(kit: Kit, crate: Crate, jobs: int, out: IO[str]) -> int:
+    """Proves a library over libraries of statements, and makes one of its own: those above it load
+    that in a fifth of the time which its proofs take. Returns the status."""
+    folder = os.path.dirname(crate.rlib)
+    shutil.rmtree(folder, ignore_errors=True)
+    os.makedirs(folder)
+    words = [*words_for(kit, crate, jobs), "--statements", "-o", crate.rlib]
+    return guard.run([kit.rattle, "build", *words], crate.folder, out)
+
+
+def program(kit: Kit, crate: Crate, jobs: int, out: IO[str]) -> int:
+    """Proves, compiles and links a program over libraries of statements, and runs its `--version`.
+    Returns the status."""
+    made, tools = f"out/{crate.name}", f"{kit.folder}/toolchain"
+    words = [*words_for(kit, crate, jobs), "--toolchain", tools, "-o", f"{made}.o"]
+    link = ["--target", "x86_64-unknown-linux-gnu", "--toolchain", tools, "-o", made, f"{made}.o"]
+    link += [f"{kit.folder}/{it}" for it in C_CODE]
+    return (guard.run([kit.rattle, "build", *words], crate.folder, out)
+            or guard.run([f"{kit.folder}/bin/rattle-link", *link], crate.folder, out)
+            or guard.run([f"{crate.folder}/{made}", "--version"], crate.folder, out))
+
+
+def check_all(kit: Kit, crate: Crate, lanes: int) -> subprocess.Popen[str]:
+    """Starts `rt all check` over a crate and those below it, so many at a time. It keeps what later
+    commands go on from."""
+    words = [kit.rt, "all", "check", "--jobs", str(lanes)]
+    return guard.start(words, crate.folder, subprocess.PIPE)
+
+
+def run_program(kit: Kit, crate: Crate, jobs: int, out: IO[str]) -> int:
+    """Has `rt run` build a program, and run its `--version`."""
+    return guard.run([kit.rt, "run", "--jobs", str(jobs), "--", "--version"], crate.folder, out)
+
+
+# A look at a crate without its proofs
+
+
+Ran = subprocess.CompletedProcess[str]
+
+
+def looked_at(kit: Kit, crate: Crate, texts: Mapping[str, str]) -> Ran:
+    """Returns how a check ends that proves nothing, of a crate with these texts in place of its
+    own. Those below it are read from their sources: none needs to be built."""
+    with checkout(crate, texts) as folder:
+        if not kit.lacks("check", (*CHECK, "--lib", "--only"), FOR_A_CHECK):
+            words = [kit.rattle, "check", *words_over_sources(kit, crate), "--only", ""]
+        else:
+            words = [kit.rt, "check", "--only="]  # (which begins with the same look)
+        with guard.start(words, folder, subprocess.PIPE) as ran:
+            said, _ = ran.communicate()
+        return Ran(words, ran.returncode, said)
+
+
+def words_over_sources(kit: Kit, crate: Crate) -> list[str]:
+    """Returns what `rattle` is called with for a crate of a checkout, over sources."""
+    below = crate.below()
+    words = ["--crate-name", crate.name, crate.root]
+    for name in sorted({"core", "std"}.union(*(it.of_kit for it in [*below, crate]))):
+        words += ["--extern", f"{name}={kit.folder}/rlibs/{name}.rlib"]
+    words += ["-L", f"dependency={kit.folder}/rlibs"]
+    for it in below:
+        uses = ["core", "std", *it.of_kit, *(low.name for low in it.deps)]
+        words += ["--lib", f"{it.name}:{','.join(uses)}=../{it.name}/{it.root}"]
+    words += ["--antt-project", f"{kit.folder}/{PROJECT}"]
+    return [*words, "--logic-built", f"{kit.folder}/{LOGIC}", "--jobs", "1"]
+
+
+@contextmanager
+def checkout(crate: Crate, texts: Mapping[str, str]) -> Iterator[str]:
+    """Yields the folder of a crate in a checkout of its own, where it has these texts in place of
+    its own, with the crates below it."""
+    crates = [*crate.below(), crate]
+    with tempfile.TemporaryDirectory(prefix="rt-edit-") as top:
+        os.mkdir(f"{top}/.git")  # (its top)
+        with open(f"{top}/crates.txt", "w", encoding="utf-8") as file:
+            file.write("".join(f"{it.row}\n" for it in crates))
+        for it in crates:
+            for part in (part for part in PARTS if os.path.isdir(f"{it.folder}/{part}")):
+                shutil.copytree(f"{it.folder}/{part}", f"{top}/crates/{it.name}/{part}")
+        for path, text in texts.items():
+            with open(f"{top}/crates/{crate.name}/{path}", "w", encoding="utf-8") as file:
+                file.write(text)
+        yield f"{top}/crates/{crate.name}"
+
+
+# The layout of files
+
+
+def laid_out(kit: Kit, crate: Crate) -> bool:
+    """Returns whether `rt fmt` would change no file of a crate."""
+    files = [it for it in crate.files() if it.endswith((".rt", ".antt"))]
+    if not kit.lacks("fmt", ["--check"]):
+        return guard.run([kit.rattle, "fmt", "--check", *files], crate.folder, guard.NOTHING) == 0
+    with tempfile.TemporaryDirectory(prefix="rt-fmt-") as folder:
+        for part in (it for it in PARTS if os.path.isdir(f"{crate.folder}/{it}")):
+            shutil.copytree(f"{crate.folder}/{part}", f"{folder}/{part}")
+        laid = guard.run([kit.rt, "fmt"], folder, guard.NOTHING) == 0
+        return laid and all(text_of(it) == text_of(f"{folder}/{os.path.relpath(it, crate.folder)}")
+                            for it in files)
+
+
+# What .ci/cost still takes of `rt` as a module
+
+
+def load_rt():  # type: ignore[no-untyped-def]
+    import importlib.machinery
+    import importlib.util
+    path = os.path.realpath(find().rt)
+    loader = importlib.machinery.SourceFileLoader("rt", path)
+    rt = importlib.util.module_from_spec(importlib.util.spec_from_loader("rt", loader))
+    loader.exec_module(rt)
     rt.rtlib.stop, rt.rtlib.Crate, rt.Crate.cuts_libraries = rt.stop, rt.Crate, True
-    rt.rtlib.guarded()  # the first call sets a handler, which no other thread may
-    return rt
-
-
-def load_commands(shares: bool) -> ModuleType:
-    """Returns rt as `rt check` and `rt run` use it: what they keep in out/ it finds, and what it
-    keeps they find. If it shares, it takes what they kept in other checkouts of this machine."""
-    rt = load()
     rt.rtlib.guarded()
-    made = rt.rtlib.Crate.__init__
-
-    def make(crate, *given, **named):  # type: ignore[no-untyped-def]
-        made(crate, *given, **named)
-        rt.read_files(crate)
-
-    rt.rtlib.Crate.__init__ = make
-    if shares:
-        rt.share_work(True)
     return rt
 
 
-def load_brief() -> ModuleType:
-    """Returns rt such that a library keeps its statements alone, which those above it read in a
-    fifth of the time. They fit only the libraries that they were proved over, so the stamp has the
-    sums of these, too, and other commands, which go by a text alone, don't find such a library. It
-    has the lengths of the library's own files, of which a power failure may leave empty ones."""
-    rt = load_commands(shares=False)
-    rtlib = rt.rtlib
-    is_whole, build_whole = rtlib.Crate.is_built, rtlib.Crate.build_rlib
-
-    def stamp_of(crate) -> str:  # type: ignore[no-untyped-def]
-        over = (rtlib.sum_of(f"{it.rlib}/format") for it in crate.below())
-        return "".join([crate.stamp(), *over])
-
-    def lengths(crate) -> str:  # type: ignore[no-untyped-def]
-        found = [f"{at}/{it}" for at, _, names in os.walk(crate.rlib) for it in names]
-        return repr(sorted((os.path.relpath(it, crate.rlib), os.path.getsize(it)) for it in found))
-
-    def is_built(crate) -> bool:  # type: ignore[no-untyped-def]
-        kept = rtlib.text_of(f"{crate.folder}/out/rlib/{BRIEF}")
-        # (a whole one can't be read over statements)
-        stamps = (f"{it.folder}/out/rlib/stamp" for it in crate.below())
-        return is_whole(crate) and all(map(os.path.isfile, stamps)) or (
-            kept == stamp_of(crate) + lengths(crate))
-
-    def build_rlib(crate, flags, anew) -> int:  # type: ignore[no-untyped-def]
-        if "--statements" not in rtlib.help_of("build"):  # (of an older kit)
-            return int(build_whole(crate, flags, anew))
-        if not anew and crate.is_built():
-            return 0
-        stamp, folder = stamp_of(crate), f"{crate.folder}/out/rlib"
-        shutil.rmtree(folder, ignore_errors=True)
-        os.makedirs(folder)
-        words = [*crate.words(flags, keeps=False), "--statements", "-o", crate.rlib]
-        status = int(crate.call(rtlib.RATTLE, "build", *words))
-        if not status and stamp == stamp_of(crate):  # (else its text changed meanwhile)
-            with open(f"{folder}/{BRIEF}", "w", encoding="utf-8") as file:
-                file.write(stamp + lengths(crate))
-        return status
-
-    rtlib.Crate.is_built, rtlib.Crate.build_rlib = is_built, build_rlib
-    return rt
-
-
-def crates_of(rt: ModuleType, top: str) -> list:  # type: ignore[type-arg]
-    """The crates of a checkout, each after those that it stands on."""
+def crates_of(rt, top: str):  # type: ignore[no-untyped-def]
     rt.Crate.allowed = rt.handles_of(top)
-    return rt.rtlib.crates_below(top)  # type: ignore[no-any-return]
+    return rt.rtlib.crates_below(top)

@@ -7,7 +7,8 @@ second of each processor isn't seen.
 """
 import os
 import threading
-from collections.abc import Iterator
+import time
+from collections.abc import Callable, Iterator
 from dataclasses import dataclass
 
 PERIOD = 1
@@ -31,6 +32,8 @@ class Meter(threading.Thread):
         super().__init__(daemon=True)
         self.checks: dict[tuple[int, str], tuple[str, str, float]] = {}
         self.most: dict[str, int] = {}
+        self.seen: dict[str, tuple[float, float]] = {}  # when a crate's proof ran first and last
+        self.first_seen: Callable[[str], None] = lambda crate: None  # called with a crate's name
         self.ended = threading.Event()
 
     def run(self) -> None:
@@ -40,6 +43,18 @@ class Meter(threading.Thread):
                 self.checks[check.pid, check.start] = crate, what, seconds(check, below)
                 if what == "proof":
                     self.most[crate] = max(self.memory(crate), memory(check, below))
+                    self.see(crate)
+
+    def see(self, crate: str) -> None:
+        now = time.monotonic()
+        if crate not in self.seen:
+            self.first_seen(crate)
+        self.seen[crate] = self.seen.get(crate, (now, now))[0], now
+
+    def ran(self, crate: str) -> float:
+        """Returns how long the proof of a crate ran, by the clock."""
+        first, last = self.seen.get(crate, (0.0, 0.0))
+        return last - first
 
     def stop(self) -> None:
         self.ended.set()
@@ -74,7 +89,8 @@ def checks(pid: int, below: Processes) -> Iterator[tuple[Process, str, str]]:
     for child in below.get(pid, []):
         words, folder = command(child.pid)
         if "--crate-name" in words:
-            what = "tests" if "--test" in words else "edits" if "/rt-edit-" in folder else "proof"
+            what = ("tests" if "--test" in words else "edits" if "/rt-edit-" in folder
+                    else "look" if "--lib" in words else "proof")
             yield child, words[words.index("--crate-name") + 1], what
         else:
             yield from checks(child.pid, below)
