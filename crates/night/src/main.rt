@@ -1,13 +1,13 @@
-//! The program `night`: a durable job runner with cancellation scopes, on the command line.
+//! The program `night`, which keeps a record of scopes, groups and tasks that survives any crash.
 //!
-//! What it does by its words is `night_program`'s; here it is given the system's words, files,
-//! clock and streams. `night --help` says which words there are, `docs/formats/console.md` what a
-//! line asks for and what it is answered.
+//! `night_program` does the work. This crate hands it the system's arguments, files, clock and
+//! streams. `night --help` lists the subcommands, and `docs/formats/console.md` describes each
+//! request and its reply.
 //!
-//! The exit status is 0, or 1 if a strict run met a line that was bad or refused, 2 for words that
-//! ask for nothing, 3 if input, output or the store failed, the input is too long, an audit strayed
-//! or a crew doesn't know a job, 4 for want of memory. What went wrong is printed on
-//! standard error, and what strayed on standard output.
+//! The exit status is 0 if all went well; 1 if a strict run met a line that was bad or refused; 2
+//! for a mistake in the arguments; 3 if the input, the output or the store failed, if the input is
+//! too long, if an audit found a difference, or if a crew doesn't know a job; and 4 if memory is
+//! missing. The reason is printed on standard error, and a difference on standard output.
 #![tactic(auto)]
 
 mod clock;

@@ -15,17 +15,17 @@ const VERSION: &str = "0.3.0";
 /// The end of the program's help: an example, what a line is, and where lines are described.
 const EXAMPLE: &str = "\
     Example: printf 'derive a root cause\\nscope a\\n' | night demo\n\n\
-    A line asks one thing of a book, as `go g copy a`, and is replied to in one\n\
-    line, as `task 0 ready`. `night script --help` lists all lines, and\n\
-    docs/formats/console.md and the manual page night(1) describe them.";
+    A request is one line, such as `go g copy a`, and its reply is one line, such as\n\
+    `task 0 ready`. `night script --help` lists all requests, and the manual page\n\
+    night(1) describes them.";
 
 /// The end of the help of `demo` and of `script`, whose input is lines.
 const LINES: &str = "\
-    A line asks one thing of the book, and is replied to in one line. It is words\n\
-    with one space between them, at most 256 bytes, and a line feed. All lines:\n\n  \
+    A request is one line, and its reply is one line. A request consists of words\n\
+    with one space between them, at most 256 bytes, and a line feed:\n\n  \
     derive NAME PARENT cancel|cause|detached    a scope below a scope; `root` is there\n  \
     derive NAME PARENT deadline MOMENT [CAUSE]  .. that is done at a moment\n  \
-    derive NAME PARENT timeout NUMBER [CAUSE]   .. so many seconds from the clock on\n  \
+    derive NAME PARENT timeout NUMBER [CAUSE]   .. NUMBER seconds after the clock\n  \
     derive NAME PARENT value KEY TEXT           .. that holds a value\n  \
     cancel SCOPE [CAUSE]                        cancels it, and what is below it\n  \
     advance MOMENT                              moves the clock\n  \
@@ -36,7 +36,7 @@ const LINES: &str = "\
     try GROUP JOB ARG                           .. unless the limit would hold it\n  \
     start                                       starts the ready task of the least number\n  \
     finish NUMBER ok|error TEXT                 ends a running task\n  \
-    retry NUMBER                                submits an interrupted task anew\n  \
+    retry NUMBER                                submits an interrupted task again\n  \
     wait GROUP                                  how it ended, once all its tasks have\n  \
     scope SCOPE                                 whether it is done, and why\n  \
     value SCOPE KEY                             the nearest value of the key\n  \
@@ -52,8 +52,8 @@ const LINES: &str = "\
     NUMBER                  1 to 12 digits; a limit is 0 to 64\n  \
     MOMENT                  seconds since 1970, or a date and its offset:\n\
     \x20                         2024-01-01T02:00:00Z, 2024-01-01T03:00:00+01:00\n\n\
-    A line of another form is replied `bad line`; a carriage return belongs to its\n\
-    line. One that the state refuses changes nothing, and is replied its refusal:\n\n  \
+    The reply to any other line is `bad line`; a carriage return belongs to its line.\n\
+    A request that is refused changes nothing, and the reply names the refusal:\n\n  \
     refused 1 NoSuchScope        no scope has this name\n  \
     refused 2 NoSuchGroup        no group has this name\n  \
     refused 3 NoSuchTask         no task has this number\n  \
@@ -69,7 +69,7 @@ const LINES: &str = "\
     refused 13 LimitWhileActive  a task of the group hasn't ended: its limit stays\n  \
     refused 14 AtLimit           the limit of the group admits no task now\n  \
     refused 15 Waited            the group was waited for\n  \
-    refused 16 Unfinished N      so many tasks of the group haven't ended\n  \
+    refused 16 Unfinished N      N tasks of the group haven't ended\n  \
     refused 17 ClockNotForward   the moment isn't later than the clock\n  \
     refused 18 MomentOutOfRange  the moment is before 1970, or too late\n  \
     refused 19 NothingReady      no task is ready\n  \
@@ -81,52 +81,52 @@ const LINES: &str = "\
     refused 25 AlreadyRetried    another task is a retry of it already\n\n\
     At a terminal `flush` keeps what was typed, and Ctrl-D keeps it and ends; Ctrl-C\n\
     ends, and drops what was typed since the last flush.\n\n\
-    docs/formats/console.md and the manual page night(1) describe each line.\n\n\
+    The manual page night(1) describes each request.\n\n\
     Examples:\n  \
     printf 'derive a root cause\\ncancel a disk\\nscope a\\n' | night demo\n  \
     printf 'group g root\\ngo g copy a\\n' | night script jobs.store";
 
 /// What `--strict` does, of `demo` and of `script`.
-const STRICT: &str = "Ends at the first line that is no line or is refused, with status 1";
+const STRICT: &str = "Ends at the first line that is bad or refused, with status 1";
 
 /// What STORE is, of each command over one store.
 const STORE: &str = "The file of the store";
 
 /// What `--new` does, of `format`, and then of `migrate` and of `renew`.
-const NEW_STORE: &str = "Refuses where there is a file of that name";
+const NEW_STORE: &str = "Refuses if there is a file of that name";
 
-const NEW: &str = "Refuses where there is a file NEW";
+const NEW: &str = "Refuses if there is a file NEW";
 
 /// What NEW is, of `migrate` and of `renew`.
-const NEW_FILE: &str = "The new file; one that is there is emptied";
+const NEW_FILE: &str = "The new file; if it exists, it is erased";
 
 /// What `--now` does, of `script`.
-const NOW: &str = "Moves the clock to the machine's time, each second in which a line comes";
+const NOW: &str = "Moves the clock to the machine's time, at most once a second";
 
 /// What the flags and the options of `inspect` do.
-const TASKS: &str = "Prints the lines of its tasks alone";
+const TASKS: &str = "Prints only its tasks";
 
 const PHASE: &str =
-    "Prints those alone that are held, ready, running, success, error or interrupted";
+    "Prints only tasks in this phase: held, ready, running, success, error or interrupted";
 
-const GROUP: &str = "Prints those alone that are of this group";
+const GROUP: &str = "Prints only tasks of this group";
 
 const JSON: &str =
-    "Prints all of it as one object of JSON, of its tasks those alone that are asked for";
+    "Prints everything as one JSON object, with only those tasks that were asked for";
 
 const TREE: &str = "Draws its scopes as a tree, with their groups and tasks";
 
-const NO_TASKS: &str = "Draws a tree without tasks: a group has how many are in each phase";
+const NO_TASKS: &str = "Draws the tree without tasks, and counts those of each group by phase";
 
 const SUMMARY: &str = "Prints how full it is, a line for each group, and the scopes that are done";
 
 /// What the option and the flag of `crew` do.
-const WORKERS: &str = "How many threads run tasks, 1 to 8; 4 where it is left out";
+const WORKERS: &str = "How many threads run tasks, 1 to 8 (4 if not given)";
 
-const KNOWN: &str = "Starts nothing where the crew doesn't know the job of a task that isn't ended";
+const KNOWN: &str = "Refuses to start if an unfinished task has a job that the crew doesn't know";
 
 /// What `--in-place` does, of `renew`.
-const IN_PLACE: &str = "Makes the new store in the place of OLD; there is no NEW then";
+const IN_PLACE: &str = "Replaces OLD by the new store; no NEW is given then";
 
 /// What help shows of a command over a store, and what it calls the store and says of it.
 #[derive(Clone, Copy)]
@@ -138,28 +138,28 @@ struct Page<'a> {
 }
 
 const FORMAT: Page = Page {
-    about: "Makes a new store of a file, and prints `formatted`; what the file held is lost",
+    about: "Creates the store STORE, and prints `formatted`; if the file exists, it is erased",
     ending: "Example: night format --new jobs.store",
     store: "STORE",
     help: STORE,
 };
 
 const SCRIPT: Page = Page {
-    about: "Opens a store, and runs standard input over it",
+    about: "Opens a store, and answers the requests of standard input",
     ending: LINES,
     store: "STORE",
     help: STORE,
 };
 
 const INSPECT: Page = Page {
-    about: "Prints what a store holds, and writes nothing to it",
+    about: "Prints a store, also while it is in use, and writes nothing to it",
     ending: "Example: night inspect jobs.store",
     store: "STORE",
     help: STORE,
 };
 
 const MIGRATE: Page = Page {
-    about: "Makes a large store NEW of a small store OLD; what NEW held is lost",
+    about: "Copies a small store OLD into a large store NEW; if NEW exists, it is erased",
     ending: "Example: night migrate --new small.store large.store",
     store: "OLD",
     help: "The small store, which is only read",
@@ -168,9 +168,9 @@ const MIGRATE: Page = Page {
 const CREW: Page = Page {
     about: "Runs the ready tasks of a store, and prints how many were started and finished",
     ending: "\
-    The crew knows three jobs: `spin`, `copy` and `fail`. With `--known` it starts\n\
-    nothing while a task of any other job isn't ended. Without, it ends such a task\n\
-    for good: it fails as `no such job`, and can't be retried.\n\n\
+    The crew knows three jobs: `spin`, `copy` and `fail`. With `--known` it refuses to\n\
+    start if an unfinished task has another job. Without it, such a task ends for\n\
+    good: it fails as `no such job`, and can't be retried.\n\n\
     Examples:\n  \
     night crew --known jobs.store\n  \
     night crew jobs.store --workers 2",
@@ -179,7 +179,7 @@ const CREW: Page = Page {
 };
 
 const RENEW: Page = Page {
-    about: "Makes a store NEW of what a store OLD still needs; what NEW held is lost",
+    about: "Copies everything unfinished of OLD into a store NEW; if NEW exists, it is erased",
     ending: "Examples:\n  night renew --new old.store new.store\n  \
         night renew --in-place jobs.store",
     store: "OLD",
@@ -204,7 +204,7 @@ fn night_alone<'a>(alloc: Global) -> Command<'a>
     ensures { app_of result ≡ record { top = night_alone; subs = [] } }
 {
     Command::new(alloc, "night")
-        .about("A durable job runner with cancellation scopes")
+        .about("Keeps a record of scopes, groups and tasks that survives any crash")
         .version(VERSION)
         .after_help(EXAMPLE)
         .subcommand_required(true)
@@ -237,7 +237,7 @@ fn demo_command<'a>(alloc: Global) -> Result<Command<'a>, AllocError>
     ensures { IfOk result (λ command. app_of command ≡ demo_line) }
 {
     let demo = Command::new(alloc, "demo")
-        .about("Runs standard input over a book in memory")
+        .about("Answers the requests of standard input over a store in memory; keeps nothing")
         .after_help(LINES);
     with_flag(alloc, Ok(demo), "strict", STRICT)
 }

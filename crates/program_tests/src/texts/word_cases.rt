@@ -455,18 +455,24 @@ pub static CREWS: [Case; 13] = [
 
 pub static HELP: [Case; 30] = [
     (&["--help"], Told::Help("Usage: night <COMMAND>")),
-    (&["--help"], Told::Help("A line asks one thing of a book")),
-    (&["--help"], Told::Help("docs/formats/console.md and")),
+    (
+        &["--help"],
+        Told::Help("A request is one line, such as `go g copy a`"),
+    ),
+    (
+        &["--help"],
+        Told::Help("the manual page\nnight(1) describes them."),
+    ),
     (&["-h"], Told::Help("Usage: night <COMMAND>")),
     (&["help"], Told::Help("Usage: night <COMMAND>")),
     (&["demo", "--help"], Told::Help("Usage: night demo")),
     (
         &["demo", "--help"],
-        Told::Help("Ends at the first line that is no line or is refused, with status 1\n"),
+        Told::Help("Ends at the first line that is bad or refused, with status 1\n"),
     ),
     (
         &["script", "--help"],
-        Told::Help("Ends at the first line that is no line or is refused, with status 1\n"),
+        Told::Help("Ends at the first line that is bad or refused, with status 1\n"),
     ),
     (
         &["format", "--help"],
@@ -474,7 +480,7 @@ pub static HELP: [Case; 30] = [
     ),
     (
         &["format", "--help"],
-        Told::Help("      --new   Refuses where there is a file of that name\n"),
+        Told::Help("      --new   Refuses if there is a file of that name\n"),
     ),
     (
         &["demo", "--help"],
@@ -494,7 +500,7 @@ pub static HELP: [Case; 30] = [
     ),
     (
         &["migrate", "--help"],
-        Told::Help("      --new   Refuses where there is a file NEW\n"),
+        Told::Help("      --new   Refuses if there is a file NEW\n"),
     ),
     (
         &["migrate", "--help"],
@@ -502,15 +508,15 @@ pub static HELP: [Case; 30] = [
     ),
     (
         &["renew", "--help"],
-        Told::Help("Refuses where there is a file NEW\n"),
+        Told::Help("Refuses if there is a file NEW\n"),
     ),
     (
         &["inspect", "--help"],
-        Told::Help("      --phase <PHASE>  Prints those alone that are held, ready, running,"),
+        Told::Help("      --phase <PHASE>  Prints only tasks in this phase: held, ready, running,"),
     ),
     (
         &["inspect", "--help"],
-        Told::Help("      --group <GROUP>  Prints those alone that are of this group\n"),
+        Told::Help("      --group <GROUP>  Prints only tasks of this group\n"),
     ),
     (
         &["inspect", "--help"],
@@ -526,7 +532,7 @@ pub static HELP: [Case; 30] = [
     ),
     (
         &["renew", "--help"],
-        Told::Help("Makes the new store in the place of OLD; there is no NEW then\n"),
+        Told::Help("Replaces OLD by the new store; no NEW is given then\n"),
     ),
     (
         &["renew", "--help"],
@@ -548,15 +554,15 @@ pub static HELP: [Case; 30] = [
     ),
     (
         &["crew", "--help"],
-        Told::Help("for good: it fails as `no such job`, and can't be retried.\n"),
+        Told::Help("good: it fails as `no such job`, and can't be retried.\n"),
     ),
     (
         &["crew", "--help"],
-        Told::Help("With `--known` it starts\nnothing while a task of any other job isn't ended."),
+        Told::Help("With `--known` it refuses to\nstart if an unfinished task has another job."),
     ),
     (
         &["crew", "--help"],
-        Told::Help("Starts nothing where the crew doesn't know the job of a task"),
+        Told::Help("Refuses to start if an unfinished task has a job that the crew"),
     ),
 ];
 
