@@ -45,10 +45,11 @@ def boot() -> str:
     return "-"
 
 
-def stat_of(pid: int) -> Stat | None:
-    """What /proc shows of a process, or None where there is none."""
+def stat_of(pid: int, thread: str = "") -> Stat | None:
+    """What /proc shows of a process, or of a thread of it, or None where there is none."""
+    path = f"/proc/{pid}/task/{thread}/stat" if thread else f"/proc/{pid}/stat"
     try:
-        with open(f"/proc/{pid}/stat", "rb") as file:
+        with open(path, "rb") as file:
             # (the name in parentheses may have any byte)
             it = file.read().rpartition(b")")[2].split()
         return Stat(pid, it[0].decode("ascii"), int(it[2]), int(it[3]), int(it[19]))
@@ -66,13 +67,17 @@ def lives(it: Process) -> bool:
     if it.boot != boot():
         return False
     found = stat_of(it.pid)
-    return found is not None and found.start == it.start and not found.is_dead
+    return found is not None and found.start == it.start and (
+        not found.is_dead or is_held(it.pid))
 
 
 def is_held(pid: int) -> bool:
-    """Whether a process waits for a disk, as in a sync: no signal ends it before that does."""
-    found = stat_of(pid)
-    return found is not None and found.phase == "D"
+    """Whether a thread of a process waits for a disk, as in a sync: no signal ends the process
+    before that does, which looks dead meanwhile where its first thread is."""
+    with contextlib.suppress(OSError):
+        threads = (stat_of(pid, it) for it in os.listdir(f"/proc/{pid}/task"))
+        return any(it is not None and it.phase == "D" for it in threads)
+    return False
 
 
 def age(it: Process) -> float:
