@@ -543,6 +543,40 @@ def second_evening(tries: Shared) -> None:
         "h b: its command has changed since it ended; --again runs it\n"))
 
 
+def names_of_rounds(tries: Shared) -> None:
+    """What a group is called in a later night is read back, and tells the night."""
+    kind = "a group whose name ends with a dash"
+    room = Room(tries, ["disks-: within 1h", job("disks-", "a"), job("disks", "b"),
+                        job("-", "c")])
+    for night in 1, 2, 3:
+        tries.is_same(f"{kind}: its nights", night, room.run("s", "JOBS", "--nightly"),
+                      (0, "3 commands: 3 ok; 3 run now\n"))
+        tries.is_same(f"{kind}: each once", night, room.begun(),
+                      {"disks-.a": night, "disks.b": night, "-.c": night})
+        tries.holds(f"{kind}: run again", night, room.run()[1].startswith("nothing to do: 3"))
+    kind = "a long name in late nights"
+    name = "twenty-letters-group"
+    room = Room(tries, [f"{name}: within 1h", job(name, "a")])
+    room.run()
+    room.write("s.ended", "events 1 night 998 round 998 lines 0\n")
+    tries.is_same(f"{kind}: the rest of one", room.path, room.run()[0], 0)
+    for night in range(999, 1003):
+        tries.is_same(kind, night, room.run("s", "JOBS", "--nightly"),
+                      (0, "1 command: 1 ok; 1 run now\n"))
+        tries.holds(f"{kind}: its output", night, room.has(f"s.out/{name}--{night}.a.0"))
+    kind = "outputs after --failed"
+    room = Room(tries, [job("g", "a", end="; exit 3"), job("h", "b", 30)])
+    for night, its in (1, ["g.a.0", "g.a.1", "h.b.0", "h--1-2.b.0"]), (
+            2, ["g--2.a.0", "g--2.a.1", "h--2.b.0", "h--2-2.b.0"]):
+        for word in "--again", "--failed":
+            run = room.start("s", "JOBS", word)
+            room.until(lambda its=its, word=word: room.has(f"s.out/{its[-1 - (word == '--again')]}"))
+            room.run("s", "--cancel", "h", errors="errors2")
+            room.ended(run)
+        tries.is_same(kind, night, sorted(it for it in os.listdir(f"{room.path}/s.out")
+                                          if ("--2" in it) == (night == 2)), sorted(its))
+
+
 def order(tries: Shared) -> None:
     """The order of a group with the limit 1 is the file's, over any stop."""
     kind = "an order over a stop"
@@ -566,4 +600,4 @@ def order(tries: Shared) -> None:
 CASES = [short_commands, short_deadline, short_cancel, full_store, night_dies, lists, bad_cancels,
          held_cancels, late_cancels, cancel_beside, two_tries, backgrounds, stopped_ok, no_room,
          clock_ahead, clock_ahead_again, other_jobs, many_groups, texts, no_traces, hung_night,
-         held_night, missing_store, edits, second_evening, order]
+         held_night, missing_store, edits, second_evening, names_of_rounds, order]

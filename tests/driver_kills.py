@@ -607,7 +607,8 @@ class Full:
         tries = self.tries
         tries.is_same(f"{kind}: what is left", room.path, {it: phase for it, (_, phase) in
                                                           room.tasks().items()},
-                      {(it, 0): "success" for it in ("u--2.k1", "a--2.k6", "a--2.k7", "c.k0")})
+                      {(it, 0): "success" for it in (
+                          "u--1-2.k1", "a--1-2.k6", "a--1-2.k7", "c.k0")})
         tries.is_same(f"{kind}: the scopes left", room.path, re.findall(
             r"^scope \d+ (\S+)", room.shown(), re.M), ["root", "night", "a", "night--ended", "u",
                                                        "c"])
@@ -617,8 +618,8 @@ class Full:
             it for it in room.lines("s.ended")[1:] if not it.startswith((":", "+"))), sorted(ended))
         tries.is_same(f"{kind}: what had failed", room.path, [
             it for it in room.lines("s.ended")[1:] if it.startswith("+")], ["+ b bad 1"])
-        names = {(it, 0) for it in (*("{}.{}".format(*it.split()[:2]) for it in ended), "u--2.k1",
-                                    "a--2.k6", "a--2.k7", "c.k0")}
+        names = {(it, 0) for it in (*("{}.{}".format(*it.split()[:2]) for it in ended), "u--1-2.k1",
+                                    "a--1-2.k6", "a--1-2.k7", "c.k0")}
         tries.is_same(f"{kind}: the log has all", room.path, set(room.log()), names)
 
 

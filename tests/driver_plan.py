@@ -82,6 +82,20 @@ ENDS = [("ok", "ok"), ("withdrawn", "withdrawn"), ("interrupted", "interrupted")
         ("timeout 10m", "failed"), ("can't be started: why", "failed"), ("CANCELLED", "failed"),
         ("error ok", "failed"), ("error error ok", "failed"), ("canceled by hand", "failed")]
 
+# A name of the store: its group, the night's number, and which one of that night.
+NAMES = [
+    ("disks", "disks", 1, 1), ("disks--2", "disks", 2, 1), ("disks--10-3", "disks", 10, 3),
+    ("disks--1-2", "disks", 1, 2), ("disks-", "disks-", 1, 1), ("disks---2", "disks-", 2, 1),
+    ("disks---10-3", "disks-", 10, 3), ("-", "-", 1, 1), ("---2", "-", 2, 1), ("a-b", "a-b", 1, 1),
+    ("2--3", "2", 3, 1), ("1-2--3-4", "1-2", 3, 4)]
+# A name, a role, and the name of the scope that has it.
+ROLES = [("disks", "UNTIL", "disks--until"), ("disks-", "UNTIL", "disks---until"),
+         ("disks--2", "SAID", "disks--2--said"), ("night--12", "ENDED", "night--12--ended"),
+         ("x" * 20 + "--999", "UNTIL", "x" * 20 + "--999--until"),
+         ("x" * 20 + "--1000", "UNTIL", "x" * 20 + "--1000--u"),
+         ("x" * 20 + "--1000", "SAID", "x" * 20 + "--1000--said"),
+         ("x" * 20 + "--10000-9", "SAID", "x" * 20 + "--10000-9--s")]
+
 ALL = ("settings are limit N, until MOMENT, within TIME, after X.., retries N [wait TIME],"
        " timeout TIME, in FOLDER, env NAME=VALUE, stop on failure, background keep, via WORDS..,"
        " ask WORDS.., stop WORDS..")
@@ -270,4 +284,20 @@ def ends(tries: Shared) -> None:
                         and end.text.isprintable() and ends.read_end(end.text) == end, end)
 
 
-TABLES = [stand, ends, next_ones, retries_wait, mistakes, moments, cycles_are_long]
+def names(tries: Shared) -> None:
+    """What a group is called in the store is read back, whatever dashes its name has."""
+    rounds = driver_module(tries, "rounds")
+    for name, base, number, again in NAMES:
+        its = rounds.Round(number, again)
+        tries.is_same("a name of the store", name, (rounds.base_of(name), rounds.round_of(name)),
+                      (base, its))
+        tries.is_same("a name of the store: made", name, rounds.named(base, its), name)
+    for name, role, wanted in ROLES:
+        made = rounds.role_name(name, rounds.Role[role])
+        tries.is_same("a scope beside a group's", (name, role), made, wanted)
+        tries.is_same("a scope beside a group's: read", made,
+                      (rounds.base_of(made), rounds.round_of(made), len(made) <= 32),
+                      (rounds.base_of(name), rounds.round_of(name), True))
+
+
+TABLES = [stand, ends, names, next_ones, retries_wait, mistakes, moments, cycles_are_long]

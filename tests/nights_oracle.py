@@ -4,6 +4,7 @@ in seconds."""
 
 import bisect
 import os
+import re
 import time
 from collections import Counter, defaultdict
 from collections.abc import Callable, Iterator
@@ -162,7 +163,8 @@ def read_acked(seen: Seen, path: str) -> None:
             else:
                 seen.acked[start.key].append(Acked(at, start.key, end))
         elif what == "C":
-            seen.canceled.append((at, rest[0].partition("--")[0]))
+            # (a group may end with one dash)
+            seen.canceled.append((at, re.split("--(?!-)", rest[0])[0]))
 
 
 def complaints(seen: Seen) -> list[str]:

@@ -144,7 +144,7 @@ def make_plan(dice: random.Random, knows: bool, shape: str = "") -> Plan:
     if shape in BRIEF:
         return BRIEF[shape]()
     shape = shape or dice.choices(list(SHAPES), list(SHAPES.values()))[0]
-    names = dice.sample(("disks", "mails", "sums", "a", "b-2"), dice.randint(1, 4))
+    names = dice.sample(("disks", "mails", "sums", "a", "b-2", "c-"), dice.randint(1, 4))
     plan = Plan(shape, dice.choice((1, 2, 3, 4, 4, 8, 8)), dice.choice((1, 1, 2)),
                 {it: Group(it) for it in names})
     makers = {"mixed": mixed, "many": many, "stops": stops, "names": of_names,

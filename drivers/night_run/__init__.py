@@ -25,18 +25,3 @@ class Mistake(Exception):
 
 class Fault(Exception):
     """What no run can go on after. Status 3."""
-
-
-def base_of(name: str) -> str:
-    """The group of the file of commands of which this is a round, as `disks` of `disks--2`."""
-    return name.partition("--")[0]
-
-
-def round_of(name: str) -> int:
-    """Which round of its group this is: 1 for `disks`, 2 for `disks--2` and `disks--2--until`."""
-    number = name.partition("--")[2].partition("--")[0]
-    return int(number) if number.isdecimal() else 1
-
-
-def named(base: str, number: int) -> str:
-    return base if number == 1 else f"{base}--{number}"

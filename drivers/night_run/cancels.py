@@ -23,10 +23,10 @@ from collections.abc import Iterable, Iterator, Mapping
 from dataclasses import dataclass
 from typing import BinaryIO
 
-from . import base_of
 from .files import Files
 from .processes import PID, START, Process, lives, this_process
 from .regular import open_regular
+from .rounds import base_of
 from .telling import note_once
 
 LINE = re.compile(rf"(?:(\S{{36}}|-) {PID} {START} )?([a-z0-9_-]{{1,32}}) ([ -~]{{1,64}})")

@@ -7,10 +7,11 @@ import time
 from collections.abc import Iterator, Mapping
 from dataclasses import dataclass, field
 
-from . import Name, base_of, named, round_of
+from . import Name
 from .ends import End, Kind
 from .log import Line, Tried
 from .past import Past
+from .rounds import Round, base_of, named, round_of
 from .settings import OF_ALL
 from .state import ENDED, Scope, State, Task
 
@@ -48,13 +49,14 @@ class Book:
     """Where the commands of a night stand in the store, as a session makes it."""
 
     night: int
-    round: int  # of new names, at least
+    round: Round  # of new names, at least
     top: Scope | None = None  # of all groups together
     scopes: dict[str, Scope] = field(default_factory=dict)  # of each group, its last one
     gone: dict[str, str] = field(default_factory=dict)  # groups whose scope was done and is gone
     groups: dict[str, str] = field(default_factory=dict)  # the store's group of each, if it is open
     limits: dict[str, int | None] = field(default_factory=dict)  # of the store's groups
-    rounds: dict[str, int] = field(default_factory=dict)  # the greatest one of each group
+    rounds: dict[str, Round] = field(default_factory=dict)  # the greatest one of each group
+    is_new: bool = False  # whether nothing of it is in the store yet
     tries: collections.Counter[tuple[str, str]] = field(default_factory=collections.Counter)
     said: dict[str, str] = field(default_factory=dict)  # the deadlines, as the file said them
     last: dict[Name, Task] = field(default_factory=dict)
@@ -68,19 +70,21 @@ class Book:
 
     def next_name(self, base: str) -> str:
         """A name for a new scope or group, which nothing had before."""
-        number = self.rounds[base] = max(self.rounds.get(base, 0) + 1, self.round)
-        return named(base, number)
+        had = self.rounds.get(base)
+        made = self.rounds[base] = had.next() if had and had >= self.round else self.round
+        return named(base, made)
 
 
 def book_of(state: State, past: Past, night: int) -> Book:
     """The book of a night, by what the store has."""
-    rounds: dict[str, int] = {}
-    for base, number in [*state.rounds(), *past.rounds()]:
-        rounds[base] = max(rounds.get(base, 0), number)
+    rounds: dict[str, Round] = {}
+    for base, its in [*state.rounds(), *past.rounds()]:
+        rounds[base] = max(rounds.get(base, its), its)
     if past.round:
-        rounds[OF_ALL] = max(rounds.get(OF_ALL, 0), past.round)
+        rounds[OF_ALL] = max(rounds.get(OF_ALL, Round()), Round(past.round))
     tops = state.tops(night, night)
-    book = Book(night, round_of(tops[-1].name) if tops else max(past.round, 1), rounds=rounds)
+    book = Book(night, round_of(tops[-1].name) if tops else Round(max(past.round, 1)),
+                rounds=rounds, is_new=night > max(state.night() if state.scopes else 1, past.night))
     book.top = tops[-1] if tops else None
     below = {it.number for it in state.scopes if state.night_of(it.number) == night}
     for scope in state.scopes:

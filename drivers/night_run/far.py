@@ -32,11 +32,12 @@ from collections.abc import Iterable, Mapping
 from dataclasses import dataclass
 from typing import IO
 
-from . import Fault, Name, base_of, round_of
+from . import Fault, Name
 from .ends import OK, End, failed
 from .files import Files, sync_folder
 from .past import Past
 from .regular import open_regular
+from .rounds import base_of, round_of
 from .settings import Way
 from .state import ENDED, State
 from .telling import note_once

@@ -19,7 +19,7 @@ import signal
 import time
 from collections.abc import Iterator
 
-from . import Fault, base_of
+from . import Fault
 from .commands import Running
 from .files import Files, leave_mark, try_lock
 from .jobs import Job, Jobs
@@ -27,6 +27,7 @@ from .night import WHOLE_SECONDS
 from .processes import (NO_COMMAND, PID, START, Process, age, boot, group_exists, is_held, lives,
                         members, signal_group, stat_of)
 from .regular import open_regular, read_regular
+from .rounds import base_of
 from .settings import OF_ALL
 from .telling import note, note_once
 

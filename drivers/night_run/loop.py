@@ -35,7 +35,7 @@ import time
 from collections.abc import Callable, Iterator
 from functools import partial
 
-from . import Fault, Name, base_of
+from . import Fault, Name
 from .cancels import NO_GROUP, Desk, Request
 from .commands import Command, NotNow, Running
 from .ends import INTERRUPTED, End, canceled, failed
@@ -52,6 +52,7 @@ from .opening import (Maker, StoreFull, advance, ready_state, set_limits, withdr
 from .past import Past
 from .plan import Standing, may_begin, standings
 from .renewal import renew
+from .rounds import Role, Round, base_of, role_name
 from .settings import OF_ALL
 from .signals import Signals
 from .state import ENDED, JOB, State
@@ -109,7 +110,7 @@ class Driver:
         self.anew: set[str] = set()  # done groups that get another scope
         self.commands: dict[Name, Command] = {}  # those that were begun, or are to be
         self.facts = Facts()
-        self.book = Book(1, 1)
+        self.book = Book(1, Round())
         self.places = {name: at for at, name in enumerate(jobs.all)}
         self.names = list(jobs.all)
         self.open: list[int] = []  # the commands that may be begun some time, by their places
@@ -204,8 +205,8 @@ class Driver:
         found = standings(self.jobs, self.facts)
         if top and all(it.is_final for it in found.values()) and not self.has_mark:
             when = time.strftime("%Y-%m-%dT%H:%M:%S%z")
-            self.session.ask([f"derive {top.name}--ended {top.name} value ended {when}"],
-                             may=[4, *FULL])
+            mark = role_name(top.name, Role.ENDED)
+            self.session.ask([f"derive {mark} {top.name} value ended {when}"], may=[4, *FULL])
         self.session.close()
 
     def give_back(self) -> None:
@@ -237,7 +238,8 @@ class Driver:
         if not self.has_looked:
             self.look_elsewhere(state)
         self.facts.busy = {it.name for it in self.left} | set(self.commands)
-        self.has_mark = bool(self.book.top and f"{self.book.top.name}--ended" in state.by_name)
+        top = self.book.top
+        self.has_mark = bool(top and role_name(top.name, Role.ENDED) in state.by_name)
         self.is_stale = self.has_looked = True
         self.ask_why()
 

@@ -11,7 +11,7 @@ import time
 from collections.abc import Iterable
 from dataclasses import replace
 
-from . import Fault, base_of, named
+from . import Fault
 from .ends import WITHDRAWN
 from .facts import Book
 from .files import Files
@@ -19,6 +19,7 @@ from .jobs import Jobs
 from .night import (ALREADY_DONE, CLOCK_NOT_FORWARD, FULL, LIMIT_WHILE_ACTIVE, NO_SUCH_SCOPE,
                     NOTHING_READY,
                     WAITED, Session, ran, refusal)
+from .rounds import Role, Round, base_of, named, role_name
 from .settings import OF_ALL, Deadline
 from .state import FRESH, JOB, Scope, State, read_state
 
@@ -94,18 +95,22 @@ class Maker:
         book = self.book
         if book.top and not self.is_done(book.top) and not self.is_other(book.top, OF_ALL):
             return
-        book.round = max([book.round, *book.rounds.values()]) + 1 if book.rounds else 1
-        book.rounds[OF_ALL] = book.round
+        greatest = max([book.round, *book.rounds.values()])
+        if book.is_new:
+            book.round = Round(greatest.number + 1)
+        elif book.rounds:
+            book.round = greatest.next()
+        book.rounds[OF_ALL], book.is_new = book.round, False
         name = named(OF_ALL, book.round)
         book.top = self.scope(name, "root", OF_ALL)
         if book.night > 1:
-            self.derive(f"{name}--round", name, f"value {OF_ALL} {book.night}")
+            self.derive(role_name(name, Role.ROUND), name, f"value {OF_ALL} {book.night}")
 
     def below(self) -> str:
         """The scope in which the groups' scopes lie."""
         top = self.book.top
         assert top
-        return f"{top.name}--round" if self.book.night > 1 else top.name
+        return role_name(top.name, Role.ROUND) if self.book.night > 1 else top.name
 
     def group(self, base: str) -> None:
         """Makes the scope of a group."""
@@ -124,11 +129,12 @@ class Maker:
         if deadline:
             own = deadline.moment(self.now)
             moment = own if moment is None else min(own, moment)
-            self.derive(f"{name}--until", parent, f"deadline {own} {deadline}")
-            parent = f"{name}--until"
+            above = role_name(name, Role.UNTIL)
+            self.derive(above, parent, f"deadline {own} {deadline}")
+            parent = above
         number = self.derive(name, parent, "cause")
         if deadline:
-            self.derive(f"{name}--said", name, f"value deadline {deadline}")
+            self.derive(role_name(name, Role.SAID), name, f"value deadline {deadline}")
         return Scope(number, name, None, "cause", None, None, moment, False, None)
 
     def derive(self, name: str, parent: str, kind: str) -> int:
@@ -188,5 +194,6 @@ def give_back(session: Session, state: State, night: int, needed: Iterable[str])
     gone += [it.name for it in state.scopes if it.kind == "cause" and base_of(it.name) != OF_ALL
              and base_of(it.name) not in needed and state.night_of(it.number) == night]
     for name in gone:
-        lines += [f"cancel {it}" for it in (f"{name}--until", name) if it in state.by_name]
+        lines += [f"cancel {it}" for it in (role_name(name, Role.UNTIL), name)
+                  if it in state.by_name]
     session.ask([*lines, "flush"], may=[ALREADY_DONE])

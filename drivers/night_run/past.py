@@ -21,10 +21,11 @@ import re
 from collections.abc import Iterable
 from dataclasses import dataclass, field
 
-from . import Fault, Name, base_of, round_of
+from . import Fault, Name
 from .ends import End, read_end
 from .files import sync_folder
 from .regular import read_regular
+from .rounds import Round, base_of, round_of
 
 HEAD = re.compile(r"events ([0-9]{1,20})"
                   r"(?: night ([0-9]{1,9}) round ([0-9]{1,9}) lines ([0-9]{1,9}))?")
@@ -45,7 +46,7 @@ class Past:
     had: list[str] = field(default_factory=list)
     failures: dict[Name, int] = field(default_factory=dict)
 
-    def rounds(self) -> Iterable[tuple[str, int]]:
+    def rounds(self) -> Iterable[tuple[str, Round]]:
         for it in [*(group for group, _, _ in self.ends), *self.done, *self.had]:
             yield base_of(it), round_of(it)
 

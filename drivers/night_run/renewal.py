@@ -13,7 +13,7 @@ import os
 import time
 from collections.abc import Callable, Mapping
 
-from . import Fault, Name, base_of, named
+from . import Fault, Name
 from .ends import End
 from .facts import Book, book_of, facts_of, numbered
 from .files import Files, sync_folder
@@ -23,6 +23,7 @@ from .night import MOST_KILLED, RENEWAL_SECONDS, NightEnded, Session, ran
 from .opening import advance, give_back, inspected, now_of, ready_state
 from .past import Past, write_past
 from .plan import standings
+from .rounds import base_of, named
 from .state import ENDED, State
 from .telling import note, tell
 
@@ -61,7 +62,7 @@ def keep(files: Files, log: Log, past: Past, jobs: Jobs, state: State, events: i
             for task, tried in numbered(state) if task.end and not task.is_withdrawn)
     log.sync()
     ends = ends_of(past if past.night == night else Past(), state, book)
-    made = Past(events, night, max([past.round, *book.rounds.values()], default=1),
+    made = Past(events, night, max([past.round, *(it.number for it in book.rounds.values())]),
                 list(ends.values()), done_in(book, state))
     facts = facts_of(state, past, log.lines, book, time.time(), {})
     made.failures = {name: count for name, count in facts.failures.items() if count}

@@ -5,7 +5,7 @@ and whose text is the night's number. In it `night`, or `night--2`, is the scope
 together, their top; below it each group has a scope of its name, of kind cause, below one with its
 deadline if it has any (`disks--until`; the words that said it are the value of `disks--said`). The
 tasks lie in bare groups in these scopes. `disks--2` is a later round of
-`disks`: of another night, or of a group that was done or given back by a renewal.
+`disks`: of another night, or of a group that was done or given back by a renewal (`rounds`).
 """
 
 from __future__ import annotations
@@ -16,8 +16,9 @@ from collections.abc import Iterator
 from dataclasses import dataclass, replace
 from typing import Any
 
-from . import Fault, Name, base_of, round_of
+from . import Fault, Name
 from .ends import INTERRUPTED, OK, WITHDRAWN, End, Kind, failed, read_end
+from .rounds import Role, Round, base_of, role_name, round_of
 from .settings import OF_ALL
 
 JOB = "sh"
@@ -109,7 +110,7 @@ class State:
 
     def said(self, name: str) -> str | None:
         """The words of the deadline that a scope has of its own."""
-        said = self.by_name.get(f"{name}--said")
+        said = self.by_name.get(role_name(name, Role.SAID))
         return said.value if said else None
 
     def has_own_deadline(self, number: int) -> bool:
@@ -127,7 +128,7 @@ class State:
         return [it for it in self.scopes if base_of(it.name) == OF_ALL and it.kind == "cause"
                 and least <= nights.get(it.number, 1) <= most]
 
-    def rounds(self) -> Iterator[tuple[str, int]]:
+    def rounds(self) -> Iterator[tuple[str, Round]]:
         """Each group of the file that a scope or a group is of, and which round of it that is."""
         for scope in self.scopes[1:]:
             yield base_of(scope.name), round_of(scope.name)

@@ -5,11 +5,12 @@ from __future__ import annotations
 import collections
 from collections.abc import Mapping
 
-from . import Name, base_of, rows
+from . import Name, rows
 from .jobs import Jobs
 from .log import Line, Tried, text_of_line
 from .plan import CANCELLED, FAILED, NEVER, NOT_KNOWN, OK
 from .report_words import commands
+from .rounds import base_of
 
 # The counts of the last line, in order.
 KINDS = ("ok", "failed", "canceled", "not begun", "left", "not known")

@@ -7,7 +7,7 @@ import time
 from collections.abc import Mapping
 from dataclasses import dataclass, replace
 
-from . import Name, base_of, rows
+from . import Name, rows
 from .ends import INTERRUPTED
 from .facts import Book, Facts, book_of, facts_of, numbered
 from .files import Files
@@ -18,6 +18,7 @@ from .opening import check, inspected
 from .past import Past, read_past
 from .plan import NOT_KNOWN, Standing, standings
 from .processes import this_process
+from .rounds import base_of
 from .settings import OF_ALL
 from .state import State
 

@@ -16,7 +16,7 @@ import sys
 import time
 from typing import NoReturn
 
-from . import Fault, Mistake, Name, base_of, cancels, exits, rows, telling
+from . import Fault, Mistake, Name, cancels, exits, rows, telling
 from .ends import text_of
 from .exits import Hooks, Outcome, hooks_of, outcome_of
 from .facts import Book, Facts, book_of, facts_of, when_ended
@@ -30,6 +30,7 @@ from .opening import advance, check, inspected, now_of
 from .past import Past, Unreadable, read_past
 from .plan import CANCELLED, FAILED, may_begin, standings
 from .renewal import make, make_anew, renew
+from .rounds import Role, base_of, role_name
 from .settings import OF_ALL
 from .signals import Signals
 from .state import State
@@ -439,7 +440,7 @@ class Run:
         found = standings(self.jobs, facts)
         driver.night = night
         is_over = all(it.is_final for it in found.values())
-        has_mark = bool(book.top and f"{book.top.name}--ended" in state.by_name)
+        has_mark = bool(book.top and role_name(book.top.name, Role.ENDED) in state.by_name)
         has_one = bool(state.scopes[1:] or self.past.round)
         driver.begins_night = has_one and (
             self.words.again or self.words.nightly and (is_over or has_mark))
