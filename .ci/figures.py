@@ -22,7 +22,7 @@ class Figure:
 UNKNOWN = Figure(120, 120, 3 * GB)
 
 
-def kept_file(way: str) -> str:
+def kept_file(way: str = "statements") -> str:
     """Returns the path of the file of this machine's figures for builds of a kind."""
     cache = os.environ.get("XDG_CACHE_HOME") or os.path.expanduser("~/.cache")
     return f"{cache}/pokhnier/build-{way}.json"
