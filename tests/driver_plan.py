@@ -4,9 +4,11 @@ from __future__ import annotations
 
 import datetime
 import os
+import subprocess
 import sys
 import tempfile
 from types import ModuleType
+from typing import Any
 
 from driver_room import Shared
 
@@ -98,7 +100,28 @@ ROLES = [("disks", "UNTIL", "disks--until"), ("disks-", "UNTIL", "disks---until"
 
 ALL = ("settings are limit N, until MOMENT, within TIME, after X.., retries N [wait TIME],"
        " timeout TIME, in FOLDER, env NAME=VALUE, stop on failure, background keep, via WORDS..,"
-       " ask WORDS.., stop WORDS..")
+       " ask WORDS.., stop WORDS.., shell WORDS..")
+RETURN = "it has a carriage return in its midst, and a line ends with a line feed"
+BACKSLASH = ("it ends with a backslash, which joins no lines here: a command has one line, and what"
+             " is longer is a script's")
+# Files of commands without a mistake, and the command that `g a` has in each.
+RIGHT = [("g a echo x\r", "echo x"), ("# a note \\\ng a echo x", "echo x"),
+         ("g a echo \\\\", "echo \\\\"), ("\tg \t a  echo  x \t", "echo  x"),
+         ("\r\n# a note\r\ng a echo x\r\n", "echo x")]
+# Files with several mistakes, and what is told of them.
+SEVERAL = [
+    ("g: limit 0\ng a true\nG b true\ng a false", [
+        "line 1: the limit '0' is not 1 to 64",
+        "line 3: the group 'G' is not 1 to 20 of a-z, 0-9, - and _ without --, or it is root",
+        "line 4: the key a of g stands with two commands, first in line 2"]),
+    ("g: after x\ng a true\ng b true\nh: after y\nh c true", [
+        "line 1: after 'x': no such key of g, and no such group",
+        "line 4: after 'y': no such key of h, and no such group"]),
+    ("g: ask x\nh: stop failure\ng a true", [
+        "line 1: g has `ask`, and no `via`",
+        "line 2: the setting is stop on failure, or stop WORDS.."]),
+    ("g a true\n" + "x\n" * 30, [f"line {it}: a line is GROUP KEY COMMAND.., or GROUP: and"
+                                 " settings" for it in range(2, 22)] + ["10 more mistakes"])]
 # Lines of a file of commands that are mistakes, with the line's number and why.
 MISTAKES = [
     ("g a true\ng a false", 2, "the key a of g stands with two commands, first in line 1"),
@@ -119,7 +142,8 @@ MISTAKES = [
     ("g: limit ٣", 1, "the limit '٣' is not 1 to 64"),
     ("night: limit 3", 1, "the limit of all groups together is the option -j"),
     ("night: retries 3", 1,
-     "all groups together have a deadline alone: until MOMENT, within TIME"),
+     "all groups together have a deadline and a shell alone: until MOMENT, within TIME, shell"
+     " WORDS.."),
     ("g: until 25:00", 1, "the moment '25:00' is not as 05:30 or 2026-11-26T05:30"),
     ("g: until 2026-02-30T05:30", 1,
      "the moment '2026-02-30T05:30' is not as 05:30 or 2026-11-26T05:30"),
@@ -145,6 +169,17 @@ MISTAKES = [
     ("g: env NIGHT_KEY=x", 1, "the variable NIGHT_KEY is the driver's own"),
     ("g: env 'A=b", 1, "a quotation: No closing quotation"),
     ("g: stop on success", 1, "the setting is stop on failure, or stop WORDS.."),
+    ("g: stop failure", 1, "the setting is stop on failure, or stop WORDS.."),
+    ("g: stop kill", 1, "g has `stop`, and no `via`; after a failure nothing more of it is begun by"
+     " `stop on failure`"),
+    ("g: via x\ng: shell bash", 1, "g has `via`, whose words run its commands, and `shell`"),
+    ("g: via x\ng one: shell bash", 2, "g has `via`, whose words run its commands, and `shell`"),
+    ("g: shell", 1, f"the shell is missing; {ALL}"),
+    ("g: shell bash\ng: shell sh", 2, "g has a shell already"),
+    ("g a true\n# old\rg z touch hacked", 2, RETURN), ("g a echo x\ry", 1, RETURN),
+    ("g: limit 1\r\rg: limit 2", 1, RETURN), ("g a true \\", 1, BACKSLASH),
+    ("g: limit \\", 1, BACKSLASH), ("g a \\\\\\", 1, BACKSLASH),
+    ("g a\u00a0b true", 1, "the key 'a\\xa0b' is not 1 to 32 of a-z, 0-9, - and _"),
     ("g: background", 1, "keep is missing; " + ALL),
     ("g one: limit 2", 1, "limit, until, within, stop on failure, via, ask and stop are settings of"
      " a group"),
@@ -158,6 +193,30 @@ MISTAKES = [
     ("g one: after g", 1, "a cycle: g/one, after g, after g/one"),
     ("h: after g\nh a true\ng one: after h/a", 1, "a cycle: h/a, after g, after g/one, after h/a"),
 ]
+
+# In Berlin's zone: a moment in UTC, a time of day, and the next moment with that time in UTC. On 25
+# October 2026 it is 02:30 twice, at 00:30 and 01:30, and on 29 March never.
+HOURS = [
+    ("2026-10-24T20:00", "02:30", "2026-10-25T00:30"),
+    ("2026-10-25T00:29", "02:30", "2026-10-25T00:30"),
+    ("2026-10-25T00:30", "02:30", "2026-10-25T01:30"),
+    ("2026-10-25T00:45", "02:30", "2026-10-25T01:30"),
+    ("2026-10-25T01:15", "02:30", "2026-10-25T01:30"),
+    ("2026-10-25T01:30", "02:30", "2026-10-26T01:30"),
+    ("2026-10-25T00:45", "03:00", "2026-10-25T02:00"),
+    ("2026-10-25T00:45", "02:00", "2026-10-25T01:00"),
+    ("2026-03-28T20:00", "02:30", "2026-03-29T01:30"),
+    ("2026-03-29T00:45", "02:30", "2026-03-29T01:30"),
+    ("2026-03-29T02:00", "02:30", "2026-03-30T00:30"),
+    ("2026-07-01T12:00", "05:30", "2026-07-02T03:30")]
+# Prints the moment, as UTC, of a deadline that is set at one.
+ASK_MOMENT = """import datetime, sys
+sys.path.insert(0, sys.argv[1])
+from night_run.settings import Deadline
+now = int(datetime.datetime.fromisoformat(sys.argv[2] + "+00:00").timestamp())
+print(datetime.datetime.fromtimestamp(Deadline("until", sys.argv[3]).moment(now),
+                                      datetime.timezone.utc).isoformat()[:16])
+"""
 
 NOON = int(datetime.datetime(2026, 11, 26, 12, 0).timestamp())
 # What a deadline says, and the seconds from noon of the 26th to it.
@@ -177,8 +236,8 @@ def driver_module(tries: Shared, name: str) -> ModuleType:
 
 
 def jobs_of(tries: Shared, text: str) -> object:
-    with tempfile.NamedTemporaryFile("w", dir=tries.folder) as file:
-        file.write(f"{text}\n")
+    with tempfile.NamedTemporaryFile("wb", dir=tries.folder) as file:
+        file.write(f"{text}\n".encode())
         file.flush()
         return driver_module(tries, "jobs").Jobs(file.name)
 
@@ -249,6 +308,32 @@ def mistakes(tries: Shared) -> None:
         tries.is_same("a mistake", text, found, f"line {line}: {why}")
 
 
+def mistakes_together(tries: Shared) -> None:
+    """Every mistake of a file is told at a time; and what is none isn't."""
+    wrong = driver_module(tries, "jobs").Mistake
+    for text, wanted in SEVERAL:
+        found: list[str] = []
+        try:
+            jobs_of(tries, text)
+        except wrong as mistake:
+            found = [it.partition(": ")[2] for it in str(mistake).split("\n")]
+        tries.is_same("several mistakes", text, found, wanted)
+    for text, command in RIGHT:
+        made: Any = jobs_of(tries, text)
+        tries.is_same("no mistake", text, [it.command for it in made.all.values()], [command])
+
+
+def repeated_hours(tries: Shared) -> None:
+    """A time of day in the hour that autumn repeats, and in that which spring leaves out."""
+    folder = os.path.dirname(os.path.realpath(tries.driver))
+    for now, said, wanted in HOURS:
+        ran = subprocess.run(
+            [sys.executable, "-c", ASK_MOMENT, folder, now, said], text=True, capture_output=True,
+            env={**os.environ, "TZ": "CET-1CEST,M3.5.0,M10.5.0/3"})
+        tries.is_same("a deadline in a repeated hour", (now, said),
+                      ran.stdout + ran.stderr[-300:], f"{wanted}\n")
+
+
 def moments(tries: Shared) -> None:
     deadline = driver_module(tries, "settings").Deadline
     for said, wanted in MOMENTS:
@@ -300,4 +385,5 @@ def names(tries: Shared) -> None:
                       (rounds.base_of(name), rounds.round_of(name), True))
 
 
-TABLES = [stand, ends, names, next_ones, retries_wait, mistakes, moments, cycles_are_long]
+TABLES = [stand, ends, names, next_ones, retries_wait, mistakes, mistakes_together, moments,
+          repeated_hours, cycles_are_long]

@@ -88,15 +88,42 @@ def places(tries: Shared) -> None:
         'g a echo "$A|$B|$(basename "$PWD")|$NIGHT_GROUP|$NIGHT_KEY|$NIGHT_TRY|$NIGHT_STORE"',
         "g a: env A=own", "g b cat; pwd", "g b: in /", "g c true", "g c: in ./missing"])
     os.mkdir(f"{room.path}/sub")
+    first = room.jobs
     status, output = room.run()
     tries.is_same(kind, room.path, (status, output.splitlines()[:1]), (
-        1, ["g c: can't be started: No such file or directory"]))
+        1, ["g c: can't be started: no folder ./missing"]))
     tries.is_same(f"{kind}: its environment", room.path, room.text("s.out/g.a.0"),
                   f"own|two words|sub|g|a|0|{os.path.realpath(room.path)}/s\n")
     tries.is_same(f"{kind}: its own folder", room.path, room.text("s.out/g.b.0"), "/\n")
+    os.makedirs(f"{room.path}/other/sub")
+    room.before = ["env", f"CDPATH={room.path}/other"]
+    room.set(["g a pwd", "g: in sub", "g b pwd", "g b: in /nowhere/" + "x" * 40])
+    status, output = room.run("s", "JOBS", "--again")
+    tries.is_same(f"{kind}: whatever CDPATH is", room.path, room.text("s.out/g--2.a.0"),
+                  f"{os.path.realpath(room.path)}/sub\n")
+    tries.is_same(f"{kind}: a long one", room.path, output.splitlines()[0],
+                  "g b: can't be started: no folder .." + "x" * 32)
+    room.before = []
+    room.set(first)
     room.run("s", "JOBS", "--again")
     tries.is_same(f"{kind}: the group has no round", room.path,
-                  room.text("s.out/g--2.a.0").split("|")[3:6], ["g", "a", "0"])
+                  room.text("s.out/g--3.a.0").split("|")[3:6], ["g", "a", "0"])
+
+
+def shells(tries: Shared) -> None:
+    """What runs the commands in place of /bin/sh."""
+    kind = "a shell"
+    room = Room(tries, [
+        "night: shell ./say night", "g: shell ./say", "g a echo 'a b'", "g b echo x",
+        "g b: shell ./say own -o", "h c echo y", "h: via ./say", "i d echo z", "i: limit 1",
+        "j e false | true", "j: shell bash -o pipefail"])
+    room.program("say", '#!/bin/sh\nprintf "%s|" "$@"\n')
+    status, output = room.run()
+    tries.is_same(kind, room.path, (status, output.splitlines()), (1, [
+        "j e: exit 1; s.out/j.e.0", "5 commands: 4 ok, 1 failed; 5 run now"]))
+    tries.is_same(f"{kind}: what it is given", room.path,
+                  [room.text(f"s.out/{it}.0") for it in ("g.a", "g.b", "h.c", "i.d")],
+                  ["-c|echo 'a b'|", "own|-o|-c|echo x|", "echo y|", "night|-c|echo z|"])
 
 
 def after(tries: Shared) -> None:
@@ -324,5 +351,5 @@ def on_a_terminal(room: Room) -> str:
     return told.decode()
 
 
-SETTINGS = [retries, timeout, places, after, stop_on_failure, limits, summaries, views, failed,
+SETTINGS = [retries, timeout, places, shells, after, stop_on_failure, limits, summaries, views, failed,
             nightly, astray, keys, terminals]

@@ -49,6 +49,13 @@ def settings(program: str) -> list[str]:
     return [it.strip().replace("disks:", "g:", 1) for it in block.splitlines()]
 
 
+def store_name(room: Room) -> str:
+    """What `{store}` is for the store `s` of a room."""
+    path = f"{os.path.realpath(room.path)}/s"[1:]
+    return "".join(it if it.isalnum() or it == "." else "-" if it == "/" else f"_{ord(it):02x}"
+                   for it in path)
+
+
 class FarRoom(Room):
     """A room whose group `g` runs by an engine."""
 
@@ -97,7 +104,7 @@ class FarRoom(Room):
         """What Slurm's record of ended jobs has of this room."""
         path = self.given["JOBS"]
         lines = bytes_of(path).decode().splitlines() if os.path.exists(path) else []
-        return [it for it in lines if f"{os.path.basename(self.path)}-s." in it]
+        return [it for it in lines if f" Name={store_name(self)}." in it]
 
     def runs(self, key: str) -> bool:
         """Whether a try of a key runs: its lock is held."""

@@ -26,6 +26,8 @@ BEGINNING = ('[ -z "$2" ] || cd -- "$2" || exit 127; read -r s </proc/self/stat;
              ' shift 2; exec "$@"')
 # What the system lacks for a while: a command that can't be begun by it is begun later.
 LATER = (errno.EAGAIN, errno.ENOMEM, errno.EMFILE, errno.ENFILE, errno.ENOSPC, errno.EDQUOT)
+# So many characters of a folder's path are told, the last ones.
+MOST_OF_PATH = 32
 # Behind SIGKILL so many seconds are given to a process group that doesn't go.
 STUCK = 5.0
 
@@ -98,10 +100,10 @@ class Command(Running):
     def begin(self, pids: int, far: Far, inherited: Mapping[str, str]) -> None:
         """Begins it; NotNow where the system has no room for it."""
         self.began, self.since = time.time(), time.monotonic()
-        folder, way = self.job.folder or "", self.job.way
+        folder, way = from_here(self.job.folder or ""), self.job.way
         given = self.environment(far.files.path, inherited)
         line = f"{self.group} {self.job.key} {self.tried} {boot()}"
-        words = [SHELL, "-c", self.job.command]
+        words = [*(self.job.shell or (SHELL,)), "-c", self.job.command]
         try:
             if way.via:
                 it = Named(self.group, self.job.key, self.tried)
@@ -110,7 +112,7 @@ class Command(Running):
                 if way.ask:
                     far.note(it, BEGUN)
             if folder and not os.path.isdir(folder):
-                raise OSError(errno.ENOENT, os.strerror(errno.ENOENT))
+                raise OSError(errno.ENOENT, f"no folder {end_of_path(folder)}")
             with contextlib.ExitStack() as files:
                 out = opened_output(self.output)
                 files.callback(os.close, out)
@@ -216,6 +218,17 @@ class Command(Running):
         return self.job.timeout is not None and self.has_begun \
             and (self.status is None or self.is_asked_for) \
             and time.monotonic() >= self.since + self.job.timeout
+
+
+def from_here(folder: str) -> str:
+    """A folder as `cd` takes it whatever CDPATH has."""
+    return folder if not folder or folder.startswith("/") else f"./{folder}"
+
+
+def end_of_path(path: str) -> str:
+    """As much of a path's end as an error's text has room for."""
+    path = path.removeprefix("./")
+    return path if len(path) <= MOST_OF_PATH else f"..{path[-MOST_OF_PATH:]}"
 
 
 def opened_output(path: str) -> int:

@@ -4,8 +4,8 @@
     canceled: WHY     a cancel or a deadline stopped it, or kept it from starting
     interrupted       it was cut off, and runs again
     withdrawn         a task that was submitted and never started: it counts as if it weren't there
-    WHY               it failed: `exit 3`, `signal 9`, `timeout 10m`, `can't be started: ..`, or what
-                      its group's `ask` printed after `error`
+    WHY               it failed: `exit 3`, `signal 9`, `timeout 10m`, `can't be started: ..`, or
+                      what its group's `ask` printed after `error`
     error WHY         likewise, where WHY alone would be read as another end
 
 A text is 1 to 64 bytes of printable ASCII, as a store wants it; what is longer is cut.

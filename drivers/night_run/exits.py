@@ -47,7 +47,7 @@ class Outcome:
 def outcome_of(error: BaseException) -> Outcome:
     """What a run came to that this ended."""
     if isinstance(error, Mistake):
-        return Outcome(MISTAKE, (str(error),))
+        return Outcome(MISTAKE, tuple(str(error).split("\n")))
     return Outcome(FAULT, (said_of(error),))
 
 

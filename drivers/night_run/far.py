@@ -2,8 +2,9 @@
 asks how a try of it ended, `stop` asks for its end. The driver knows no more of a way than these.
 
 In their words `{store}`, `{group}`, `{key}` and `{try}` are replaced by what names the try: the
-store's path with - for what is no letter, digit, dot, - or _, and the three parts of its output's
-name. So no two tries of a store have one name.
+store's path with - for each /, and `_` with two hexadecimal digits for each byte that is no letter,
+digit or dot; and the three parts of its output's name. So no two tries have one name, of one store
+or of two.
 
 The first line that `ask` prints, with status 0, is one of
 
@@ -47,6 +48,7 @@ FIELD = re.compile(r"\{(?:store|group|key|try)\}")
 LINE = re.compile(r"([a-z0-9_-]{1,32}) ([a-z0-9_-]{1,32}) ([0-9]{1,6}) (begun|stopped|over)")
 ANSWER = re.compile(r"running|none|ok|exit [1-9][0-9]{0,2}|signal [1-9][0-9]?|error ([ -~]{1,64})")
 RUNNING, NONE = "running", "none"
+UNPLAIN = re.compile(r"[^A-Za-z0-9.]")
 # So many seconds lie between two questions, more each time, and so many one may take.
 FIRST, LAST, MOST = 1.0, 30.0, 60.0
 # So many seconds after its client was killed one that was stopped is asked for; then it is left.
@@ -74,7 +76,7 @@ class Far:
 
     def __init__(self, files: Files) -> None:
         self.files, self.shown = files, f"{files.shown}.far"
-        self.store = re.sub(r"[^A-Za-z0-9._-]", "-", files.path.lstrip("/"))
+        self.store = store_name(files.path)
         self.path, self.file = f"{files.path}.far", -1
 
     def filled(self, words: Iterable[str], it: Named) -> list[str]:
@@ -119,6 +121,12 @@ class Far:
             sync_folder(self.path)
         os.write(self.file, f"{it} {how}\n".encode())
         os.fsync(self.file)
+
+
+def store_name(path: str) -> str:
+    """What `{store}` is for a store of this path: no two paths have one."""
+    rest = path.lstrip("/").encode("utf-8", "surrogateescape").decode("latin-1")
+    return UNPLAIN.sub(lambda it: "-" if it[0] == "/" else f"_{ord(it[0]):02x}", rest)
 
 
 def end_of(answer: str) -> End | None:

@@ -1,10 +1,14 @@
 """The file of commands, line by line:
 
-    GROUP KEY COMMAND..        a command, which /bin/sh runs
+    GROUP KEY COMMAND..        a command, which /bin/sh runs, or what `shell` names
     GROUP: SETTING..           settings of a group
     GROUP KEY: SETTING..       settings of one command, which win over its group's
-    night: SETTING..           of all groups together: until MOMENT, within TIME
+    night: SETTING..           of all groups together: until MOMENT, within TIME, shell WORDS..
     # ..                       counts for nothing, as an empty line does
+
+A line ends with a line feed, before which a carriage return may stand, and its words lie between
+spaces and tabs. What an editor would show otherwise than it is read is a mistake: a carriage return
+in the midst of a line, and a backslash at its end. All mistakes are told at a time.
 
 A moment is a time of day, 05:30, the next one there is, or a date and time, 2026-11-26T05:30, of
 this machine's zone unless it ends with its offset. A time is 2h, 90m, 1h30m or 45s. The settings
@@ -25,6 +29,11 @@ from .telling import note
 NAME = re.compile(r"[a-z0-9_-]{1,32}")
 GROUP = re.compile(r"(?!.*--)[a-z0-9_-]{1,20}")
 A_LINE = "a line is GROUP KEY COMMAND.., or GROUP: and settings"
+RETURN = "it has a carriage return in its midst, and a line ends with a line feed"
+BACKSLASH = ("it ends with a backslash, which joins no lines here: a command has one line, and what"
+             " is longer is a script's")
+# So many mistakes are told of a file.
+MOST_TOLD = 20
 
 
 @dataclass(frozen=True)
@@ -43,6 +52,7 @@ class Job:
     env: tuple[tuple[str, str], ...]
     keeps: bool  # processes that it leaves may live on
     way: Way  # where it runs
+    shell: tuple[str, ...]  # what runs it; nothing where that is /bin/sh
 
     @property
     def name(self) -> Name:
@@ -58,19 +68,17 @@ class Jobs:
         self.lines: dict[Name, int] = {}
         self.groups: dict[str, Settings] = {OF_ALL: Settings(0)}
         self.own: dict[Name, Settings] = {}
-        try:
-            with open(path, encoding="utf-8", errors="surrogateescape") as file:
-                for number, line in enumerate(file, 1):
-                    self.read(number, line.rstrip("\n").strip(" \t\r"))
-        except OSError as error:
-            raise Mistake(f"{path}: {error.strerror}") from error
+        self.wrong: set[tuple[int, str]] = set()  # the mistakes, by their lines
+        for number, line in enumerate(lines_of(path), 1):
+            self.read(number, line)
+        for group, its in self.groups.items():
+            self.check_way(group, its)
+        self.refuse()
         if not self.texts:
             raise Mistake(f"{path}: it has no command")
-        for group, its in self.groups.items():
-            if its.way != Way() and not its.way.via:
-                raise self.mistake(its.line, f"{group} has `ask` or `stop`, and no `via`")
         self.with_commands = {group for group, _ in self.texts}
         self.all: dict[Name, Job] = {it: self.job(it) for it in self.texts}
+        self.refuse()
         self.members: dict[str, list[Name]] = collections.defaultdict(list)
         for name in self.all:
             self.members[name[0]].append(name)
@@ -100,20 +108,32 @@ class Jobs:
 
     # --- lines
 
-    def mistake(self, number: int, why: object) -> Mistake:
-        return Mistake(f"{self.path}: line {number}: {why}")
+    def mistake(self, number: int, why: object) -> None:
+        """Takes in a mistake, which `refuse` tells."""
+        self.wrong.add((number, f"{self.path}: line {number}: {why}"))
+
+    def refuse(self) -> None:
+        """Tells what is wrong so far, if anything is."""
+        if self.wrong:
+            lines = [it for _, it in sorted(self.wrong)]
+            more = [f"{self.path}: {len(lines) - MOST_TOLD} more mistakes"]
+            raise Mistake("\n".join(lines[:MOST_TOLD] + (more if lines[MOST_TOLD:] else [])))
 
     def read(self, number: int, line: str) -> None:
-        if not line or line.startswith("#"):
-            return
+        line = line.rstrip("\r").strip(" \t")
         try:
-            self.read_words(number, line)
+            if "\r" in line:
+                raise Wrong(RETURN)
+            if line and not line.startswith("#"):
+                self.read_words(number, line)
         except Wrong as wrong:
-            raise self.mistake(number, wrong) from None
+            self.mistake(number, wrong)
 
     def read_words(self, number: int, line: str) -> None:
         if "\0" in line:
             raise Wrong("it has a byte 0, as no text does")
+        if (len(line) - len(line.rstrip("\\"))) % 2:
+            raise Wrong(BACKSLASH)
         # (what else is white, as a form feed, is part of a word, and so is told)
         words = re.split("[ \t]+", line, maxsplit=2)
         if words[0].endswith(":"):
@@ -153,6 +173,18 @@ class Jobs:
         settings = self.own.setdefault((group, key), Settings(number))
         read_settings(settings, f"{group} {key}", rest, is_one=True, line=number)
 
+    def check_way(self, group: str, its: Settings) -> None:
+        if its.way.stop and not its.way.via:
+            self.mistake(its.line, f"{group} has `stop`, and no `via`; after a failure nothing more"
+                                   " of it is begun by `stop on failure`")
+        elif its.way.ask and not its.way.via:
+            self.mistake(its.line, f"{group} has `ask`, and no `via`")
+        shells = [it for it in (its, *(one for (other, _), one in self.own.items()
+                                       if other == group)) if it.shell]
+        if its.way.via and shells:
+            self.mistake(shells[0].line, f"{group} has `via`, whose words run its commands, and"
+                                         " `shell`")
+
     # --- what they come to
 
     def job(self, name: Name) -> Job:
@@ -164,7 +196,8 @@ class Jobs:
             *name, self.texts[name], tuple(self.need(name[0], it, line) for it in after),
             by.retries or 0, by.wait, timed.timeout, timed.timeout_said,
             own.folder if own.folder is not None else group.folder,
-            tuple({**group.env, **own.env}.items()), own.keeps or group.keeps, group.way)
+            tuple({**group.env, **own.env}.items()), own.keeps or group.keeps, group.way,
+            () if group.way.via else own.shell or group.shell or self.groups[OF_ALL].shell)
 
     def need(self, group: str, word: str, line: int) -> Name | str:
         """What a word after `after` names: a key of the same group, GROUP/KEY, or a group."""
@@ -173,13 +206,11 @@ class Jobs:
         if slash and (where, key) in self.texts:
             return where, key
         if (group, word) in self.texts and is_group:
-            raise self.mistake(line, f"after {word}: it is a group, and a key of {group};"
-                                     f" {group}/{word} is the key")
-        if (group, word) in self.texts:
-            return group, word
-        if is_group:
-            return word
-        raise self.mistake(line, f"after {short(word)}: no such key of {group}, and no such group")
+            self.mistake(line, f"after {word}: it is a group, and a key of {group};"
+                               f" {group}/{word} is the key")
+        elif not is_group and (group, word) not in self.texts:
+            self.mistake(line, f"after {short(word)}: no such key of {group}, and no such group")
+        return (group, word) if (group, word) in self.texts else word
 
     def sorted(self) -> list[Name | str]:
         """Commands and groups, each after all that it waits for; a group after its commands."""
@@ -214,7 +245,17 @@ class Jobs:
         own = self.own.get(first)
         line = own.after_line if own and own.after else self.groups[first[0]].after_line
         told = ", after ".join(it if isinstance(it, str) else "/".join(it) for it in ring)
-        raise self.mistake(line or self.lines[first], f"a cycle: {told}")
+        self.mistake(line or self.lines[first], f"a cycle: {told}")
+        self.refuse()
+
+
+def lines_of(path: str) -> list[str]:
+    """The lines of the file at this path."""
+    try:
+        with open(path, "rb") as file:
+            return file.read().decode("utf-8", "surrogateescape").split("\n")
+    except OSError as error:
+        raise Mistake(f"{path}: {error.strerror}") from error
 
 
 def check_group(group: str) -> None:

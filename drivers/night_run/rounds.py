@@ -2,9 +2,9 @@
 tenth `disks--10`. Where it needs another scope or group in one night, as after `--failed` or with
 another deadline, that is `disks--10-2`, and then `disks--10-3`.
 
-A scope beside it has a role behind that name, as `disks--10--until`; where this would be longer than
-a name may be, the role's first letter, as `--u`. No group of a file of commands has `--` in its
-name, and one may end with `-`: `disks---2` is the second night's of `disks-`.
+A scope beside it has a role behind that name, as `disks--10--until`; where this would be longer
+than a name may be, the role's first letter, as `--u`. No group of a file of commands has `--` in
+its name, and one may end with `-`: `disks---2` is the second night's of `disks-`.
 """
 
 from __future__ import annotations

@@ -13,6 +13,7 @@
     via WORDS..             (a group) what each command is handed to; it takes the rest of its line
     ask WORDS..             (a group) what asks how a try of it ended; likewise
     stop WORDS..            (a group) what asks for the end of a try; likewise
+    shell WORDS..           what runs the command in place of /bin/sh, by -c; likewise
 """
 
 from __future__ import annotations
@@ -31,10 +32,10 @@ FORMS = {"limit": re.compile("[0-9]+"), "within": TIME, "until": MOMENT, "timeou
          "retries": re.compile(r"[0-9]+( wait \S+)?"), "stop": re.compile("on failure"),
          "background": re.compile("keep")}
 WORDS = ("limit", "until", "within", "after", "retries", "timeout", "in", "env", "stop",
-         "background", "via", "ask")
+         "background", "via", "ask", "shell")
 ALL = ("settings are limit N, until MOMENT, within TIME, after X.., retries N [wait TIME],"
        " timeout TIME, in FOLDER, env NAME=VALUE, stop on failure, background keep, via WORDS..,"
-       " ask WORDS.., stop WORDS..")
+       " ask WORDS.., stop WORDS.., shell WORDS..")
 OF_ALL = "night"
 LAST_MOMENT = 253_000_000_000
 MOST_RETRIES = 999
@@ -93,6 +94,7 @@ class Settings:
     stops: bool = False
     keeps: bool = False
     way: Way = Way()
+    shell: tuple[str, ...] = ()
 
 
 def seconds_of(time: str) -> int:
@@ -104,12 +106,17 @@ def seconds_of(time: str) -> int:
 
 
 def next_time(time: datetime.time, now: int) -> int:
-    """The next moment after now at which the clock of this machine's zone shows this time."""
+    """The next moment after now at which the clock of this machine's zone shows this time. In the
+    hour that autumn repeats it shows it twice, and in that which spring leaves out never: then it
+    is the moment as long after the gap began."""
     day = datetime.datetime.fromtimestamp(now).date()
     for later in range(3):
         when = datetime.datetime.combine(day + datetime.timedelta(later), time)
-        if when.timestamp() > now:
-            return int(when.timestamp())
+        moments = [int(when.replace(fold=it).timestamp()) for it in (0, 1)]
+        is_shown = any(datetime.datetime.fromtimestamp(it) == when for it in moments)
+        for it in sorted(moments) if is_shown else moments[:1]:
+            if it > now:
+                return it
     raise ValueError("no such time")
 
 
@@ -138,7 +145,8 @@ class Reader:
             "limit": self.read_limit, "after": self.read_after, "retries": self.read_retries,
             "timeout": self.read_timeout, "in": self.read_in, "env": self.read_env,
             "stop": self.read_stop, "background": self.read_background,
-            "via": lambda: self.read_way("via"), "ask": lambda: self.read_way("ask")}
+            "via": lambda: self.read_way("via"), "ask": lambda: self.read_way("ask"),
+            "shell": self.read_shell}
         while self.words:
             word = self.words.pop(0)
             if word in ("until", "within"):
@@ -207,11 +215,12 @@ class Reader:
         self.its.env[name] = value
 
     def read_stop(self) -> None:
-        if self.words and self.words[0] != "on":
+        if self.words and self.words[0] not in ("on", "failure", "on-failure"):
             self.read_way("stop")
             return
-        if [self.value("on"), self.value("failure")] != ["on", "failure"]:
+        if self.words[:2] != ["on", "failure"]:
             raise Wrong("the setting is stop on failure, or stop WORDS..")
+        del self.words[:2]
         self.its.stops = True
 
     def read_way(self, what: str) -> None:
@@ -220,6 +229,13 @@ class Reader:
         self.words.clear()
         self.once(what, bool(getattr(self.its.way, what)))
         self.its.way = replace(self.its.way, **{what: words})
+
+    def read_shell(self) -> None:
+        """Likewise."""
+        words = (self.value("the shell"), *self.words)
+        self.words.clear()
+        self.once("shell", bool(self.its.shell))
+        self.its.shell = words
 
     def read_background(self) -> None:
         if self.value("keep") != "keep":
@@ -247,5 +263,6 @@ def read_settings(settings: Settings, whose: str, rest: str, is_one: bool, line:
 def check_of_all(its: Settings) -> None:
     if its.limit:
         raise Wrong("the limit of all groups together is the option -j")
-    if its != Settings(its.line, deadline=its.deadline):
-        raise Wrong("all groups together have a deadline alone: until MOMENT, within TIME")
+    if its != Settings(its.line, deadline=its.deadline, shell=its.shell):
+        raise Wrong("all groups together have a deadline and a shell alone: until MOMENT, within"
+                    " TIME, shell WORDS..")

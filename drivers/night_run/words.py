@@ -49,8 +49,10 @@ FILE = """A line of JOBS is one of
   GROUP KEY COMMAND..       a command for /bin/sh; a key stands once in its group
   GROUP: SETTING..          settings of a group
   GROUP KEY: SETTING..      settings of one command; they win over its group's
-  night: SETTING..          of all groups together: until 05:30, within 8h
+  night: SETTING..          of all groups together: until 05:30, within 8h, shell bash
   # ..
+
+All mistakes of the file are told at a time, and nothing begins.
 
 Settings, several in a line or in several lines:
 
@@ -66,9 +68,10 @@ Settings, several in a line or in several lines:
   via WORDS..               (a group) each command is handed to these words, as one argument more,
                             and so runs elsewhere; this takes the rest of its line
   ask WORDS.., stop WORDS.. (a group) how to ask how a try ended there, and for its end
+  shell bash -o pipefail    these words run it by -c, in place of /bin/sh; the rest of its line
 
-Each command has NIGHT_STORE, NIGHT_GROUP, NIGHT_KEY and NIGHT_TRY in its environment, an empty
-standard input, and its output in STORE.out/GROUP.KEY.TRY. STORE.log says what ran when, how long,
+Each command has the environment of night-run, with NIGHT_STORE, NIGHT_GROUP, NIGHT_KEY and
+NIGHT_TRY, an empty standard input, and its output in STORE.out/GROUP.KEY.TRY. STORE.log says what ran when, how long,
 and how it ended. Ctrl-C once lets the commands that run end, twice stops them; so does SIGTERM.
 
 The status is 0 where every command of the file is ok (or what was asked for is printed or done),
