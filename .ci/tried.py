@@ -7,13 +7,14 @@ all below it: their lines of crates.txt, and each file of src/, specs/ and proof
 import hashlib
 import os
 import re
-from collections.abc import Iterable, Iterator, Mapping
+from collections.abc import Iterable, Mapping
 from typing import NamedTuple
+
+from crates import crates_of, sum_of_text
 
 FILE = ".ci/mutants.tried"
 HEAD = ("# .ci/mutants alone writes this file: each mutant that the prover refused, after the sum of"
         " the text\n# that it stood on; last the sum of these lines.\n")
-PARTS = ("src", "specs", "proofs")
 
 
 class NotBelieved(Exception):
@@ -33,15 +34,11 @@ class Mutant(NamedTuple):
 
 
 class Text:
-    """The crates of a repository whose top is a folder, and what stands in them."""
+    """The crates of a repository whose top is a folder, and their mutants, as they are now."""
 
     def __init__(self, top: str) -> None:
-        self.top, self.lines = top, dict[str, str]()
-        with open(f"{top}/crates.txt", encoding="utf-8") as file:
-            for line in file:
-                if found := re.match(r"(\w+)[^:#]*:", line):
-                    self.lines[found[1]] = line.partition("#")[0].strip()
-        self.sums: dict[str, bytes] = {}
+        self.top, self.crates = top, {it.name: it for it in crates_of(top)}
+        self.sums: dict[str, str] = {}
 
     def mutants(self) -> list[Mutant]:
         """Returns every mutant, those of crates that crates.txt doesn't list, too."""
@@ -53,40 +50,12 @@ class Text:
                       if it.endswith(".edit")]
         return found
 
-    def closure(self, crate: str) -> list[str]:
-        """Returns the names of a crate and of all below it, each after those that it stands on."""
-        found: list[str] = []
-        for name in self.lines[crate].partition(":")[2].split():
-            if name in self.lines:
-                found += [it for it in self.closure(name) if it not in found]
-        return [*found, crate]
-
     def sum_of(self, mutant: Mutant, folder: str = "mutants") -> str:
         """Returns the sum of all that a mutant stands on."""
-        whole = hashlib.sha256()
-        for crate in sorted(self.closure(mutant.crate)):
-            whole.update(self.sum_of_crate(crate))
+        whole = hashlib.sha256(sum_of_text(self.crates[mutant.crate], self.sums).encode())
         with open(f"{self.top}/{mutant.path(folder)}", "rb") as file:
             whole.update(file.read())
         return whole.hexdigest()[:32]
-
-    def sum_of_crate(self, crate: str) -> bytes:
-        """Returns the sum of a crate's own text."""
-        if crate not in self.sums:
-            whole = hashlib.sha256(repr(self.lines[crate]).encode())
-            for path in files_below(f"{self.top}/crates/{crate}"):
-                with open(f"{self.top}/crates/{crate}/{path}", "rb") as file:
-                    whole.update(repr((path, file.read())).encode())
-            self.sums[crate] = whole.digest()
-        return self.sums[crate]
-
-
-def files_below(folder: str) -> Iterator[str]:
-    """Yields each file of a crate that a check of it may read, by its path in the crate."""
-    for part in PARTS:
-        for at, folders, names in os.walk(f"{folder}/{part}"):
-            folders.sort()
-            yield from (os.path.relpath(f"{at}/{it}", folder) for it in sorted(names))
 
 
 def sum_of_lines(text: str) -> str:
@@ -129,7 +98,7 @@ def lost(text: Text, rows: Iterable[Mutant]) -> list[str]:
 def unlisted(text: Text) -> list[str]:
     """Returns which mutants are of no crate, so that nothing would try them."""
     return [f"{it.path()}: crates.txt has no crate {it.crate}" for it in text.mutants()
-            if it.crate not in text.lines]
+            if it.crate not in text.crates]
 
 
 def changed(text: Text, rows: Mapping[Mutant, str]) -> list[Mutant]:
