@@ -56,7 +56,7 @@ _night_run() {
     local current=${COMP_WORDS[COMP_CWORD]} before=${COMP_WORDS[COMP_CWORD - 1]}
     COMPREPLY=()
     case $before in
-        -j | --grace) return ;;
+        -j | --grace | --keep) return ;;
         --on-begin | --on-success | --on-failure)
             mapfile -t COMPREPLY < <(compgen -c -- "$current" | sort -u)
             return ;;
@@ -72,9 +72,9 @@ _night_run() {
     esac
     if [[ $current == -* ]]; then
         mapfile -t COMPREPLY < <(
-            compgen -W "-j --grace --failed --again --nightly --resume --quiet --on-begin \
-                --on-success --on-failure --list --json --dry-run --report --cancel --version \
-                --help" -- "$current")
+            compgen -W "-j --grace --keep --failed --again --nightly --resume --quiet \
+                --on-begin --on-success --on-failure --list --json --dry-run --report --cancel \
+                --version --help" -- "$current")
     else
         compopt -o filenames 2> /dev/null
         mapfile -t COMPREPLY < <(compgen -f -- "$current")

@@ -119,13 +119,18 @@ def numbered(state: State) -> Iterator[tuple[Task, Tried]]:
         counts[it.group, it.key] += 1
 
 
+def logged_groups(state: State, past: Past) -> set[str]:
+    """The groups whose lines in the log say something of what the store and its ends have."""
+    return {it.name for it in state.groups} | {it for it, _, _ in past.ends} | set(past.had)
+
+
 def facts_of(state: State, past: Past, lines: Mapping[Tried, Line], book: Book, now: float,
              forgiven: Mapping[Name, int]) -> Facts:
     """What a night has so far. So many failures of a command as are forgiven don't count."""
     facts = Facts()
     if past.night == book.night:
         read_past_ends(facts, past, lines, now)
-    ours = {it.name for it in state.groups if state.night_of(it.scope) == book.night}
+    ours = state.groups_of(book.night)
     for task, tried in numbered(state):
         if task.group in ours and not task.is_withdrawn:
             read_task(facts, task, lines.get(tried), now)

@@ -10,6 +10,8 @@
     STORE.cancel     which groups somebody wants to have cancelled (`cancels`)
     STORE.ended      how commands ended whose groups a renewal has given back (`past`)
     STORE.far        which commands may run elsewhere (`far`)
+    STORE.nights     when the last nights began, and when one was well (`nights`)
+    STORE.log.N      the log of night N (`keeping`)
     STORE.failed     a sync of the store failed, or its `night` was killed in one; the next opening
                      mends it
 """
@@ -63,6 +65,7 @@ class Files:
         self.out, self.log = f"{self.path}.out", f"{self.path}.log"
         self.pids, self.lock = f"{self.path}.pids", f"{self.path}.lock"
         self.cancel, self.ended = f"{self.path}.cancel", f"{self.path}.ended"
+        self.nights = f"{self.path}.nights"
         self.seen: tuple[int, int] | None = None
 
     def exists(self) -> bool:

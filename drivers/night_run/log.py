@@ -11,19 +11,29 @@ of another form is passed over.
 from __future__ import annotations
 
 import datetime
+import errno
+import functools
 import os
 import re
 import time
-from collections.abc import Iterator
+from collections.abc import Collection, Iterator
 from dataclasses import dataclass
 
 from .ends import End, read_end
-from .regular import open_regular, read_regular
+from .regular import open_regular
+from .rounds import round_of
 from .telling import note_once
 
 HEAD = "Try\tGroup\tKey\tBegan\tSeconds\tEnd\tCommand\n"
 LINE = re.compile(r"([0-9]{1,6})\t([a-z0-9_-]{1,32})\t([a-z0-9_-]{1,32})\t([^\t]*)\t([^\t]*)"
                   r"\t([^\t]*)\t(.*)")
+
+# The log is read from its end in blocks of so many bytes. A longer line is none of its own.
+BLOCK, MOST_LINE = 1 << 16, 1 << 20
+# After so many lines in a row of earlier nights all that stands before is of these, too.
+MOST_OLDER = 10_000
+# So many bytes wait at most while the log can't be written.
+MOST_LEFT = 1 << 20
 
 # A task: its group, its key, and which try of the key it is.
 Tried = tuple[str, str, int]
@@ -52,20 +62,71 @@ class Line:
         return None if began is None or took is None else began + took
 
 
-def read_log(path: str, shown: str) -> dict[Tried, Line]:
-    """The lines of the log at this path, in their order; none where it can't be read."""
-    found: dict[Tried, Line] = {}
+def read_log(path: str, shown: str, groups: Collection[str]) -> dict[Tried, Line]:
+    """The lines of these groups in the log at this path, in their order; none where it can't be
+    read. Whatever else stands there takes no memory."""
+    found: list[tuple[Tried, Line]] = []
     try:
-        text = read_regular(path).decode("utf-8", "surrogateescape")
-        for line in text.split("\n"):
-            if it := LINE.fullmatch(line):
-                found.setdefault((it[2], it[3], int(it[1])),
-                                 Line(it[4], it[5], read_end(it[6]), it[7]))
+        file = open_regular(path, os.O_RDONLY)
+        try:
+            for line in lines_of(file, groups):
+                if it := LINE.fullmatch(line.decode("utf-8", "surrogateescape")):
+                    tried = it[2], it[3], int(it[1])
+                    found.append((tried, Line(it[4], it[5], read_end(it[6]), it[7])))
+        finally:
+            os.close(file)
     except FileNotFoundError:
         pass
     except OSError as error:
         note_once(f"{shown}.log: {error.strerror}")
-    return found
+    made: dict[Tried, Line] = {}
+    for tried, read in reversed(found):
+        made.setdefault(tried, read)
+    return made
+
+
+def lines_of(file: int, groups: Collection[str]) -> Iterator[bytes]:
+    """The lines of these groups, the last one first. The names of a later night have a greater
+    round: what stands before many lines of lesser ones is of earlier nights."""
+    wanted = {it.encode() for it in groups}
+    least, older = min((round_of(it).number for it in groups), default=1), 0
+    for line in backwards(file) if wanted else ():
+        words = line.split(b"\t", 2)
+        if len(words) < 3:
+            continue
+        if words[1] in wanted:
+            older = 0
+            yield line
+        else:
+            older = older + 1 if round_in(words[1]) < least else 0
+            if older > MOST_OLDER:
+                return
+
+
+@functools.lru_cache(1024)
+def round_in(group: bytes) -> int:
+    return round_of(group.decode("ascii", "replace")).number
+
+
+def backwards(file: int) -> Iterator[bytes]:
+    """The lines of a file, the last one first. One that is too long is passed over."""
+    at, tail, is_cut = os.fstat(file).st_size, b"", False
+    while at:
+        size = min(BLOCK, at)
+        at -= size
+        first, *lines = os.pread(file, size, at).split(b"\n")
+        if not lines:
+            tail = first + tail
+            if len(tail) > MOST_LINE:
+                tail, is_cut = b"", True
+            continue
+        last = lines.pop()
+        if not is_cut:
+            yield last + tail
+        yield from reversed(lines)
+        tail, is_cut = first, False
+    if not is_cut:
+        yield tail
 
 
 def text_of_line(command: str) -> str:
@@ -74,30 +135,69 @@ def text_of_line(command: str) -> str:
 
 
 class Log:
-    """The log of the driver that runs. One that can't be written ends no night."""
+    """The log of the driver that runs. One that can't be written ends no night: what it lacks is
+    written once there is room."""
 
-    def __init__(self, path: str, shown: str) -> None:
-        self.shown = shown
-        self.lines = read_log(path, shown)
-        self.file = -1
+    def __init__(self, path: str, shown: str, groups: Collection[str]) -> None:
+        self.path, self.shown = path, shown
+        self.lines = read_log(path, shown, groups)
+        self.file, self.left = -1, b""
+        self.open()
+
+    def open(self) -> None:
         try:
-            self.file = open_regular(path, os.O_RDWR | os.O_APPEND | os.O_CREAT)
+            self.file = open_regular(self.path, os.O_RDWR | os.O_APPEND | os.O_CREAT)
             size = os.fstat(self.file).st_size
             is_cut = size and os.pread(self.file, 1, size - 1) != b"\n"
             self.write("\n" if is_cut else "" if size else HEAD)
         except OSError as error:
             self.failed(error)
 
+    def rotate(self, path: str) -> None:
+        """Puts all lines so far aside, under this path, and begins anew."""
+        self.lines.clear()
+        try:
+            os.rename(self.path, path)
+        except FileNotFoundError:
+            pass
+        except OSError as error:
+            self.failed(error)
+            return
+        if self.file >= 0:
+            os.close(self.file)
+            self.file = -1
+        self.open()
+
     def failed(self, error: OSError) -> None:
         note_once(f"{self.shown}.log: {error.strerror}")
 
     def write(self, text: str) -> None:
-        if self.file < 0 or not text:
+        """Writes whole lines: where one doesn't fit it waits, with those that follow."""
+        if self.file < 0:
             return
+        self.left += text.encode("utf-8", "surrogateescape")
         try:
-            os.write(self.file, text.encode("utf-8", "surrogateescape"))
+            while self.left:
+                self.write_some()
         except OSError as error:
             self.failed(error)
+            if len(self.left) > MOST_LEFT:
+                self.left = self.left[self.left.find(b"\n", -MOST_LEFT) + 1:]
+
+    def write_some(self) -> None:
+        size = os.fstat(self.file).st_size
+        count = os.write(self.file, self.left)
+        whole = count if count == len(self.left) else self.left.rfind(b"\n", 0, count) + 1
+        if whole < count:
+            os.ftruncate(self.file, size + whole)
+        self.left = self.left[whole:]
+        if not whole:
+            raise OSError(errno.ENOSPC, os.strerror(errno.ENOSPC))
+
+    def last_end(self) -> float | None:
+        """When the last command ended of those whose lines it has."""
+        ends = (it.ended_at() for it in self.lines.values())
+        return max((it for it in ends if it is not None), default=None)
 
     def sync(self) -> None:
         if self.file >= 0:

@@ -43,6 +43,7 @@ from .facts import PASSED, Book, Facts, book_of, facts_of, numbered
 from .far import Elsewhere, Far, Named, outstanding
 from .files import Files
 from .jobs import Jobs
+from .keeping import Keeper
 from .leftovers import Leftover, sign_night, sign_stop
 from .log import Line, Log, Tried, line_of
 from .night import (ALREADY_DONE, CLOCK_NOT_FORWARD, FULL, MOST_BUSY, NOTHING_READY, NightEnded,
@@ -52,7 +53,7 @@ from .opening import (Maker, StoreFull, advance, ready_state, set_limits, withdr
 from .past import Past
 from .plan import Standing, may_begin, standings
 from .renewal import renew
-from .rounds import Role, Round, base_of, role_name
+from .rounds import Role, Round, base_of, role_name, round_of
 from .settings import OF_ALL
 from .signals import Signals
 from .state import ENDED, JOB, State
@@ -99,8 +100,9 @@ class Driver:
     opened: float  # when that was
 
     def __init__(self, files: Files, jobs: Jobs, log: Log, past: Past, pids: int,
-                 left: list[Leftover], most: int, grace: float, signals: Signals) -> None:
-        self.signals = signals
+                 left: list[Leftover], most: int, grace: float, signals: Signals,
+                 keeper: Keeper) -> None:
+        self.signals, self.keeper = signals, keeper
         self.files, self.jobs, self.log, self.past, self.pids = files, jobs, log, past, pids
         self.left, self.most, self.grace = left, most, grace
         self.desk, self.far = Desk(files), Far(files)
@@ -159,6 +161,7 @@ class Driver:
         if session:
             with contextlib.suppress(NightEnded, OSError, ValueError):
                 session.close()
+        self.log.write("")  # (what it had no room for)
 
     def after(self, ended: NightEnded) -> None:
         """Decides whether another run of `night` is begun."""
@@ -278,8 +281,10 @@ class Driver:
 
     def ends_of(self, state: State) -> Iterator[tuple[Tried, Line]]:
         """The lines of the log for what the store has as ended."""
+        ours = state.groups_of(self.night)
         for task, tried in numbered(state):
-            if task.end and not task.is_withdrawn and tried not in self.log.lines:
+            if task.end and task.group in ours and not task.is_withdrawn \
+                    and tried not in self.log.lines:
                 job = self.jobs.all.get(task.name)
                 yield tried, self.line(task.name, task.end, job.command if job else "-",
                                        task.number)
@@ -313,8 +318,20 @@ class Driver:
                     raise Fault(f"{self.files.shown}: the file has more groups than a store has"
                                 " scopes for") from None
                 raise
+            self.note_night(state)
             self.night, self.begins_night = self.book.night, False
             self.anew.clear()
+
+    def note_night(self, state: State) -> None:
+        """Notes how this night began, once its scopes are there. Of one that an earlier driver
+        began the store says that, unless it was renewed since."""
+        night, tops = self.book.night, state.tops(self.book.night, self.book.night)
+        is_first = not tops and not self.past.round
+        is_renewed = bool(self.past.round) and self.past.night == night
+        first = tops[0] if tops else self.book.top
+        if first and (self.begins_night or is_first
+                      or not is_renewed and not self.keeper.knows(night)):
+            self.keeper.begin(night, round_of(first.name).number, self.begins_night)
 
     def make_scope(self, maker: Maker, group: str, is_wanted: bool, moved: bool) -> None:
         """Makes the scope of a group, if it needs one."""

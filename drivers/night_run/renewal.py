@@ -58,8 +58,10 @@ def keep(files: Files, log: Log, past: Past, jobs: Jobs, state: State, events: i
     """Keeps how each command of the night has ended."""
     night = max(state.night(), past.night)
     book = book_of(state, past, night)
+    ours = state.groups_of(night)
     log.add((tried, line_of(None, None, task.end, text(jobs, task.name)))
-            for task, tried in numbered(state) if task.end and not task.is_withdrawn)
+            for task, tried in numbered(state)
+            if task.end and task.group in ours and not task.is_withdrawn)
     log.sync()
     ends = ends_of(past if past.night == night else Past(), state, book)
     made = Past(events, night, max([past.round, *(it.number for it in book.rounds.values())]),

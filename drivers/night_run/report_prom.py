@@ -20,11 +20,12 @@ def prom(report: Report) -> str:
     commands = [({**store, "group": it.group, "key": it.key}, it) for it in report.rows]
     families = (
         ("night", "Number of the night, from 1.", [(store, float(report.night))]),
-        ("begin_timestamp_seconds", "When the night began.", known(store, report.began)),
-        ("last_end_timestamp_seconds", "When the last command ended.",
-         known(store, last_end(report.rows))),
+        ("begin_timestamp_seconds", "When the night began.",
+         known(store, report.opened if report.began is None else report.began)),
+        ("last_end_timestamp_seconds", "When the last command ended, of this night or before.",
+         known(store, ended(report))),
         ("last_success_timestamp_seconds",
-         "When the night's last command ended, if all of them are ok.",
+         "When the last command ended of the last night in which all are ok.",
          known(store, success(report))),
         ("commands", "Commands of a group, by how they stand.", list(standing(report))),
         ("group_deadline_timestamp_seconds", "When the group's deadline passes.",
@@ -59,10 +60,16 @@ def standing(report: Report) -> Iterator[Sample]:
                    float(found.get(phase, 0)))
 
 
+def ended(report: Report) -> float | None:
+    """When the last command ended: a night that hangs at its first one still has that."""
+    found = last_end(report.rows)
+    return report.last_before if found is None else found
+
+
 def success(report: Report) -> float | None:
-    """When the last command ended, where every one is ok."""
-    is_well = all(it.phase == "ok" for it in report.rows)
-    return last_end(report.rows) if is_well else None
+    """When the last command ended of the last night that was all well."""
+    found = last_end(report.rows) if all(it.phase == "ok" for it in report.rows) else None
+    return report.last_well if found is None else found
 
 
 def success_of(row: Row) -> float | None:

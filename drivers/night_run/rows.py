@@ -61,3 +61,8 @@ class Report:
     began: float | None
     groups: tuple[Group, ...]
     rows: tuple[Row, ...]
+    # What is known besides the tries: when the night began, when the last command before it ended,
+    # and when the last night was all well.
+    opened: float | None = None
+    last_before: float | None = None
+    last_well: float | None = None

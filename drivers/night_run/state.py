@@ -104,6 +104,10 @@ class State:
                 return int(it.value or "")
         return 1
 
+    def groups_of(self, night: int) -> set[str]:
+        """The groups whose scopes are of a night, by their names."""
+        return {it.name for it in self.groups if self.night_of(it.scope) == night}
+
     @functools.cached_property
     def by_name(self) -> dict[str, Scope]:
         return {it.name: it for it in self.scopes}

@@ -9,11 +9,12 @@ from dataclasses import dataclass, replace
 
 from . import Name, rows
 from .ends import INTERRUPTED
-from .facts import Book, Facts, book_of, facts_of, numbered
+from .facts import Book, Facts, book_of, facts_of, logged_groups, numbered
 from .files import Files
 from .jobs import Jobs
 from .leftovers import running_now
 from .log import Line, Tried, read_log
+from .nights import read_nights
 from .opening import check, inspected
 from .past import Past, read_past
 from .plan import NOT_KNOWN, Standing, standings
@@ -47,7 +48,7 @@ def look(files: Files, jobs: Jobs, past: Past | None = None) -> View:
     else:
         state = inspected(files)
     check(files, state, past.events if files.exists() else 0)
-    lines = read_log(files.log, files.shown)
+    lines = read_log(files.log, files.shown, logged_groups(state, past))
     night = max(state.night() if state.scopes else 1, past.night)
     book = book_of(state, past, night)
     facts = facts_of(state, past, lines, book, time.time(), {})
@@ -80,8 +81,12 @@ def report(files: Files, jobs: Jobs, view: View) -> rows.Report:
     made = tuple(row(files, view, jobs.all[name].command, name, tries.get(name, []))
                  for name in jobs.all)
     moments = [it.began for one in made for it in one.tries if it.began is not None]
-    return rows.Report(files.shown, view.book.night, time.time(), min(moments, default=None),
-                       groups(jobs, view), made)
+    nights, number = read_nights(files), view.book.night
+    begun = nights.begun.get(number)
+    before = nights.well if nights.well and nights.well[0] <= number else None
+    return rows.Report(files.shown, number, time.time(), min(moments, default=None),
+                       groups(jobs, view), made, begun.begun if begun else None,
+                       begun.last if begun else None, before[1] if before else None)
 
 
 def remembered(files: Files, jobs: Jobs, night: int, known: Mapping[Name, Standing],
@@ -119,8 +124,7 @@ def tries_of(view: View) -> dict[Name, list[tuple[str, rows.Try]]]:
     """The tries of each command in this night, with the store's group of each."""
     found: dict[Name, list[tuple[str, rows.Try]]] = {}
     seen: set[Tried] = set()
-    ours = {it.name for it in view.state.groups
-            if view.state.night_of(it.scope) == view.book.night}
+    ours = view.state.groups_of(view.book.night)
     gone = set()
     if view.past.night == view.book.night:
         gone = {group for group, _, _ in view.past.ends} | set(view.past.had)

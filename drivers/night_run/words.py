@@ -19,9 +19,10 @@ from typing import NoReturn
 from . import Fault, Mistake, Name, cancels, exits, rows, telling
 from .ends import text_of
 from .exits import Hooks, Outcome, hooks_of, outcome_of
-from .facts import Book, Facts, book_of, facts_of, when_ended
+from .facts import Book, Facts, book_of, facts_of, logged_groups, when_ended
 from .files import Files
 from .jobs import Jobs
+from .keeping import Keeper
 from .leftovers import end_night, left_commands, open_pids
 from .log import Log
 from .loop import Driver
@@ -30,6 +31,7 @@ from .opening import advance, check, inspected, now_of
 from .past import Past, Unreadable, read_past
 from .plan import CANCELLED, FAILED, may_begin, standings
 from .renewal import make, make_anew, renew
+from .report_words import last_end
 from .rounds import Role, base_of, role_name
 from .settings import OF_ALL
 from .signals import Signals
@@ -110,8 +112,9 @@ class Reader(argparse.ArgumentParser):
 def read_words(given: list[str]) -> argparse.Namespace:
     reader = Reader(
         prog="night-run", description=HELP, epilog=FILE, allow_abbrev=False,
-        usage="night-run STORE JOBS [-j N] [--grace S] [--failed | --again | --nightly | --resume]\n"
-              "                       [--quiet] [--on-begin COMMAND] [--on-success COMMAND]\n"
+        usage="night-run STORE JOBS [-j N] [--grace S] [--keep N] [--quiet]\n"
+              "                       [--failed | --again | --nightly | --resume]\n"
+              "                       [--on-begin COMMAND] [--on-success COMMAND]\n"
               "                       [--on-failure COMMAND]\n"
               "       night-run STORE JOBS --list [--json] | --dry-run | --report html|text|prom\n"
               "       night-run STORE --cancel GROUP [WHY..]\n"
@@ -123,6 +126,9 @@ def read_words(given: list[str]) -> argparse.Namespace:
                         help="run so many commands at a time, 4 where it is left out")
     reader.add_argument("--grace", type=number, default=10, metavar="SECONDS",
                         help="kill what was asked to end after so many, 10 where it is left out")
+    reader.add_argument("--keep", type=number, default=30, metavar="N",
+                        help="keep the logs and outputs of so many earlier nights, 30 where it is"
+                        " left out")
     reader.add_argument("--quiet", action="store_true",
                         help="print nothing where all is well; a night that has ended and so runs"
                         " nothing is said, but for --resume")
@@ -417,9 +423,10 @@ class Run:
         self.past = read_past(self.files.ended, self.files.shown)
         state = self.first_look()
         check(self.files, state, self.past.events)
-        self.log = Log(self.files.log, self.files.shown)
+        self.log = Log(self.files.log, self.files.shown, logged_groups(state, self.past))
+        self.keeper = Keeper(self.files, self.log, self.words.keep)
         driver = Driver(self.files, self.jobs, self.log, self.past, pids, left, self.words.most,
-                        self.words.grace, self.signals)
+                        self.words.grace, self.signals, self.keeper)
         self.driver = driver
         if not self.prepare(driver, state):
             return self.idle()
@@ -505,6 +512,8 @@ class Run:
 
     def ended(self, made: rows.Report, view: View, last: str, has_run: bool) -> Outcome:
         lines = (*failures(made), *changed(self.jobs, made, view.lines), last)
+        if is_well(made):
+            self.keeper.well(made.night, last_end(made.rows))
         status = exits.WELL if is_well(made) else exits.NOT_WELL
         # (a cron job that silently runs nothing is the worst)
         is_silent = self.words.quiet and status == exits.WELL and (has_run or self.words.resume)

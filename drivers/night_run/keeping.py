@@ -1,0 +1,97 @@
+"""What is kept of earlier nights: the log of each, STORE.log.N, and the outputs of its tries. As a
+night begins, those go of nights that ended longer ago than as many nights as are kept.
+
+Nothing else is removed. An output is a regular file in STORE.out with a name GROUP.KEY.TRY; which
+night it is of its group's round says, by the rounds with which the nights began (`nights`). Where
+that isn't known it stays. A report names outputs of the last night alone, and that one is kept.
+"""
+
+from __future__ import annotations
+
+import contextlib
+import os
+import re
+import time
+from collections.abc import Iterator
+
+from .files import Files
+from .log import Log
+from .nights import Night, Nights, read_nights, write_nights
+from .rounds import round_of
+from .telling import note_once
+
+OUTPUT = re.compile(r"([a-z0-9_-]{1,32})\.[a-z0-9_-]{1,32}\.[0-9]{1,6}")
+OLD_LOG = re.compile(r"\.log\.([1-9][0-9]{0,8})")
+
+
+class Keeper:
+    """Notes how nights begin and end, and removes what isn't kept any more."""
+
+    def __init__(self, files: Files, log: Log, keep: int) -> None:
+        self.files, self.log, self.keep = files, log, keep
+        self.nights = read_nights(files)
+
+    def knows(self, night: int) -> bool:
+        return night in self.nights.begun
+
+    def begin(self, night: int, first: int, is_new: bool) -> None:
+        """A night has begun, whose names have this round at least. Where it is new the log so far
+        is that of the night before."""
+        last = self.log.last_end() or self.last_before(night)
+        if is_new and night > 1:
+            self.log.rotate(f"{self.files.log}.{night - 1}")
+        self.nights.add(Night(night, first, time.time(), last), self.keep)
+        write_nights(self.files, self.nights)
+        self.tidy(night)
+
+    def last_before(self, night: int) -> float | None:
+        """What was known of the last end as the last night began."""
+        before = [it for it in self.nights.begun.values() if it.number < night]
+        return max(before, key=lambda it: it.number).last if before else None
+
+    def well(self, night: int, when: float | None) -> None:
+        """Every command of this night is ok."""
+        if self.nights.well and self.nights.well[0] == night and when is not None \
+                and abs(self.nights.well[1] - when) < 1:
+            return
+        self.nights.well = night, time.time() if when is None else when
+        write_nights(self.files, self.nights)
+
+    def tidy(self, night: int) -> None:
+        """Removes what is of nights before the first that is kept."""
+        oldest = night - self.keep
+        gone = list(old_logs(self.files, oldest)) + list(old_outputs(
+            self.files, first_kept(self.nights, night, self.keep)))
+        for path in gone:
+            try:
+                os.unlink(path)
+            except FileNotFoundError:
+                pass
+            except OSError as error:
+                note_once(f"{self.files.shown}{path[len(self.files.path):]}: {error.strerror}")
+
+
+def first_kept(nights: Nights, night: int, keep: int) -> int:
+    """The round with which the first night began that is kept; 0 where it isn't known. (Each night
+    takes a round at least.)"""
+    now, oldest = nights.begun[night], nights.begun.get(night - keep)
+    return min(oldest.round, now.round - keep) if oldest else 0
+
+
+def old_logs(files: Files, oldest: int) -> Iterator[str]:
+    """The logs of nights before this one."""
+    folder, name = os.path.split(files.path)
+    with contextlib.suppress(OSError), os.scandir(folder) as found:
+        for it in found:
+            number = OLD_LOG.fullmatch(it.name[len(name):]) if it.name.startswith(name) else None
+            if number and int(number[1]) < oldest and it.is_file(follow_symlinks=False):
+                yield it.path
+
+
+def old_outputs(files: Files, first: int) -> Iterator[str]:
+    """The outputs whose groups have a lesser round."""
+    with contextlib.suppress(OSError), os.scandir(files.out) as found:
+        for it in found:
+            name = OUTPUT.fullmatch(it.name)
+            if name and round_of(name[1]).number < first and it.is_file(follow_symlinks=False):
+                yield it.path

@@ -1,0 +1,89 @@
+"""STORE.nights: when the last nights began, and when one was all well. Its lines are
+
+    night N round R begun MOMENT last MOMENT     the names of night N have the round R at least;
+                                                 the last command before it ended then, or -
+    well N at MOMENT                             the last night in which every command was ok
+
+with moments in seconds since 1970. A line of another form, and a file that can't be read, say
+nothing: what isn't known to be of an old night is kept.
+"""
+
+from __future__ import annotations
+
+import os
+import re
+from dataclasses import dataclass, field
+
+from .files import Files
+from .regular import open_regular, read_regular
+from .telling import note_once
+
+MOMENT = r"([0-9]{1,12}(?:\.[0-9]{1,3})?)"
+NIGHT = re.compile(rf"night ([0-9]{{1,9}}) round ([0-9]{{1,9}}) begun {MOMENT} last (?:{MOMENT}|-)")
+WELL = re.compile(rf"well ([0-9]{{1,9}}) at {MOMENT}")
+
+
+@dataclass(frozen=True)
+class Night:
+    """How a night began."""
+
+    number: int
+    round: int
+    begun: float
+    last: float | None  # when the last command before it ended
+
+    def line(self) -> str:
+        last = "-" if self.last is None else f"{self.last:.3f}"
+        return f"night {self.number} round {self.round} begun {self.begun:.3f} last {last}\n"
+
+
+@dataclass
+class Nights:
+    """What the file says."""
+
+    begun: dict[int, Night] = field(default_factory=dict)
+    well: tuple[int, float] | None = None
+
+    def text(self) -> str:
+        lines = [self.begun[it].line() for it in sorted(self.begun)]
+        if self.well:
+            lines.append(f"well {self.well[0]} at {self.well[1]:.3f}\n")
+        return "".join(lines)
+
+    def add(self, it: Night, keep: int) -> None:
+        """Adds a night. Those are forgotten that nothing is kept of, and those of an older store:
+        a later night has a greater number and a greater round."""
+        self.begun = {number: one for number, one in self.begun.items()
+                      if it.number - keep <= number < it.number and one.round < it.round}
+        self.begun[it.number] = it
+        if self.well and self.well[0] >= it.number:
+            self.well = None
+
+
+def read_nights(files: Files) -> Nights:
+    found = Nights()
+    try:
+        lines = read_regular(files.nights).decode("ascii", "replace").split("\n")
+    except FileNotFoundError:
+        return found
+    except OSError as error:
+        note_once(f"{files.shown}.nights: {error.strerror}")
+        return found
+    for line in lines:
+        if it := NIGHT.fullmatch(line):
+            last = float(it[4]) if it[4] else None
+            found.begun[int(it[1])] = Night(int(it[1]), int(it[2]), float(it[3]), last)
+        elif it := WELL.fullmatch(line):
+            found.well = int(it[1]), float(it[2])
+    return found
+
+
+def write_nights(files: Files, nights: Nights) -> None:
+    """Puts this in the file's place. One that can't be written ends no night."""
+    making = f"{files.nights}.new"
+    try:
+        with open(open_regular(making, os.O_WRONLY | os.O_CREAT | os.O_TRUNC), "wb") as file:
+            file.write(nights.text().encode("ascii"))
+        os.replace(making, files.nights)
+    except OSError as error:
+        note_once(f"{files.shown}.nights: {error.strerror}")
