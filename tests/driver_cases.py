@@ -18,6 +18,18 @@ SLOW = """#!/bin/sh
 [ "$1" = inspect ] && [ -e slow ] && sleep 2
 exec '{night}' "$@"
 """
+# Likewise: as the session of this number begins another program reads the store.
+READING = """#!/bin/bash
+if [ "$1" = script ]; then
+    n=$(cat count 2> /dev/null || echo 0)
+    echo $((n + 1)) > count
+    if [ "$n" = {at} ]; then
+        flock -s "$2" sleep 0.3 &
+        sleep 0.1
+    fi
+fi
+exec '{night}' "$@"
+"""
 # A command that closes what it inherits, and says whether another try of it runs.
 CLOSING = """import os, time
 os.closerange(3, 256)
@@ -103,6 +115,28 @@ def full_store(tries: Shared) -> None:
                                                                  " 4 run now"))
     tries.is_same(f"{kind}: nothing else does", room.path, sorted(room.begun()),
                   [f"g.k{it}" for it in range(SMALL - 4, SMALL)])
+
+
+def read_meanwhile(tries: Shared) -> None:
+    """A program that reads the store for a moment, as a renewal or a cancel opens it, ends no
+    night, and keeps no cancel from being done."""
+    kind = "a reader of the store"
+    room = Room(tries, [f"g k{it} :" for it in range(SMALL + 100)])
+    small_store(room)
+    room.night = room.program("between", READING.format(night=tries.program, at=1))
+    tries.is_same(f"{kind}: at a renewal", room.path, room.last("s", "JOBS", "-j", "8"),
+                  (0, f"{SMALL + 100} commands: {SMALL + 100} ok; {SMALL + 100} run now"))
+    tries.holds(f"{kind}: at a renewal: it was renewed", room.path, "renewed" in room.errors,
+                room.errors)
+    room = Room(tries, [job("g", "a", 30)])
+    run = room.start()
+    room.until(lambda: room.lines("begun"))
+    kill([run.pid], which=signal.SIGTERM)
+    room.ended(run)
+    room.night = room.program("between", READING.format(night=tries.program, at=0))
+    tries.is_same(f"{kind}: at a cancel", room.path, (
+        room.run("s", "--cancel", "g", "why"), room.lines("count")[-1:] != ["1"]), (
+            (0, "g: done; deadline none; err context canceled; cause why\n"), True))
 
 
 def night_dies(tries: Shared) -> None:
@@ -597,7 +631,7 @@ def order(tries: Shared) -> None:
     tries.is_same(f"{kind}: it isn't begun", room.path, room.begun(), {"g.a": 1})
 
 
-CASES = [short_commands, short_deadline, short_cancel, full_store, night_dies, lists, bad_cancels,
+CASES = [short_commands, short_deadline, short_cancel, full_store, read_meanwhile, night_dies, lists, bad_cancels,
          held_cancels, late_cancels, cancel_beside, two_tries, backgrounds, stopped_ok, no_room,
          clock_ahead, clock_ahead_again, other_jobs, many_groups, texts, no_traces, hung_night,
          held_night, missing_store, edits, second_evening, names_of_rounds, order]

@@ -8,7 +8,7 @@ with an error that counts for nothing), since a start would take it first.
 from __future__ import annotations
 
 import time
-from collections.abc import Iterable
+from collections.abc import Callable, Iterable
 from dataclasses import replace
 
 from . import Fault
@@ -17,13 +17,11 @@ from .facts import Book
 from .files import Files
 from .jobs import Jobs
 from .night import (ALREADY_DONE, CLOCK_NOT_FORWARD, FULL, LIMIT_WHILE_ACTIVE, NO_SUCH_SCOPE,
-                    NOTHING_READY,
-                    WAITED, Session, ran, refusal)
+                    MOST_BUSY, NOTHING_READY, WAITED, NightEnded, Session, ran, refusal)
 from .rounds import Role, Round, base_of, named, role_name
 from .settings import OF_ALL, Deadline
 from .state import FRESH, JOB, Scope, State, read_state
 
-MOST_BUSY = 100
 
 
 class StoreFull(Exception):
@@ -43,6 +41,22 @@ def check(files: Files, state: State, events: int) -> None:
         if it.job != JOB:
             raise Fault(f"{files.shown} has a task of another kind: {it.number}, {it.job}; a"
                         " night-run has a store of its own")
+
+
+def opened(files: Files, before: State | None, wake: int,
+           meanwhile: Callable[[], float]) -> tuple[Session, State]:
+    """A session that is open, and its state. While another program has the store, as one that reads
+    it for a moment, it is tried again."""
+    for left in reversed(range(MOST_BUSY)):
+        try:
+            session = Session(files.path, wake, meanwhile)
+            return session, ready_state(session, files, before)
+        except NightEnded as ended:
+            if not ended.is_in_use() or not left:
+                raise
+        meanwhile()
+        time.sleep(0.1)
+    raise AssertionError
 
 
 def ready_state(session: Session, files: Files, before: State | None) -> State:

@@ -19,8 +19,8 @@ from .facts import Book, book_of, facts_of, numbered
 from .files import Files, sync_folder
 from .jobs import Jobs
 from .log import Log, line_of
-from .night import MOST_KILLED, RENEWAL_SECONDS, NightEnded, Session, ran
-from .opening import advance, give_back, inspected, now_of, ready_state
+from .night import MOST_KILLED, RENEWAL_SECONDS, NightEnded, ran
+from .opening import advance, give_back, inspected, now_of, opened
 from .past import Past, write_past
 from .plan import standings
 from .rounds import base_of, named
@@ -32,9 +32,7 @@ def renew(files: Files, log: Log, past: Past, jobs: Jobs, wake: int,
           meanwhile: Callable[[], float]) -> tuple[Past, bool]:
     """Renews the store. What STORE.ended says then, and whether the store could be renewed."""
     try:
-        state = inspected(files)
-        session = Session(files.path, wake, meanwhile)
-        state = ready_state(session, files, state)
+        session, state = opened(files, inspected(files), wake, meanwhile)
         advance(session, now_of(state))
         past = keep(files, log, past, jobs, state, state.count)
         give_back(session, state, past.night, needed(log, past, jobs, state))

@@ -26,8 +26,8 @@ from .keeping import Keeper
 from .leftovers import end_night, left_commands, open_pids
 from .log import Log
 from .loop import Driver
-from .night import ALREADY_DONE, RENEWAL_SECONDS, NightEnded, Session, program, ran
-from .opening import advance, check, inspected, now_of
+from .night import ALREADY_DONE, RENEWAL_SECONDS, NightEnded, program, ran
+from .opening import advance, check, inspected, now_of, opened
 from .past import Past, Unreadable, read_past
 from .plan import CANCELLED, FAILED, may_begin, standings
 from .renewal import make, make_anew, renew
@@ -317,7 +317,7 @@ def cancel_alone(files: Files, group: str, why: str) -> str:
     state = inspected(files)
     scope = scope_of(files, state, group)
     wake, wakes = os.pipe()
-    session = Session(files.path, wake, lambda: 1e9)
+    session, state = opened(files, state, wake, lambda: 1e9)
     advance(session, now_of(state))
     _, look, _ = session.ask([f"cancel {scope} {why}", f"scope {scope}", "flush"],
                              may=[ALREADY_DONE])
