@@ -28,6 +28,9 @@ FOR_A_PROGRAM = ("bin/rattle-link", "toolchain", *C_CODE)
 CHECK = ("--crate-name", "--extern", "-L", "--antt-project", "--logic-built", "--links", "--jobs")
 
 
+Ran = subprocess.CompletedProcess[str]
+
+
 class NoKit(Exception):
     """There is no kit of Rattle."""
 
@@ -143,10 +146,48 @@ def run_program(kit: Kit, crate: Crate, jobs: int, out: IO[str]) -> int:
     return guard.run([kit.rt, "run", "--jobs", str(jobs), "--", "--version"], crate.folder, out)
 
 
+# Steps of the gate, each by itself
+
+
+def lacks_checks(kit: Kit) -> str:
+    """Returns what the kit lacks for a check of changed texts over what an earlier one kept."""
+    words = (*CHECK, "--incremental", "--test", "--progress", "--only")
+    return kit.lacks("check", words, FOR_A_CHECK)
+
+
+def checked(kit: Kit, crate: Crate, texts: Mapping[str, str], kept: str = "") -> Ran:
+    """Returns how a check ends of a crate with these texts in place of its own, over built
+    libraries, and over what is kept in a folder, if one is given."""
+    words = [kit.rattle, "check", *words_for(kit, crate, 1)]
+    words += ["--incremental", kept] if kept else []
+    with tempfile.TemporaryDirectory(prefix="rt-edit-") as folder:
+        copy_parts(crate, folder)
+        for path, text in texts.items():
+            write(f"{folder}/{path}", text)
+        with guard.start(words, folder, subprocess.PIPE) as ran:
+            said, _ = ran.communicate()
+        return Ran(words, ran.returncode, said)
+
+
+def is_refused(ran: Ran) -> bool:
+    """Returns whether the prover refused a text, and didn't only fail to read it."""
+    return ran.returncode == 1 and "\nlogic=not-proved" in ran.stdout
+
+
+def check_of_tests(kit: Kit, crate: Crate, *more: str) -> subprocess.Popen[str]:
+    """Starts a check of a crate's tests over built libraries."""
+    words = [kit.rattle, "check", *words_for(kit, crate, 1), "--test", *more]
+    return guard.start(words, crate.folder, subprocess.PIPE)
+
+
+def by_rt(kit: Kit, folder: str, *words: str) -> Ran:
+    """Returns how a command of `rt` ends in a folder."""
+    with guard.start([kit.rt, *words], folder, subprocess.PIPE) as ran:
+        said, _ = ran.communicate()
+    return Ran(words, ran.returncode, said)
+
+
 # A look at a crate without its proofs
-
-
-Ran = subprocess.CompletedProcess[str]
 
 
 def looked_at(kit: Kit, crate: Crate, texts: Mapping[str, str]) -> Ran:
@@ -183,15 +224,22 @@ def checkout(crate: Crate, texts: Mapping[str, str]) -> Iterator[str]:
     crates = [*crate.below(), crate]
     with tempfile.TemporaryDirectory(prefix="rt-edit-") as top:
         os.mkdir(f"{top}/.git")  # (its top)
-        with open(f"{top}/crates.txt", "w", encoding="utf-8") as file:
-            file.write("".join(f"{it.row}\n" for it in crates))
+        write(f"{top}/crates.txt", "".join(f"{it.row}\n" for it in crates))
         for it in crates:
-            for part in (part for part in PARTS if os.path.isdir(f"{it.folder}/{part}")):
-                shutil.copytree(f"{it.folder}/{part}", f"{top}/crates/{it.name}/{part}")
+            copy_parts(it, f"{top}/crates/{it.name}")
         for path, text in texts.items():
-            with open(f"{top}/crates/{crate.name}/{path}", "w", encoding="utf-8") as file:
-                file.write(text)
+            write(f"{top}/crates/{crate.name}/{path}", text)
         yield f"{top}/crates/{crate.name}"
+
+
+def copy_parts(crate: Crate, folder: str) -> None:
+    for part in (it for it in PARTS if os.path.isdir(f"{crate.folder}/{it}")):
+        shutil.copytree(f"{crate.folder}/{part}", f"{folder}/{part}")
+
+
+def write(path: str, text: str) -> None:
+    with open(path, "w", encoding="utf-8") as file:
+        file.write(text)
 
 
 # The layout of files
@@ -203,28 +251,7 @@ def laid_out(kit: Kit, crate: Crate) -> bool:
     if not kit.lacks("fmt", ["--check"]):
         return guard.run([kit.rattle, "fmt", "--check", *files], crate.folder, guard.NOTHING) == 0
     with tempfile.TemporaryDirectory(prefix="rt-fmt-") as folder:
-        for part in (it for it in PARTS if os.path.isdir(f"{crate.folder}/{it}")):
-            shutil.copytree(f"{crate.folder}/{part}", f"{folder}/{part}")
+        copy_parts(crate, folder)
         laid = guard.run([kit.rt, "fmt"], folder, guard.NOTHING) == 0
         return laid and all(text_of(it) == text_of(f"{folder}/{os.path.relpath(it, crate.folder)}")
                             for it in files)
-
-
-# What .ci/cost still takes of `rt` as a module
-
-
-def load_rt():  # type: ignore[no-untyped-def]
-    import importlib.machinery
-    import importlib.util
-    path = os.path.realpath(find().rt)
-    loader = importlib.machinery.SourceFileLoader("rt", path)
-    rt = importlib.util.module_from_spec(importlib.util.spec_from_loader("rt", loader))
-    loader.exec_module(rt)
-    rt.rtlib.stop, rt.rtlib.Crate, rt.Crate.cuts_libraries = rt.stop, rt.Crate, True
-    rt.rtlib.guarded()
-    return rt
-
-
-def crates_of(rt, top: str):  # type: ignore[no-untyped-def]
-    rt.Crate.allowed = rt.handles_of(top)
-    return rt.rtlib.crates_below(top)
