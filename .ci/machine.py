@@ -55,3 +55,7 @@ def disk(folder: str) -> int:
 def checks_at_once() -> int:
     """Returns how many checks of the gate fit side by side."""
     return max(1, min(processors(), memory() // OF_A_CHECK))
+
+
+if __name__ == "__main__":
+    print(checks_at_once())
