@@ -11,6 +11,7 @@ import time
 from by_hand import Store
 from driver_room import (Room, Shared, children, environments, hit, job, kill, locked, most_at_once,
                          nights_in)
+from running import own_name
 
 SMALL = 2048
 # Stands for `night`: an inspection takes a while.
@@ -195,30 +196,37 @@ def lists(tries: Shared) -> None:
 def bad_cancels(tries: Shared) -> None:
     """What can't be read in the place of a cancel ends no night."""
     kind = "a cancel that can't be read"
-    for what in ("bytes", "a folder"):
+    for what in ("bytes", "names", "a file"):
         room = Room(tries, [job("g", "a", 1.5)])
         run = room.start()
         room.until(lambda: room.lines("begun"))
         if what == "bytes":
-            room.write("s.cancel", b"g \xff\n\x00\n")
+            room.write(f"s.cancel/{own_name()}", b"g \xff\n\x00\n")
+        elif what == "names":
+            room.write("s.cancel/g", "g why\n")
+            room.write(f"s.cancel/-.{'9' * 200}.1", "g why\n")
+            os.mkdir(f"{room.path}/s.cancel/{own_name()}")
         else:
-            os.mkdir(f"{room.path}/s.cancel")
+            shutil.rmtree(f"{room.path}/s.cancel")
+            room.write("s.cancel", "g why\n")
         tries.is_same(f"{kind}: {what}", room.path, room.ended(run)[0], 0)
         tries.is_same(f"{kind}: {what}: no more is begun", room.path, room.begun(), {"g.a": 1})
         tries.is_same(f"{kind}: {what}: the next night", room.path, room.run()[0], 0)
 
 
 def held_cancels(tries: Shared) -> None:
-    """A process that keeps the lock of the cancels keeps nothing waiting."""
+    """A process that keeps a lock of the cancels keeps nothing waiting, and an older driver's file
+    of them is taken away."""
     kind = "a lock of the cancels that is kept"
     many = [job("h", f"k{it}") for it in range(40)]
     room = Room(tries, ["g: within 3s", job("g", "a", 60), *many])
-    room.write("s.cancel", "g why\n")
+    room.write("s.cancel", "h why\n")
     with locked(f"{room.path}/s.cancel"):
-        room.write("s.cancel", "g why\n")
         status, output = room.run("s", "JOBS", "--grace", "1", seconds=60)
     tries.is_same(kind, room.path, (status, output.splitlines()[-1]),
                   (1, "41 commands: 40 ok, 1 canceled; 41 run now"))
+    tries.holds(f"{kind}: a folder is in its place", room.path,
+                os.path.isdir(f"{room.path}/s.cancel"))
 
 
 def late_cancels(tries: Shared) -> None:
@@ -229,7 +237,7 @@ def late_cancels(tries: Shared) -> None:
     room.until(lambda: room.lines("begun"))
     kill([run.pid], which=signal.SIGSTOP)
     asking = room.start("s", "--cancel", "g", "at", "last", errors="errors2")
-    room.until(lambda: room.has("s.cancel"))
+    room.until(lambda: os.listdir(f"{room.path}/s.cancel"))
     hit(run, "all")
     room.ended(run)
     tries.is_same(f"{kind}: it is done", room.path, room.ended(asking, errors="errors2"), (
@@ -238,7 +246,7 @@ def late_cancels(tries: Shared) -> None:
     room = Room(tries, [job("g", "a")])
     tries.is_same(f"{kind}: a night before", room.path, room.run()[0], 0)
     room.set([job("g", "a"), job("g", "b")])
-    room.write("s.cancel", "g of yesterday\n")
+    room.write("s.cancel/-.1.1", "g of yesterday\n")
     tries.is_same(f"{kind}: it cancels no other night", room.path, room.run()[0], 0)
     tries.is_same(f"{kind}: what it was about is begun", room.path, room.begun(),
                   {"g.a": 1, "g.b": 1})
@@ -309,8 +317,8 @@ def no_room(tries: Shared) -> None:
         return
     # (commands that need no other process: else these fail, and not their starts)
     room = Room(tries, [f"g k{it} echo g.k{it} >> begun; exec sleep 0.5" for it in range(10)])
-    os.chmod(room.path, 0o777)
     user = str(61_000 + os.getpid() % 1000)
+    os.chown(room.path, int(user), int(user))
     room.before = ["setpriv", f"--reuid={user}", f"--regid={user}", "--clear-groups", "prlimit",
                    "--nproc=9"]
     found = room.last("s", "JOBS", "-j", "10")

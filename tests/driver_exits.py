@@ -20,6 +20,8 @@ from nights_room import copied
 WHITE = ("\u00a0", "\f", "\v", "\u2003 \u2003", "\x85x", "\x1c")
 A_LINE = "a line is GROUP KEY COMMAND.., or GROUP: and settings"
 LONG = "9" * 5000
+# As long as a name of a file lets it be.
+NINES = "9" * 200
 
 
 def white_lines(tries: Shared) -> None:
@@ -36,14 +38,16 @@ def strange_numbers(tries: Shared) -> None:
     boot, first = processes.boot(), processes.stat_of(1)
     start = first.start if first else 0
     for name, line in (
-            ("s.cancel", f"{boot} {LONG} 1 g why"), ("s.cancel", f"{boot} 1 {LONG} g why"),
-            ("s.cancel", f": {boot} {LONG} 1 g done"), ("s.pids", f"g a 0 {boot} {LONG} 1"),
+            (f"s.cancel/{boot}.{NINES}.1", "g why"), (f"s.cancel/{boot}.1.{NINES}", "g why"),
+            (f"s.cancel/{boot}.{NINES}.1.answer", "g done"), ("s.pids", f"g a 0 {boot} {LONG} 1"),
             ("s.pids", f"g a {LONG} {boot} 1 1"), ("s.pids", f"g a 0 {boot} 4294967297 1"),
             ("s.pids", f"stopped {boot} {LONG} 1"), ("s.pids", f"{LONG} g a"),
             ("s.pids", f"g a 0 {boot} 0 0"), ("s.pids", f"g a 0 {boot} 1 {start}"),
             ("s.pids", f"night script 0 {boot} {LONG} 1"),
             ("s.lock", f"process {boot} {LONG} 1\nsize {LONG}")):
-        kind, room = f"a strange number in {name}", Room(tries, ["g a true"])
+        room = Room(tries, ["g a true"])
+        kind = f"a strange number in {name.replace(NINES, '9..').replace(boot, 'BOOT')}"
+        os.makedirs(os.path.dirname(f"{room.path}/{name}"), 0o700, exist_ok=True)
         room.write(name, f"{line}\n")
         what = line.replace(LONG, "9..").replace(boot, "BOOT")
         found = room.run(seconds=20)

@@ -19,13 +19,14 @@ MOST_MEMORY = 60_000
 FULL = """import resource, signal, sys
 sys.path.insert(0, sys.argv[1])
 from night_run.ends import read_end
+from night_run.files import Files
 from night_run.log import Log, line_of
 signal.signal(signal.SIGXFSZ, signal.SIG_IGN)
-log = Log(sys.argv[2], "s", ())
+log = Log(Files(sys.argv[2]), ())
 limit = lambda most: resource.setrlimit(resource.RLIMIT_FSIZE, (most, resource.RLIM_INFINITY))
 add = lambda key: log.add(iter([(("g", key, 0), line_of(1.5, 0.5, read_end("exit 12"), "echo"))]))
 add("a")
-limit(len(open(sys.argv[2]).read()) + int(sys.argv[3]))
+limit(len(open(f"{sys.argv[2]}.log").read()) + int(sys.argv[3]))
 add("b"), add("c")
 limit(resource.RLIM_INFINITY)
 add("d") if sys.argv[4] == "d" else log.write("")
@@ -169,10 +170,10 @@ def logs_from_the_end(tries: Shared) -> None:
                           if text else [b""])
         lines = [f"{tried}\tg{'--' + str(night) if night > 1 else ''}\tk\t-\t-\tok\techo {night}"
                  for night in range(1, 40) for tried in range(2)]
-        with open(f"{folder}/log", "w", encoding="ascii") as file:
+        with open(f"{folder}/s.log", "w", encoding="ascii") as file:
             file.write(HEAD + "\n".join(["of no form", *lines]) + "\n")
         for groups in ((), ("g",), ("g--7",), ("g--38", "g--39"), ("g--99",)):
-            found = log.read_log(f"{folder}/log", "s", groups)
+            found = log.read_log(driver_module(tries, "files").Files(f"{folder}/s"), groups)
             wanted = [(group, "k", it) for group in groups if group != "g--99" for it in range(2)]
             tries.is_same("lines of some groups", groups, list(found), wanted)
 
@@ -202,9 +203,9 @@ def full_logs(tries: Shared) -> None:
     for room_left in (0, 1, 20, 50, 55, 70):
         for last in ("d", ""):
             with tempfile.TemporaryDirectory(dir=tries.folder) as where:
-                ran = subprocess.run([sys.executable, "-c", FULL, folder, f"{where}/log",
+                ran = subprocess.run([sys.executable, "-c", FULL, folder, f"{where}/s",
                                       str(room_left), last], capture_output=True, text=True)
-                with open(f"{where}/log", encoding="ascii") as file:
+                with open(f"{where}/s.log", encoding="ascii") as file:
                     text = file.read()
             keys = [it.split("\t")[2] for it in text.splitlines()[1:]]
             whole = all(len(it.split("\t")) == 7 and it.endswith("\texit 12\techo")

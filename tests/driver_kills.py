@@ -414,7 +414,7 @@ def damaged(tries: Shared) -> None:
             "g b: interrupted\nh c: not known: s.ended can't be read\n"
             "3 commands: 1 ok, 1 left, 1 not known; 0 run now\n")))
         tries.holds(f"{kind}: it is named, and why", make.__name__,
-                    room.errors.startswith(f"night-run: s.ended: {why}; "), room.errors)
+                    room.errors.startswith(f"night-run: s.ended: {why}"), room.errors)
         tries.is_same(f"{kind}: nothing is begun", make.__name__, room.begun(), before)
     room.write("s.ended", "events 1\nh c ok\n")
     room.set(["g a true", "g b true", "h c true"])

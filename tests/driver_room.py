@@ -233,7 +233,8 @@ def hit(run: subprocess.Popen[str], who: str) -> None:
 
 @contextlib.contextmanager
 def locked(path: str) -> Iterator[IO[str]]:
-    """Holds a lock of a file."""
-    with open(path, "a", encoding="ascii") as file:
+    """Holds a lock of a file, which nobody else can open."""
+    with open(path, "a", encoding="ascii",
+              opener=lambda name, flags: os.open(name, flags, 0o600)) as file:
         fcntl.flock(file, fcntl.LOCK_EX)
         yield file

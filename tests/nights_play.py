@@ -13,6 +13,7 @@ from dataclasses import dataclass
 from nights_oracle import Seen, Stop, complaints, end_between, epoch_of, night_of
 from nights_plan import Command, Group, make_plan
 from nights_room import SECONDS_TO_END, Room, Tools, command_line, hit, kill, processes
+from running import own_name
 
 # What is done to a driver, and how often.
 KILLS = {"driver": 6, "both": 4, "night": 3, "rest": 2, "all": 2}
@@ -58,7 +59,7 @@ class Night:
     def __init__(self, room: Room) -> None:
         self.room, self.plan, self.dice, self.tools = room, room.plan, room.dice, room.tools
         self.left, self.cause = self.plan.disturbances, "night"
-        self.can_cancel, self.begun = True, 0
+        self.begun = 0
         if self.plan.shape == "clock":
             self.room.environment.update(LD_PRELOAD=f"{self.tools.folder}/clock.so",
                                          NIGHTS_CLOCK=f"{room.path}/clock")
@@ -199,7 +200,7 @@ class Night:
         return True
 
     def do_cancel(self, driver: subprocess.Popen[str], of: str) -> None:
-        if self.can_cancel and self.has_begun():
+        if self.has_begun():
             group = of or self.dice.choice([*self.plan.groups] * 2 + ["night"])
             self.room.cancel(group, lambda: driver.poll() is None)
             it = self.room.seen.cancels[-1]
@@ -250,9 +251,11 @@ class Night:
             return  # (a log beside no store is a store that was lost)
         self.room.note(f"damage {name}: {how}")
         clear(f"{path}/{name}")
+        if name == "s.cancel" and how in ("bytes", "cut"):
+            os.mkdir(f"{path}/{name}", 0o700)
+            name += f"/{own_name()}"
         if how == "folder":
-            os.mkdir(f"{path}/{name}")
-            self.can_cancel = self.can_cancel and name != "s.cancel"
+            os.mkdir(f"{path}/{name}", 0o700)
         elif how != "gone":
             made = {"bytes": dice.randbytes(dice.choice((1, 40, 3000))), "cut": b"0\tdisks\tk",
                     "line": b"disks \xff\xfe\n\n \x00\ndisks\n" + b"x" * 500 + b"\n"}[how]
@@ -261,9 +264,6 @@ class Night:
 
     def restore(self) -> None:
         """Takes back what the last run shall not meet."""
-        if os.path.isdir(f"{self.room.path}/s.cancel"):
-            clear(f"{self.room.path}/s.cancel")
-        self.can_cancel = True
         self.room.write("clock", "0")
 
     # --- between two drivers
@@ -280,7 +280,7 @@ class Night:
             self.look_only()
         elif what == "gone" and os.path.isdir(f"{room.path}/s.out"):
             shutil.rmtree(f"{room.path}/s.out")
-        elif what == "cancel" and self.can_cancel and self.has_begun():
+        elif what == "cancel" and self.has_begun():
             room.cancel(dice.choice(list(self.plan.groups)), lambda: False)
         elif what == "damage":
             self.spoil(dice.choice(("s.cancel", "s.log")), dice.choice(("bytes", "cut", "gone")))

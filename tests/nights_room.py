@@ -228,7 +228,7 @@ class Room:
     def watch(self, written: list[float]) -> None:
         """Notes when a cancel is asked for."""
         try:
-            if not written and os.path.getsize(f"{self.path}/s.cancel"):
+            if not written and os.listdir(f"{self.path}/s.cancel"):
                 written.append(time.monotonic())
         except OSError:
             pass

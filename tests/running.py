@@ -282,3 +282,11 @@ def stores():
             old.made(version=1)
             yield "a store of version 1", old, SECOND
         yield f"a used {size} store", used, SECOND
+
+
+def own_name():
+    """The name of this process among those that ask for a cancel: BOOT.PID.START."""
+    with open("/proc/self/stat", encoding="utf-8", errors="replace") as file:
+        start = file.read().rpartition(")")[2].split()[19]
+    with open("/proc/sys/kernel/random/boot_id", encoding="ascii") as file:
+        return f"{file.read().strip()}.{os.getpid()}.{start}"

@@ -11,7 +11,9 @@ import subprocess
 import time
 from collections.abc import Mapping
 
+from .beside import Umask, write_all
 from .commands import SHELL
+from .escapes import plain_lines
 from .processes import signal_group
 from .signals import Signals
 from .telling import tell
@@ -35,7 +37,8 @@ class Alarm:
             file = input_of(text)
             try:
                 it = subprocess.Popen([SHELL, "-c", self.command], stdin=file,
-                                      env={**os.environ, **environment}, start_new_session=True)
+                                      env={**os.environ, **environment}, start_new_session=True,
+                                      umask=Umask.of_caller)
             finally:
                 os.close(file)
         except (OSError, ValueError) as error:
@@ -66,9 +69,7 @@ class Alarm:
 def input_of(text: str) -> int:
     """A file in memory, as the disk may be full, with this text."""
     file = os.memfd_create("summary")
-    left = text.encode("utf-8", "surrogateescape")
-    while left:
-        left = left[os.write(file, left):]
+    write_all(file, plain_lines(text).encode("utf-8", "backslashreplace"))
     os.lseek(file, 0, os.SEEK_SET)
     return file
 

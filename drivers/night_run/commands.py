@@ -14,10 +14,12 @@ import signal
 import time
 from collections.abc import Mapping
 
+from .beside import NotOurs, Umask
 from .ends import OK, End, failed
 from .far import BEGUN, PATIENCE, Elsewhere, Far, Named
 from .jobs import Job
 from .processes import boot, group_exists, group_lives, signal_group
+from .telling import note_once
 
 SHELL = "/bin/sh"
 # Goes to the folder $2, writes `$1 PID START` into the file 9, and becomes the words after these.
@@ -114,14 +116,19 @@ class Command(Running):
             if folder and not os.path.isdir(folder):
                 raise OSError(errno.ENOENT, f"no folder {end_of_path(folder)}")
             with contextlib.ExitStack() as files:
-                out = opened_output(self.output)
+                out = far.files.open_output(
+                    self.output, os.O_WRONLY | os.O_CREAT | os.O_TRUNC)
                 files.callback(os.close, out)
+                files.enter_context(Umask.restored())
                 self.pid = os.posix_spawn(
                     SHELL, [SHELL, "-c", BEGINNING, SHELL, line, folder, *words], given,
                     setsid=True, setsigdef=[signal.SIGPIPE, signal.SIGXFSZ],
                     file_actions=[(os.POSIX_SPAWN_OPEN, 0, os.devnull, os.O_RDONLY, 0),
                                   (os.POSIX_SPAWN_DUP2, out, 1), (os.POSIX_SPAWN_DUP2, out, 2),
                                   (os.POSIX_SPAWN_DUP2, pids, 9)])
+        except NotOurs as error:
+            note_once(f"{error.filename}: {error.strerror}")
+            self.failure = "its output isn't to be trusted"
         except OSError as error:
             if error.errno in LATER:
                 raise NotNow(error.strerror) from None
@@ -229,13 +236,3 @@ def end_of_path(path: str) -> str:
     """As much of a path's end as an error's text has room for."""
     path = path.removeprefix("./")
     return path if len(path) <= MOST_OF_PATH else f"..{path[-MOST_OF_PATH:]}"
-
-
-def opened_output(path: str) -> int:
-    """An empty file for what a command prints; its folder is made anew where it is gone."""
-    flags = os.O_WRONLY | os.O_CREAT | os.O_TRUNC
-    try:
-        return os.open(path, flags, 0o666)
-    except FileNotFoundError:
-        os.makedirs(os.path.dirname(path), exist_ok=True)
-        return os.open(path, flags, 0o666)

@@ -13,6 +13,8 @@ from dataclasses import dataclass, field, replace
 
 from . import Fault, Mistake, telling
 from .alarms import Alarm
+from .beside import write_all
+from .escapes import plain_lines
 from .night import NightEnded
 from .signals import Signals
 from .telling import tell
@@ -111,12 +113,11 @@ def leave(it: Outcome, hooks: Hooks) -> int:
 
 
 def unprinted(lines: tuple[str, ...], signals: Signals | None) -> str:
-    """Prints lines, whatever bytes a command or an output had. Why that can't be, or nothing."""
-    text = "".join(f"{it}\n" for it in lines).encode("utf-8", "surrogateescape")
+    """Prints lines, with escapes for what others put there. Why that can't be, or nothing."""
+    text = "".join(f"{plain_lines(it)}\n" for it in lines).encode("utf-8", "backslashreplace")
     try:
         with signals.raising() if signals else contextlib.nullcontext():
-            while text:
-                text = text[os.write(1, text):]
+            write_all(1, text)
     except OSError as error:
         return error.strerror or str(error)
     except KeyboardInterrupt:

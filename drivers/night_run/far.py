@@ -34,10 +34,10 @@ from dataclasses import dataclass
 from typing import IO
 
 from . import Fault, Name
+from .beside import Part, Umask, write_all
 from .ends import OK, End, failed
-from .files import Files, sync_folder
+from .files import Files
 from .past import Past
-from .regular import open_regular
 from .rounds import base_of, round_of
 from .settings import Way
 from .state import ENDED, State
@@ -75,9 +75,9 @@ class Far:
     """The file STORE.far, and the words that are run beside the loop."""
 
     def __init__(self, files: Files) -> None:
-        self.files, self.shown = files, f"{files.shown}.far"
+        self.files, self.shown = files, files.shown_of(Part.FAR)
         self.store = store_name(files.path)
-        self.path, self.file = f"{files.path}.far", -1
+        self.file = -1
 
     def filled(self, words: Iterable[str], it: Named) -> list[str]:
         """The words of a try."""
@@ -90,8 +90,7 @@ class Far:
         not begun."""
         found: dict[Name, tuple[Named, str]] = {}
         try:
-            with open(open_regular(self.path, os.O_RDONLY), "rb") as file:
-                *lines, _ = file.read().decode("ascii", "replace").split("\n")
+            *lines, _ = self.files.read(Part.FAR).decode("ascii", "replace").split("\n")
         except FileNotFoundError:
             return found
         except OSError as error:
@@ -109,17 +108,17 @@ class Far:
     def clear(self) -> None:
         """Empties it: nothing is left that is asked for."""
         with contextlib.suppress(FileNotFoundError):
-            os.truncate(self.path, 0)
+            os.close(self.files.open(Part.FAR, os.O_WRONLY | os.O_TRUNC))
 
     def note(self, it: Named, how: str) -> None:
         """Adds a line, durably; OSError where that can't be."""
         if self.file < 0:
-            self.file = open_regular(self.path, os.O_RDWR | os.O_APPEND | os.O_CREAT)
+            self.file = self.files.open(Part.FAR, os.O_RDWR | os.O_APPEND | os.O_CREAT)
             size = os.fstat(self.file).st_size
             end = os.pread(self.file, 100, max(0, size - 100)).rpartition(b"\n")[2]
             os.ftruncate(self.file, size - len(end))
-            sync_folder(self.path)
-        os.write(self.file, f"{it} {how}\n".encode())
+            self.files.folder.sync()
+        write_all(self.file, f"{it} {how}\n".encode())
         os.fsync(self.file)
 
 
@@ -147,7 +146,8 @@ class Call:
             self.output = tempfile.TemporaryFile()
             self.it = subprocess.Popen(words, stdin=subprocess.DEVNULL, stdout=self.output,
                                        stderr=subprocess.DEVNULL, cwd=folder or None,
-                                       env=environment, start_new_session=True)
+                                       env=environment, start_new_session=True,
+                                       umask=Umask.of_caller)
         except (OSError, ValueError) as error:
             note_once(f"{words[0]}: {error}")
 

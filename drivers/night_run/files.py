@@ -1,13 +1,12 @@
-"""A store and what lies beside it, under its real path.
+"""A store and what lies beside it, under its real path. `beside` opens each of them.
 
     STORE            the store
-    STORE.lock       locked by the one driver that may run, or by a cancel; which process that is,
-                     whether it is a cancel, and how many bytes the store has
+    STORE.lock       locked by the one driver that may run, or by a cancel (`lock`)
     STORE.pids       the processes of its commands; locked by the driver, and by each command until
                      it has written its line there (`leftovers`)
     STORE.out/       the output of each task, GROUP.KEY.TRY
     STORE.log        what ran when, how long, and how it ended (`log`)
-    STORE.cancel     which groups somebody wants to have cancelled (`cancels`)
+    STORE.cancel/    which groups somebody wants to have cancelled, and the answers (`cancels`)
     STORE.ended      how commands ended whose groups a renewal has given back (`past`)
     STORE.far        which commands may run elsewhere (`far`)
     STORE.nights     when the last nights began, and when one was well (`nights`)
@@ -19,57 +18,120 @@
 from __future__ import annotations
 
 import contextlib
-import fcntl
+import functools
 import os
-import re
+import pwd
 import stat
 import subprocess
 import time
 
 from . import Fault, Mistake
-from .processes import PID, START, Process, lives, this_process
-from .regular import open_regular, read_regular
-from .telling import note
+from .beside import Folder, NotOurs, Part, name_of, way_to
+from .escapes import plain
+from .lock import Lock
 
 # Those of a small and of a large store.
 SIZES = 1_572_864, 6_291_456
-# So many seconds the lock is waited for: while another driver has it, and while a cancel does, as
-# that ends by itself.
-PATIENCE, OF_CANCELS = 3.0, 60.0
-SIZE = re.compile(r"^size ([0-9]{1,18})$", re.M)
-HOLDER = re.compile(rf"^process (\S+) {PID} {START}$", re.M)
-A_CANCEL = "a cancel"
 # So many seconds a look at a store may take to sync it, and the sync of a folder.
 LOOK, OF_FOLDER = 0.3, 2.0
+# Those that a night reads and writes. What an older driver let others read is theirs no more.
+KEPT = (Part.STORE, Part.LOG, Part.ENDED, Part.FAR, Part.NIGHTS)
 
 
 def leave_mark(store: str) -> None:
     """Leaves the mark of a failed sync beside the store of this real path, as `night` does. Whoever
     kills a `night` in a sync does so before: the system tells nobody else that it fails. The mark
     is durable where a sync of the folder answers, which may hang, too."""
-    with contextlib.suppress(OSError):
-        os.close(os.open(f"{store}.failed", os.O_WRONLY | os.O_CREAT | os.O_EXCL | os.O_CLOEXEC,
-                         0o666))
-        sync = subprocess.Popen(["sync", os.path.dirname(store)], stdin=subprocess.DEVNULL,
+    name = f"{os.path.basename(store)}{Part.FAILED.value}"
+    with contextlib.suppress(OSError), \
+            contextlib.closing(Folder.at(os.path.dirname(store), "")) as folder:
+        os.close(folder.open(name, os.O_WRONLY | os.O_CREAT | os.O_EXCL))
+        sync = subprocess.Popen(["sync", folder.path], stdin=subprocess.DEVNULL,
                                 stderr=subprocess.DEVNULL, start_new_session=True)
         with contextlib.suppress(subprocess.TimeoutExpired):
             sync.wait(OF_FOLDER)
 
 
 class Files:
-    """The names of a store's files. `shown` is how the store is called in what is told."""
+    """The files of a store. `shown` is how the store is called in what is told."""
 
     def __init__(self, given: str) -> None:
+        self.given = given
         self.path = os.path.realpath(given)
-        self.shown = given if self.path == os.path.abspath(given) else self.path
-        self.out, self.log = f"{self.path}.out", f"{self.path}.log"
-        self.pids, self.lock = f"{self.path}.pids", f"{self.path}.lock"
-        self.cancel, self.ended = f"{self.path}.cancel", f"{self.path}.ended"
-        self.nights = f"{self.path}.nights"
+        self.shown = plain(given if self.path == os.path.abspath(given) else self.path)
+        self.lock = Lock(self)
         self.seen: tuple[int, int] | None = None
 
+    @functools.cached_property
+    def folder(self) -> Folder:
+        """The folder of the store, once it is known for one that nobody else can write."""
+        return Folder.at(os.path.dirname(self.path), os.path.dirname(self.shown))
+
+    def name(self, part: Part) -> str:
+        return f"{os.path.basename(self.path)}{part.value}"
+
+    def shown_of(self, part: Part) -> str:
+        return f"{self.shown}{part.value}"
+
+    # --- the files
+
+    def stat(self, part: Part) -> os.stat_result | None:
+        """What has the name of this part; None where nothing has."""
+        try:
+            return self.folder.stat(self.name(part))
+        except (FileNotFoundError, NotADirectoryError):
+            return None
+
+    def open(self, part: Part, flags: int = os.O_RDONLY, as_found: bool = False) -> int:
+        return self.folder.open(self.name(part), flags, as_found)
+
+    def read(self, part: Part) -> bytes:
+        return self.folder.read(self.name(part))
+
+    def put(self, part: Part, data: bytes) -> None:
+        """Puts this in the place of a part, whole and durable."""
+        self.folder.put(self.name(part), data)
+
+    def remove(self, part: Part) -> None:
+        self.folder.remove(self.name(part))
+
+    def below(self, part: Part, make: bool = False) -> Folder:
+        """A part that is a folder."""
+        return self.folder.folder(self.name(part), make)
+
+    # --- outputs, by their names in STORE.out
+
+    def output(self, group: str, key: str, tried: int) -> str:
+        return f"{group}.{key}.{tried}"
+
+    def shown_output(self, output: str) -> str:
+        """An output's path, as the store's is shown."""
+        return f"{self.shown_of(Part.OUT)}/{output}" if output else ""
+
+    def has_output(self, output: str) -> bool:
+        """Whether something has this name."""
+        if not output:
+            return False
+        try:
+            with contextlib.closing(self.below(Part.OUT)) as folder:
+                return folder.stat(output) is not None
+        except OSError:
+            return False
+
+    def open_output(self, output: str, flags: int = os.O_RDONLY) -> int:
+        """The output of this name; its folder is made anew where it is gone, if it is written."""
+        make = bool(flags & os.O_CREAT)
+        with contextlib.closing(self.below(Part.OUT, make)) as folder:
+            return folder.open(output, flags)
+
+    def move_output(self, output: str, other: str) -> None:
+        with contextlib.closing(self.below(Part.OUT)) as folder:
+            folder.move(output, other)
+
+    # --- the store
+
     def exists(self) -> bool:
-        return os.path.exists(self.path)
+        return self.stat(Part.STORE) is not None
 
     def keep_in_sight(self) -> None:
         """From now on the store is the file that has its name at this moment."""
@@ -85,40 +147,45 @@ class Files:
         return "" if self.seen in (None, (found.st_dev, found.st_ino)) \
             else "another file has its name"
 
-    def output(self, group: str, key: str, tried: int) -> str:
-        return f"{self.out}/{group}.{key}.{tried}"
-
-    def shown_output(self, output: str) -> str:
-        """An output's path, as the store's is shown."""
-        return f"{self.shown}.out/{os.path.basename(output)}" if output else ""
-
     def look(self) -> None:
-        """A file that can be no store is a mistake of the words, and nothing is made beside it."""
-        if not self.exists():
+        """A file that can be no store is a mistake of the words, and nothing is made beside it.
+        One that somebody else can have made is a fault, and so is each that lies beside it."""
+        with contextlib.suppress(FileNotFoundError):
+            way_to(self.given)
+        found = self.stat(Part.STORE)
+        if found is None:
             return
-        found = os.stat(self.path)
         if not stat.S_ISREG(found.st_mode):
             raise Mistake(f"{self.shown}: it is no regular file, and so no store")
-        had = self.size()
+        had = self.lock.size()
         if had and found.st_size < had:
             raise Fault(f"{self.shown} has {found.st_size} bytes, and had {had}: it was cut off;"
                         " bring back a whole copy of it")
         if found.st_size not in SIZES:
             raise Mistake(f"{self.shown}: it has {found.st_size} bytes, and so is no store")
+        os.close(self.open(Part.STORE))
+
+    def keep_others_out(self) -> None:
+        """Takes from others what an older driver let them read. (What is neither a file nor a link
+        ends no night here: who needs it says so.)"""
+        for part in KEPT:
+            found = self.stat(part)
+            if found and (stat.S_ISREG(found.st_mode) or stat.S_ISLNK(found.st_mode)):
+                self.folder.tighten(self.name(part))
+        self.below(Part.OUT, make=True).close()
 
     def is_marked(self) -> bool:
         """Whether a sync of the store has failed; the next opening by `night` mends it. The mark
         under which a look makes its own sync is soon gone."""
-        mark = f"{self.path}.failed"
-        if os.path.exists(mark):
+        if self.stat(Part.FAILED) is not None:
             time.sleep(LOOK)
-        return os.path.exists(mark)
+        return self.stat(Part.FAILED) is not None
 
     def forget_pages(self) -> None:
         """Lets the system forget what it holds of the store in memory: after a failed sync that may
         be more than the disk has, and the next reader is to see the disk."""
         with contextlib.suppress(OSError):
-            file = open_regular(self.path, os.O_RDONLY)
+            file = self.open(Part.STORE)
             try:
                 os.posix_fadvise(file, 0, 0, os.POSIX_FADV_DONTNEED)
             finally:
@@ -126,85 +193,41 @@ class Files:
 
     def look_for_log(self) -> None:
         """A store that is gone isn't made anew while what it did is known."""
-        for it in (self.log, self.ended):
-            if os.path.exists(it):
-                name = f"{self.shown}{it[len(self.path):]}"
+        for it in (Part.LOG, Part.ENDED):
+            if self.stat(it) is not None:
+                name = self.shown_of(it)
                 raise Fault(f"{self.shown} is not there, and {name} is: bring the store back, or"
                             f" put {name} aside for a new one")
 
-    # --- STORE.lock
 
-    def said(self) -> str:
-        with contextlib.suppress(OSError):
-            return read_regular(self.lock).decode("ascii", "replace")
-        return ""
-
-    def size(self) -> int:
-        """How many bytes the store had when a driver had it last, or 0 where nothing says it."""
-        found = SIZE.search(self.said())
-        return int(found[1]) if found else 0
-
-    def holder(self) -> Process | None:
-        """The driver that runs, as far as its line and the system tell."""
-        said = self.said()
-        found = None if A_CANCEL in said.splitlines() else HOLDER.search(said)
-        holder = Process(found[1], int(found[2]), int(found[3])) if found else None
-        return holder if holder and lives(holder) else None
-
-    def take(self) -> bool:
-        """Takes the store for this driver; False where another one has it."""
-        self.own = open_regular(self.lock, os.O_RDWR | os.O_CREAT)
-        began = time.monotonic()
-        driver_since = began  # since when no cancel is seen to have it
-        while not try_lock(self.own):
-            now = time.monotonic()
-            if A_CANCEL in self.said().splitlines():
-                driver_since = now
-            if now >= driver_since + PATIENCE or now >= began + OF_CANCELS:
-                os.close(self.own)
-                return False
-            time.sleep(0.02)
-        self.sign()
-        return True
-
-    def take_for_cancel(self) -> bool:
-        """Takes the store for a cancel, if it is free at this moment."""
-        self.own = open_regular(self.lock, os.O_RDWR | os.O_CREAT)
-        if not try_lock(self.own):
-            os.close(self.own)
-            return False
-        self.sign(f"{A_CANCEL}\n")
-        return True
-
-    def sign(self, as_what: str = "") -> None:
-        """Writes who has the lock, and the store's size."""
-        it = this_process()
-        size = os.stat(self.path).st_size if self.exists() else self.size()
-        text = f"process {it.boot} {it.pid} {it.start}\nsize {size}\n{as_what}"
+def become_owner(given: str) -> None:
+    """As root: goes on as the user whose store this is, for good. So what root only looks at, or
+    cancels, is done with no more rights than its owner has, whatever lies there."""
+    if os.geteuid():
+        return
+    path = os.path.realpath(given)
+    for it in (path, os.path.dirname(path)):
         try:
-            os.pwrite(self.own, text.encode(), 0)
-            os.ftruncate(self.own, len(text))
-        except OSError as error:
-            note(f"{self.shown}.lock: {error.strerror}")
+            uid = os.lstat(it).st_uid
+        except OSError:
+            continue
+        if uid:
+            go_on_as(uid)
+        return
 
-    def release(self) -> None:
-        os.close(self.own)
 
-
-def try_lock(file: int) -> bool:
+def go_on_as(uid: int) -> None:
     try:
-        fcntl.flock(file, fcntl.LOCK_EX | fcntl.LOCK_NB)
-    except BlockingIOError:
-        return False
+        found = pwd.getpwuid(uid)
+        group, name = found.pw_gid, found.pw_name
+    except KeyError:
+        group, name = uid, ""
+    try:
+        if name:
+            os.initgroups(name, group)
+        else:
+            os.setgroups([])
+        os.setresgid(group, group, group)
+        os.setresuid(uid, uid, uid)
     except OSError as error:
-        raise Fault(f"no locks: {error.strerror}") from error
-    return True
-
-
-def sync_folder(path: str) -> None:
-    """Makes the names in the folder of this path durable."""
-    folder = os.open(os.path.dirname(path), os.O_RDONLY)
-    try:
-        os.fsync(folder)
-    finally:
-        os.close(folder)
+        raise NotOurs(name_of(uid), f"root can't go on as this user: {error.strerror}") from None

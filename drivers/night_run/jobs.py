@@ -23,6 +23,7 @@ from collections.abc import Iterable
 from dataclasses import dataclass
 
 from . import Mistake, Name
+from .beside import open_commands
 from .settings import FORMS, OF_ALL, Settings, Way, Wrong, read_settings, short
 from .telling import note
 
@@ -252,7 +253,7 @@ class Jobs:
 def lines_of(path: str) -> list[str]:
     """The lines of the file at this path."""
     try:
-        with open(path, "rb") as file:
+        with open(open_commands(path), "rb") as file:
             return file.read().decode("utf-8", "surrogateescape").split("\n")
     except OSError as error:
         raise Mistake(f"{path}: {error.strerror}") from error

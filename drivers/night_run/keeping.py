@@ -9,11 +9,11 @@ that isn't known it stays. A report names outputs of the last night alone, and t
 from __future__ import annotations
 
 import contextlib
-import os
 import re
 import time
 from collections.abc import Iterator
 
+from .beside import Folder, Part
 from .files import Files
 from .log import Log
 from .nights import Night, Nights, read_nights, write_nights
@@ -39,7 +39,7 @@ class Keeper:
         is that of the night before."""
         last = self.log.last_end() or self.last_before(night)
         if is_new and night > 1:
-            self.log.rotate(f"{self.files.log}.{night - 1}")
+            self.log.rotate(night - 1)
         self.nights.add(Night(night, first, time.time(), last), self.keep)
         write_nights(self.files, self.nights)
         self.tidy(night)
@@ -60,15 +60,18 @@ class Keeper:
     def tidy(self, night: int) -> None:
         """Removes what is of nights before the first that is kept."""
         oldest = night - self.keep
-        gone = list(old_logs(self.files, oldest)) + list(old_outputs(
-            self.files, first_kept(self.nights, night, self.keep)))
-        for path in gone:
-            try:
-                os.unlink(path)
-            except FileNotFoundError:
-                pass
-            except OSError as error:
-                note_once(f"{self.files.shown}{path[len(self.files.path):]}: {error.strerror}")
+        remove(self.files.folder, old_logs(self.files, oldest))
+        with contextlib.suppress(FileNotFoundError), \
+                contextlib.closing(self.files.below(Part.OUT)) as folder:
+            remove(folder, old_outputs(folder, first_kept(self.nights, night, self.keep)))
+
+
+def remove(folder: Folder, names: Iterator[str]) -> None:
+    for name in list(names):
+        try:
+            folder.remove(name)
+        except OSError as error:
+            note_once(f"{error.filename}: {error.strerror}")
 
 
 def first_kept(nights: Nights, night: int, keep: int) -> int:
@@ -80,18 +83,16 @@ def first_kept(nights: Nights, night: int, keep: int) -> int:
 
 def old_logs(files: Files, oldest: int) -> Iterator[str]:
     """The logs of nights before this one."""
-    folder, name = os.path.split(files.path)
-    with contextlib.suppress(OSError), os.scandir(folder) as found:
-        for it in found:
-            number = OLD_LOG.fullmatch(it.name[len(name):]) if it.name.startswith(name) else None
-            if number and int(number[1]) < oldest and it.is_file(follow_symlinks=False):
-                yield it.path
+    name = files.name(Part.STORE)
+    for it in files.folder.files():
+        number = OLD_LOG.fullmatch(it[len(name):]) if it.startswith(name) else None
+        if number and int(number[1]) < oldest:
+            yield it
 
 
-def old_outputs(files: Files, first: int) -> Iterator[str]:
+def old_outputs(folder: Folder, first: int) -> Iterator[str]:
     """The outputs whose groups have a lesser round."""
-    with contextlib.suppress(OSError), os.scandir(files.out) as found:
-        for it in found:
-            name = OUTPUT.fullmatch(it.name)
-            if name and round_of(name[1]).number < first and it.is_file(follow_symlinks=False):
-                yield it.path
+    for it in folder.files():
+        name = OUTPUT.fullmatch(it)
+        if name and round_of(name[1]).number < first:
+            yield it

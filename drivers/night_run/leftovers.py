@@ -20,13 +20,14 @@ import time
 from collections.abc import Iterator
 
 from . import Fault
+from .beside import Part
 from .commands import Running
-from .files import Files, leave_mark, try_lock
+from .files import Files, leave_mark
 from .jobs import Job, Jobs
+from .lock import locked, others_can_lock
 from .night import WHOLE_SECONDS
 from .processes import (NO_COMMAND, PID, START, Process, age, boot, group_exists, is_held, lives,
                         members, signal_group, stat_of)
-from .regular import open_regular, read_regular
 from .rounds import base_of
 from .settings import OF_ALL
 from .telling import note, note_once
@@ -86,11 +87,13 @@ class Leftover(Running):
 
 def open_pids(files: Files) -> int:
     """The file of processes, once no command is about to write into it."""
-    file = open_regular(files.pids, os.O_RDWR | os.O_CREAT | os.O_APPEND)
     end = time.monotonic() + PATIENCE
-    while not try_lock(file):
+    while (file := locked(files, Part.PIDS, os.O_APPEND)) is None:
         if time.monotonic() >= end:
-            raise Fault(f"{files.shown}.pids is locked by another program")
+            if not others_can_lock(files, Part.PIDS):
+                raise Fault(f"{files.shown_of(Part.PIDS)} is locked by another program")
+            # (no command takes so long for its line: somebody else keeps the lock)
+            files.put(Part.PIDS, files.read(Part.PIDS))
         time.sleep(0.005)
     return file
 
@@ -120,7 +123,7 @@ def written(text: str, files: Files, jobs: Jobs) -> Iterator[Leftover]:
                 continue
         elif found := OLD_LINE.fullmatch(line):
             group, key = found[2], found[3]
-            olds = set(processes_with(files.out)) if olds is None else olds
+            olds = set(processes_with(f"{files.path}{Part.OUT.value}")) if olds is None else olds
             stat = stat_of(int(found[1]))
             if stat is None or stat.pid not in olds:
                 continue
@@ -136,7 +139,7 @@ def written(text: str, files: Files, jobs: Jobs) -> Iterator[Leftover]:
 def running_now(files: Files) -> set[tuple[str, str]]:
     """The commands that run at this moment, by the file of processes; nothing is locked."""
     with contextlib.suppress(OSError):
-        text = read_regular(files.pids).decode("ascii", "replace")
+        text = files.read(Part.PIDS).decode("ascii", "replace")
         its = [(base_of(it[1]), it[2], Process(it[4], int(it[5]), int(it[6])))
                for it in map(LINE.fullmatch, text.splitlines()) if it and it[1] != OF_ALL]
         return {(group, key) for group, key, process in its if lives(process)}

@@ -19,8 +19,9 @@ import time
 from collections.abc import Collection, Iterator
 from dataclasses import dataclass
 
+from .beside import Part
 from .ends import End, read_end
-from .regular import open_regular
+from .files import Files
 from .rounds import round_of
 from .telling import note_once
 
@@ -62,12 +63,12 @@ class Line:
         return None if began is None or took is None else began + took
 
 
-def read_log(path: str, shown: str, groups: Collection[str]) -> dict[Tried, Line]:
-    """The lines of these groups in the log at this path, in their order; none where it can't be
-    read. Whatever else stands there takes no memory."""
+def read_log(files: Files, groups: Collection[str]) -> dict[Tried, Line]:
+    """The lines of these groups in the log, in their order; none where it can't be read. Whatever
+    else stands there takes no memory."""
     found: list[tuple[Tried, Line]] = []
     try:
-        file = open_regular(path, os.O_RDONLY)
+        file = files.open(Part.LOG)
         try:
             for line in lines_of(file, groups):
                 if it := LINE.fullmatch(line.decode("utf-8", "surrogateescape")):
@@ -78,7 +79,7 @@ def read_log(path: str, shown: str, groups: Collection[str]) -> dict[Tried, Line
     except FileNotFoundError:
         pass
     except OSError as error:
-        note_once(f"{shown}.log: {error.strerror}")
+        note_once(f"{files.shown_of(Part.LOG)}: {error.strerror}")
     made: dict[Tried, Line] = {}
     for tried, read in reversed(found):
         made.setdefault(tried, read)
@@ -138,26 +139,27 @@ class Log:
     """The log of the driver that runs. One that can't be written ends no night: what it lacks is
     written once there is room."""
 
-    def __init__(self, path: str, shown: str, groups: Collection[str]) -> None:
-        self.path, self.shown = path, shown
-        self.lines = read_log(path, shown, groups)
+    def __init__(self, files: Files, groups: Collection[str]) -> None:
+        self.files, self.shown = files, files.shown_of(Part.LOG)
+        self.lines = read_log(files, groups)
         self.file, self.left = -1, b""
         self.open()
 
     def open(self) -> None:
         try:
-            self.file = open_regular(self.path, os.O_RDWR | os.O_APPEND | os.O_CREAT)
+            self.file = self.files.open(Part.LOG, os.O_RDWR | os.O_APPEND | os.O_CREAT)
             size = os.fstat(self.file).st_size
             is_cut = size and os.pread(self.file, 1, size - 1) != b"\n"
             self.write("\n" if is_cut else "" if size else HEAD)
         except OSError as error:
             self.failed(error)
 
-    def rotate(self, path: str) -> None:
-        """Puts all lines so far aside, under this path, and begins anew."""
+    def rotate(self, night: int) -> None:
+        """Puts all lines so far aside, as those of this night, and begins anew."""
         self.lines.clear()
+        name = self.files.name(Part.LOG)
         try:
-            os.rename(self.path, path)
+            self.files.folder.move(name, f"{name}.{night}")
         except FileNotFoundError:
             pass
         except OSError as error:
@@ -169,7 +171,7 @@ class Log:
         self.open()
 
     def failed(self, error: OSError) -> None:
-        note_once(f"{self.shown}.log: {error.strerror}")
+        note_once(f"{self.shown}: {error.strerror}")
 
     def write(self, text: str) -> None:
         """Writes whole lines: where one doesn't fit it waits, with those that follow."""

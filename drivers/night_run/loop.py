@@ -595,7 +595,7 @@ class Driver:
         output = self.files.output(group, command.job.key, tried)
         if command.output and command.output != output:
             with contextlib.suppress(OSError):
-                os.rename(command.output, output)
+                self.files.move_output(command.output, output)
         command.group, command.tried, command.output = group, tried, output
         command.number = int(words[1])
 

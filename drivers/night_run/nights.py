@@ -10,12 +10,11 @@ nothing: what isn't known to be of an old night is kept.
 
 from __future__ import annotations
 
-import os
 import re
 from dataclasses import dataclass, field
 
+from .beside import Part
 from .files import Files
-from .regular import open_regular, read_regular
 from .telling import note_once
 
 MOMENT = r"([0-9]{1,12}(?:\.[0-9]{1,3})?)"
@@ -63,11 +62,11 @@ class Nights:
 def read_nights(files: Files) -> Nights:
     found = Nights()
     try:
-        lines = read_regular(files.nights).decode("ascii", "replace").split("\n")
+        lines = files.read(Part.NIGHTS).decode("ascii", "replace").split("\n")
     except FileNotFoundError:
         return found
     except OSError as error:
-        note_once(f"{files.shown}.nights: {error.strerror}")
+        note_once(f"{files.shown_of(Part.NIGHTS)}: {error.strerror}")
         return found
     for line in lines:
         if it := NIGHT.fullmatch(line):
@@ -80,10 +79,7 @@ def read_nights(files: Files) -> Nights:
 
 def write_nights(files: Files, nights: Nights) -> None:
     """Puts this in the file's place. One that can't be written ends no night."""
-    making = f"{files.nights}.new"
     try:
-        with open(open_regular(making, os.O_WRONLY | os.O_CREAT | os.O_TRUNC), "wb") as file:
-            file.write(nights.text().encode("ascii"))
-        os.replace(making, files.nights)
+        files.put(Part.NIGHTS, nights.text().encode("ascii"))
     except OSError as error:
-        note_once(f"{files.shown}.nights: {error.strerror}")
+        note_once(f"{files.shown_of(Part.NIGHTS)}: {error.strerror}")

@@ -16,15 +16,14 @@ What the store itself has of a key is later, and counts. (An older driver's firs
 
 from __future__ import annotations
 
-import os
 import re
 from collections.abc import Iterable
 from dataclasses import dataclass, field
 
 from . import Fault, Name
+from .beside import Part
 from .ends import End, read_end
-from .files import sync_folder
-from .regular import read_regular
+from .files import Files
 from .rounds import Round, base_of, round_of
 
 HEAD = re.compile(r"events ([0-9]{1,20})"
@@ -61,17 +60,18 @@ class Unreadable(Fault):
         self.path = path
 
 
-def read_past(path: str, shown: str) -> Past:
-    """What the file of this path says; Unreadable where a line is none of its own."""
+def read_past(files: Files) -> Past:
+    """What the file says; Unreadable where a line is none of its own."""
+    shown = files.shown_of(Part.ENDED)
     try:
-        lines = read_regular(path).decode("ascii", "replace").split("\n")
+        lines = files.read(Part.ENDED).decode("ascii", "replace").split("\n")
     except FileNotFoundError:
         return Past()
     except OSError as error:
-        raise Unreadable(f"{shown}.ended", error.strerror) from None
+        raise Unreadable(shown, error.strerror) from None
     head = HEAD.fullmatch(lines[0])
     if not head or lines[-1] or int(head[4] or len(lines) - 2) != len(lines) - 2:
-        raise Unreadable(f"{shown}.ended", "it doesn't begin with `events N ..`, or is cut off")
+        raise Unreadable(shown, "it doesn't begin with `events N ..`, or is cut off")
     past = Past(int(head[1]), int(head[2] or 1), int(head[3] or 1))
     for number, line in enumerate(lines[1:-1], 2):
         if found := LINE.fullmatch(line):
@@ -83,21 +83,16 @@ def read_past(path: str, shown: str) -> Past:
         elif found := FAILED.fullmatch(line):
             past.failures[found[1], found[2]] = int(found[3])
         else:
-            raise Unreadable(f"{shown}.ended", f"line {number} is not GROUP KEY END")
+            raise Unreadable(shown, f"line {number} is not GROUP KEY END")
     return past
 
 
-def write_past(path: str, past: Past) -> None:
+def write_past(files: Files, past: Past) -> None:
     """Puts this in the file's place, durably."""
-    making = f"{path}.new"
-    with open(making, "w", encoding="ascii") as file:
-        file.write(f"events {past.events} night {past.night} round {past.round}"
-                   f" lines {sum(map(len, (past.done, past.had, past.ends, past.failures)))}\n")
-        file.writelines(f": {group} {cause}\n" for group, cause in past.done.items())
-        file.writelines(f": {group}\n" for group in past.had)
-        file.writelines(f"{group} {key} {end.text}\n" for group, key, end in past.ends)
-        file.writelines(f"+ {group} {key} {it}\n" for (group, key), it in past.failures.items())
-        file.flush()
-        os.fsync(file.fileno())
-    os.replace(making, path)
-    sync_folder(path)
+    lines = [f"events {past.events} night {past.night} round {past.round}"
+             f" lines {sum(map(len, (past.done, past.had, past.ends, past.failures)))}\n",
+             *(f": {group} {cause}\n" for group, cause in past.done.items()),
+             *(f": {group}\n" for group in past.had),
+             *(f"{group} {key} {end.text}\n" for group, key, end in past.ends),
+             *(f"+ {group} {key} {it}\n" for (group, key), it in past.failures.items())]
+    files.put(Part.ENDED, "".join(lines).encode("ascii"))

@@ -123,3 +123,57 @@ def signal_group(pid: int, which: signal.Signals) -> None:
         return
     with contextlib.suppress(ProcessLookupError, PermissionError):
         os.killpg(pid, which)
+
+
+# --- whose a process is
+
+@dataclass(frozen=True)
+class Tried:
+    """A try, as its processes have it in their environment."""
+
+    store: str
+    group: str  # of the file of commands
+    key: str
+    number: int
+
+    def environment(self) -> dict[str, str]:
+        return {"NIGHT_STORE": self.store, "NIGHT_GROUP": self.group, "NIGHT_KEY": self.key,
+                "NIGHT_TRY": str(self.number)}
+
+
+def is_of(pid: int, tried: Tried) -> bool:
+    """Whether a process was begun for this try: its environment says so. One whose environment
+    can't be read, or was emptied, isn't known for one."""
+    try:
+        with open(f"/proc/{pid}/environ", "rb") as file:
+            had = set(file.read().split(b"\0"))
+    except OSError:
+        return False
+    return {os.fsencode(f"{name}={value}")
+            for name, value in tried.environment().items()} <= had
+
+
+def ours_in(group: int, tried: Tried) -> int | None:
+    """A living process of a group which is known for one of this try. The whole group is of the
+    try then: its session was begun for it, and nobody else can enter it."""
+    return next((it.pid for it in members(group) if not it.is_dead and is_of(it.pid, tried)), None)
+
+
+def signal_ours(group: int, tried: Tried, which: signal.Signals) -> bool:
+    """Signals a group of a try, whoever began it; whether one of its processes is known for the
+    try's. Its descriptor is held meanwhile, so that the number is nobody else's."""
+    found = ours_in(group, tried)
+    if found is None:
+        return False
+    try:
+        held = os.pidfd_open(found)
+    except OSError:
+        return False
+    try:
+        now = stat_of(found)
+        if now is None or now.group != group or not is_of(found, tried):
+            return False
+        signal_group(group, which)
+        return True
+    finally:
+        os.close(held)

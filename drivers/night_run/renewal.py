@@ -9,14 +9,14 @@ the store, and groups that take no more tasks: the next run makes others.
 
 from __future__ import annotations
 
-import os
 import time
 from collections.abc import Callable, Mapping
 
 from . import Fault, Name
 from .ends import End
 from .facts import Book, book_of, facts_of, numbered
-from .files import Files, sync_folder
+from .beside import Part
+from .files import Files
 from .jobs import Jobs
 from .log import Log, line_of
 from .night import MOST_KILLED, RENEWAL_SECONDS, NightEnded, ran
@@ -68,7 +68,7 @@ def keep(files: Files, log: Log, past: Past, jobs: Jobs, state: State, events: i
     made.failures = {name: count for name, count in facts.failures.items() if count}
     shown = {group for group, _, _ in made.ends}
     made.had = [it for it in rounds_had(book) if it not in shown and it not in made.done]
-    write_past(files.ended, made)
+    write_past(files, made)
     return made
 
 
@@ -102,19 +102,17 @@ def rounds_had(book: Book) -> list[str]:
 
 def make(files: Files) -> None:
     """Makes the store under another name first, so that one that has its name is whole."""
-    making = f"{files.path}.making"
-    format_new(making)
-    os.rename(making, files.path)
-    sync_folder(files.path)
+    format_new(files)
+    files.folder.move(files.name(Part.MAKING), files.name(Part.STORE))
+    files.folder.sync()
 
 
-def format_new(path: str) -> None:
+def format_new(files: Files) -> None:
     """Makes a store of a new file; once more where a signal ended that."""
     for left in reversed(range(MOST_KILLED)):
-        if os.path.exists(path):
-            os.remove(path)
+        files.remove(Part.MAKING)
         try:
-            ran("format", "--new", path)
+            ran("format", "--new", f"{files.path}{Part.MAKING.value}")
             return
         except NightEnded as ended:
             if ended.status >= 0 or not left:

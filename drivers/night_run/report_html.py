@@ -10,10 +10,11 @@ import collections
 import html as escaping
 from collections.abc import Iterator
 
+from .escapes import plain
 from .report_axis import Axis
 from .report_style import STYLE
 from .report_words import (by_group, clock, commands, counts, facts, kind_of, line_shown, moment,
-                           of_all, plain, span, told, tries_told, verdict, when_told, why_done)
+                           of_all, span, told, tries_told, verdict, when_told, why_done)
 from .rows import Group, Report, Row, Try
 
 SIGNS = {"good": "\u2713", "bad": "\u2717", "open": "\u25d1", "busy": "\u25b6"}

@@ -7,7 +7,8 @@ from __future__ import annotations
 
 from collections.abc import Iterator
 
-from .report_words import by_group, counts, end_of, escaped, last_end
+from .escapes import escaped
+from .report_words import by_group, counts, end_of, last_end
 from .rows import PHASES, Report, Row, Try
 
 Labels = dict[str, str]

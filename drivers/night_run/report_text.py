@@ -9,8 +9,9 @@ import collections
 import textwrap
 from collections.abc import Iterator
 
-from .report_words import (by_group, counts, facts, line_shown, of_all, plain, told, tries_told,
-                           verdict, when_told, why_done)
+from .escapes import plain
+from .report_words import (by_group, counts, facts, line_shown, of_all, told, tries_told, verdict,
+                           when_told, why_done)
 from .rows import Report, Row
 
 COLUMNS = 72

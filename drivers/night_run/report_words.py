@@ -8,33 +8,18 @@ from __future__ import annotations
 import collections
 import re
 import time
-import unicodedata
 from collections.abc import Iterable
 
 from .ends import read_end
+from .escapes import plain
 from .rows import OF_ALL, PHASES, Group, Report, Row, Try
 
 # A line of somebody else's that is longer is cut.
 MOST_SHOWN = 400
-# Characters that do something else than to be seen: controls, directions, lone surrogates.
-UNSEEN = ("Cc", "Cf", "Cs", "Zl", "Zp")
 # The cause of a scope that its deadline cancelled.
 DEADLINE = re.compile(r"(until|within) \S+$")
 # Its cause if the words of its deadline aren't known any more.
 PASSED = "its deadline has passed"
-
-
-def plain(text: str) -> str:
-    """A text to be seen only: `\\xff` for a byte that isn't UTF-8, `\\x1b` for an escape."""
-    return "".join(it if it == "\t" or unicodedata.category(it) not in UNSEEN else escaped(it)
-                   for it in text)
-
-
-def escaped(character: str) -> str:
-    code = ord(character)
-    if 0xDC80 <= code <= 0xDCFF:
-        return f"\\x{code - 0xDC00:02x}"
-    return f"\\x{code:02x}" if code < 0x100 else f"\\u{code:04x}"
 
 
 def line_shown(line: str) -> str:

@@ -6,6 +6,7 @@ import collections
 from collections.abc import Mapping
 
 from . import Name, rows
+from .escapes import plain
 from .jobs import Jobs
 from .log import Line, Tried, text_of_line
 from .plan import CANCELLED, FAILED, NEVER, NOT_KNOWN, OK
@@ -39,13 +40,8 @@ def failures(report: rows.Report) -> list[str]:
             continue
         is_shown = it.output and it.phase in (FAILED, CANCELLED)
         lines.append(f"{it.group} {it.key}: {said(it)}" + (f"; {it.output}" if is_shown else ""))
-        lines += [f"    {printable(line)}" for line in (it.tail if is_shown else ())]
+        lines += [f"    {plain(line)}" for line in (it.tail if is_shown else ())]
     return lines
-
-
-def printable(line: str) -> str:
-    """A line without what moves a terminal's cursor or changes its colors."""
-    return "".join(it if it.isprintable() or it == "\t" else "?" for it in line)
 
 
 def changed(jobs: Jobs, report: rows.Report, lines: Mapping[Tried, Line]) -> list[str]:

@@ -3,6 +3,7 @@
 
 from __future__ import annotations
 
+from .escapes import plain_lines
 from .terminal import CLEAR, Progress, Writer
 
 _writer = Writer(2)
@@ -26,7 +27,7 @@ def let_go() -> None:
 
 
 def tell(text: object) -> None:
-    _writer.write(f"{CLEAR}night-run: {text}\n")
+    _writer.write(f"{CLEAR}night-run: {plain_lines(str(text))}\n")
 
 
 def note(text: str) -> None:

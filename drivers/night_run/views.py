@@ -48,7 +48,7 @@ def look(files: Files, jobs: Jobs, past: Past | None = None) -> View:
     else:
         state = inspected(files)
     check(files, state, past.events if files.exists() else 0)
-    lines = read_log(files.log, files.shown, logged_groups(state, past))
+    lines = read_log(files, logged_groups(state, past))
     night = max(state.night() if state.scopes else 1, past.night)
     book = book_of(state, past, night)
     facts = facts_of(state, past, lines, book, time.time(), {})
@@ -59,9 +59,9 @@ def look(files: Files, jobs: Jobs, past: Past | None = None) -> View:
 def moment(files: Files) -> tuple[Past, State]:
     """What the store and the ends of a renewed one say at one moment."""
     while True:
-        past = read_past(files.ended, files.shown)
+        past = read_past(files)
         state = inspected(files) if files.exists() else EMPTY
-        if read_past(files.ended, files.shown) == past:
+        if read_past(files) == past:
             return past, state
 
 
@@ -69,7 +69,7 @@ def running_in(files: Files, state: State, book: Book) -> set[Name]:
     """What runs: tasks that have a driver, and commands that a killed one left."""
     found = {name for name in running_now(files)
              if name not in book.last or book.last[name].phase in ("running", "interrupted")}
-    holder = files.holder()
+    holder = files.lock.holder()
     if holder and holder != this_process():
         found |= {name for name, task in book.last.items() if task.phase == "running"}
     return found
@@ -95,9 +95,10 @@ def remembered(files: Files, jobs: Jobs, night: int, known: Mapping[Name, Standi
     made = []
     for name, it in known.items():
         output = outputs.get(name, "")
-        shown = files.shown_output(output) if os.path.exists(output) else ""
+        is_there = not files.missing() and files.has_output(output)
+        shown = files.shown_output(output) if is_there else ""
         made.append(rows.Row(*name, jobs.all[name].command, it.phase, it.why, (), shown,
-                             tail(output)))
+                             tail(files, output)))
     return rows.Report(files.shown, night, time.time(), None, (), tuple(made))
 
 
@@ -115,9 +116,9 @@ def row(files: Files, view: View, command: str, name: Name,
         tries: list[tuple[str, rows.Try]]) -> rows.Row:
     standing = view.standings[name]
     output = next((path for path in (files.output(group, name[1], it.number)
-                                     for group, it in reversed(tries)) if os.path.exists(path)), "")
+                                     for group, it in reversed(tries)) if files.has_output(path)), "")
     return rows.Row(*name, command, standing.phase, standing.why, tuple(it for _, it in tries),
-                    files.shown_output(output), tail(output))
+                    files.shown_output(output), tail(files, output))
 
 
 def tries_of(view: View) -> dict[Name, list[tuple[str, rows.Try]]]:
@@ -159,12 +160,16 @@ def groups(jobs: Jobs, view: View) -> tuple[rows.Group, ...]:
     return tuple(made)
 
 
-def tail(output: str) -> tuple[str, ...]:
-    """The last lines of an output."""
+def tail(files: Files, output: str) -> tuple[str, ...]:
+    """The last lines of an output; none where it can't be read, or isn't to be trusted."""
+    if not output:
+        return ()
     try:
-        with open(output, "rb") as file:
-            file.seek(max(0, os.path.getsize(output) - BYTES))
-            text = file.read(BYTES)
+        file = files.open_output(output)
+        try:
+            text = os.pread(file, BYTES, max(0, os.fstat(file).st_size - BYTES))
+        finally:
+            os.close(file)
     except OSError:
         return ()
     lines = text.decode("utf-8", "surrogateescape").rstrip("\n").split("\n")

@@ -17,10 +17,12 @@ import time
 from typing import NoReturn
 
 from . import Fault, Mistake, Name, cancels, exits, rows, telling
+from .beside import Umask
 from .ends import text_of
+from .escapes import plain_lines
 from .exits import Hooks, Outcome, hooks_of, outcome_of
 from .facts import Book, Facts, book_of, facts_of, logged_groups, when_ended
-from .files import Files
+from .files import Files, become_owner
 from .jobs import Jobs
 from .keeping import Keeper
 from .leftovers import end_night, left_commands, open_pids
@@ -173,6 +175,7 @@ def number(word: str) -> int:
 
 def main() -> int:
     keep_streams_open()
+    Umask.keep_others_out()
     given = sys.argv[1:]
     try:
         words = read_words(given)
@@ -194,7 +197,7 @@ def unusable(given: list[str], mistake: Unusable) -> int:
     signals.listen()
     signals.raises = False
     hooks.end(Outcome(exits.MISTAKE, (str(mistake),)))
-    sys.stderr.write(f"{mistake}\n")
+    sys.stderr.write(f"{plain_lines(str(mistake))}\n")
     telling.flush()
     return exits.MISTAKE
 
@@ -213,6 +216,7 @@ def word_after(flag: str, given: list[str]) -> str | None:
 def looked(words: argparse.Namespace) -> Outcome:
     """What is asked for besides a night: a list, a report, a cancel."""
     try:
+        become_owner(words.store)
         files = Files(words.store)
         files.look()
         lines = [cancel(files, *words.cancel)] if words.cancel else \
@@ -282,7 +286,7 @@ def cancel(files: Files, group: str, *words: str) -> str:
 
 def cancelled(files: Files, group: str, why: str) -> str:
     """How the scope of a group is, once it is cancelled."""
-    if files.take_for_cancel():
+    if files.lock.take_for_cancel():
         return cancel_alone(files, group, why)
     request = cancels.ask(files, base_of(group), why)
     end = time.monotonic() + CANCEL_SECONDS
@@ -293,13 +297,13 @@ def cancelled(files: Files, group: str, why: str) -> str:
                 raise Mistake(f"{files.shown} has no group {group}")
             if answer:
                 return answer
-            if files.take_for_cancel():
+            if files.lock.take_for_cancel():
                 # (its driver has ended)
                 return cancel_alone(files, group, why)
             time.sleep(0.05)
     finally:
         cancels.withdraw(files, request)
-    raise Fault(f"the driver hasn't taken {files.shown}.cancel in {CANCEL_SECONDS:.0f} s:"
+    raise Fault(f"the driver hasn't looked into {files.shown}.cancel in {CANCEL_SECONDS:.0f} s:"
                 f" {group} is not cancelled")
 
 
@@ -357,7 +361,7 @@ class Run:
         if self.pids >= 0:
             os.close(self.pids)
         if self.is_alone:
-            self.files.release()
+            self.files.lock.release()
 
     def run(self) -> Outcome:
         if self.words.quiet:
@@ -369,7 +373,7 @@ class Run:
         self.jobs.tell_unused()
         if not self.files.exists():
             self.files.look_for_log()
-        if not self.files.take():
+        if not self.files.lock.take():
             raise Fault(f"{self.files.shown}: in use by another night-run")
         self.is_alone = True
         return self.run_alone()
@@ -415,15 +419,15 @@ class Run:
         left = left_commands(self.files, pids, self.jobs)
         for it in left:
             note(f"{' '.join(it.name)} still runs from the last run: process {it.pid}")
-        os.makedirs(self.files.out, exist_ok=True)
+        self.files.keep_others_out()
         if not self.files.exists():
             make(self.files)
-            self.files.sign()
+            self.files.lock.sign()
         cancels.Desk(self.files).pass_over()
-        self.past = read_past(self.files.ended, self.files.shown)
+        self.past = read_past(self.files)
         state = self.first_look()
         check(self.files, state, self.past.events)
-        self.log = Log(self.files.log, self.files.shown, logged_groups(state, self.past))
+        self.log = Log(self.files, logged_groups(state, self.past))
         self.keeper = Keeper(self.files, self.log, self.words.keep)
         driver = Driver(self.files, self.jobs, self.log, self.past, pids, left, self.words.most,
                         self.words.grace, self.signals, self.keeper)
@@ -480,7 +484,7 @@ class Run:
         ahead = state.clock - int(time.time())
         if ahead > MOST_AHEAD:
             driver.past = make_anew(self.files, self.log, self.past, self.jobs, state, ahead)
-            self.files.sign()
+            self.files.lock.sign()
             return None
         if state.is_nearly_full():
             driver.past, _ = renew(self.files, self.log, self.past, self.jobs, self.signals.wake,
