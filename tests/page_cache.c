@@ -14,6 +14,8 @@
  *   CACHE_STOP    the number of such a call, from 1: the program stops before it (SIGSTOP)
  *   CACHE_HALT    likewise, of a later one
  *   CACHE_FAIL    the number of such a call, from 1: it fails with EIO; CACHE_ERROR, of which error
+ *   CACHE_HANG    the number of such a call, from 1, which is a sync: it hangs, the program is killed
+ *                 meanwhile, and then it fails, which nobody is told
  *   CACHE_PART    a seed: a sync of a file that fails has written some of the pages, and else none
  *   CACHE_MAPPED  advice to drop pages isn't followed, as where another program has them mapped
  *   CACHE_UNSYNCED  a sync of the folder answers so and does nothing: the number of an error
@@ -56,7 +58,7 @@ static struct open_file {
 static const char *folder, *state;
 static struct stat folder_is;
 static int told = -1, is_mapped;
-static long calls, killing, stopping, halting, failing, error_number, unsynced;
+static long calls, killing, stopping, halting, failing, hanging, error_number, unsynced;
 static uint64_t dice;
 
 static void give_up(const char *why)
@@ -82,6 +84,7 @@ __attribute__((constructor)) static void begin(void)
     stopping = number_of("CACHE_STOP");
     halting = number_of("CACHE_HALT");
     failing = number_of("CACHE_FAIL");
+    hanging = number_of("CACHE_HANG");
     error_number = getenv("CACHE_ERROR") ? number_of("CACHE_ERROR") : EIO;
     unsynced = number_of("CACHE_UNSYNCED");
     is_mapped = getenv("CACHE_MAPPED") != NULL;
@@ -99,6 +102,12 @@ static int is_thrown(void)
     return (dice * 0x2545F4914F6CDD1Du >> 60) & 1;
 }
 
+static void end(void)
+{
+    kill(getpid(), SIGKILL);
+    give_up("it wasn't killed");
+}
+
 /* Counts a call on the folder or on a file of it, and says whether it fails. */
 static int fails(const char *what, const char *name)
 {
@@ -107,11 +116,9 @@ static int fails(const char *what, const char *name)
         dprintf(told, "%s %s\n", what, name);
     if (calls == stopping || calls == halting)
         raise(SIGSTOP);
-    if (calls == killing) {
-        kill(getpid(), SIGKILL);
-        give_up("it wasn't killed");
-    }
-    if (calls != failing)
+    if (calls == killing)
+        end();
+    if (calls != failing && calls != hanging)
         return 0;
     errno = (int)error_number;
     return 1;
@@ -468,6 +475,8 @@ static int synced(int fd, int number)
         names_written();
     if (it->kind == FILE_OF_IT)
         clean(it, fd, is_failed);
+    if (calls == hanging)
+        end();
     errno = (int)error_number;
     return is_failed ? -1 : 0;
 }

@@ -1,5 +1,5 @@
 //! A [`SystemDisk`] is a disk over a file of the system that notes why a call of it failed, and
-//! leaves the store's mark where a sync did.
+//! leaves the store's mark where a sync did, and while that of a slot's gate is under way.
 
 ghost use Rattle.std.specs.Prelude.{◌≡◌};
 ghost use Rattle.run_disk.specs.Files.{file_state, is_file_disk};
@@ -27,13 +27,23 @@ impl Inode {
     }
 }
 
+/// The gate of a slot that is open.
+const OPEN: u8 = 0xA7;
+
+/// A store's slots are the first two of so many equal parts.
+const PARTS: u64 = 3;
+
 /// A disk over a file. Why the first call that failed did is noted where whoever opened the file
-/// finds it; where a sync failed, the store's mark is left before anything else is done.
+/// finds it; where a sync failed, the store's mark is left before anything else is done. It is
+/// there, too, while a slot is opened by a sync: a program that is killed meanwhile never learns
+/// that the sync failed, and the system tells it to nobody else.
 #[derive(Drop)]
 pub struct SystemDisk<'a, S> {
     disk: FileDisk,
     inode: Inode,
     mark: Mark<'a, S>,
+    // the gate of a slot was written open, and not synced yet
+    opens_slot: bool,
     complaint: &'a Complaint,
 }
 
@@ -50,6 +60,7 @@ impl<'a, S: fs::Files<File = File>> SystemDisk<'a, S> {
             disk,
             inode,
             mark,
+            opens_slot: false,
             complaint,
         }
     }
@@ -62,6 +73,12 @@ impl<'a, S: fs::Files<File = File>> SystemDisk<'a, S> {
     /// Takes the store's mark away: all of the file was written anew, and synced.
     pub fn forgive(&self) {
         self.mark.remove();
+    }
+
+    /// Says whether a write of these bytes opens a slot.
+    fn is_opening(&self, at: u64, bytes: &[u8]) -> bool {
+        let is_gate = at == 0 || at == self.disk.size() / PARTS;
+        is_gate && bytes.len() == 1 && bytes[0] == OPEN
     }
 
     /// Notes why a call failed that came to this.
@@ -93,14 +110,21 @@ impl<S: fs::Files<File = File>> RunDisk for SystemDisk<'_, S> {
     }
 
     fn write_at(&mut self, at: u64, bytes: &[u8]) -> Result<(), DiskFailed> {
+        self.opens_slot = self.opens_slot || self.is_opening(at, bytes);
         let done = self.disk.write_at(at, bytes);
         self.noted(done)
     }
 
     fn sync(&mut self) -> Result<(), DiskFailed> {
+        let is_left = self.opens_slot && self.mark.leave();
         let done = self.disk.sync();
         if done.is_err() {
             self.mark.leave();
+        } else {
+            self.opens_slot = false;
+            if is_left {
+                self.mark.remove();
+            }
         }
         self.noted(done)
     }

@@ -176,7 +176,7 @@ impl<'a, S: fs::Files<File = File>> SystemFiles<'a, S> {
         file.set_permissions(wanted.permissions())
     }
 
-    /// A disk over a file that is synced first. Where that fails, the store's mark is left.
+    /// A disk over a file that is synced first, under its mark, which stays where that fails.
     fn settled(
         &self,
         file: File,
@@ -184,8 +184,14 @@ impl<'a, S: fs::Files<File = File>> SystemFiles<'a, S> {
         why: &'a Complaint,
     ) -> Result<SystemDisk<'a, S>, Reason> {
         let inode = or_reason(inode(&file))?;
+        let is_left = mark.leave();
         match FileDisk::settled(file) {
-            Ok(disk) => Ok(SystemDisk::new(disk, inode, mark, why)),
+            Ok(disk) => {
+                if is_left {
+                    mark.remove();
+                }
+                Ok(SystemDisk::new(disk, inode, mark, why))
+            }
             Err(error) => {
                 mark.leave();
                 Err(Reason::of(&error))
@@ -278,10 +284,18 @@ impl<'a, S: fs::Files<File = File>> SystemFiles<'a, S> {
     /// in the store's place changes the folder once more.
     fn sync_names(&self, name: &str, mark: &Mark<'a, S>) -> io::Result<()> {
         let done = self.sync_folder(name);
-        if let Err(error) = &done
-            && !is_unsynced(error.kind())
-        {
+        if has_failed(&done) {
             mark.leave();
+        }
+        done
+    }
+
+    /// So does [`SystemFiles::sync_names`] after a renaming. The mark is there meanwhile.
+    fn sync_renamed(&self, name: &str, mark: &Mark<'a, S>) -> io::Result<()> {
+        let is_left = mark.leave();
+        let done = self.sync_names(name, mark);
+        if is_left && !has_failed(&done) {
+            mark.remove();
         }
         done
     }
@@ -365,7 +379,7 @@ impl<'a, S: fs::Files<File = File>> SystemFiles<'a, S> {
         }
         let mark = self.mark(to)?;
         or_reason(fs::rename(self.system, from, to))?;
-        or_reason(self.sync_names(to, &mark))
+        or_reason(self.sync_renamed(to, &mark))
     }
 }
 
@@ -501,6 +515,14 @@ fn is_only_name(found: &Metadata) -> bool {
 /// system has no sync.
 fn is_unsynced(kind: io::ErrorKind) -> bool {
     matches!(kind, io::ErrorKind::PermissionDenied) || has_no_sync(kind)
+}
+
+/// Says whether a sync of a folder failed that was to be had.
+fn has_failed(done: &io::Result<()>) -> bool {
+    match done {
+        Ok(()) => false,
+        Err(error) => !is_unsynced(error.kind()),
+    }
 }
 
 /// Says whether a sync that failed so is one that the file system doesn't have, or is only read.
