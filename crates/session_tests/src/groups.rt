@@ -1,10 +1,5 @@
-//! Groups and tasks: each call on its way, its refusals in their order, rows that are read, full
-//! groups, and a few hundred random events beside a plain program that counts.
+//! Groups and tasks: each call on its way, and its refusals in their order.
 
 mod calls;
-mod crowds;
-mod images;
-mod plain;
-mod randoms;
 mod steps;
 mod stories;

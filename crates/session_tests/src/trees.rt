@@ -1,10 +1,4 @@
-//! The tree of scopes: its worked examples, trees of 1,024 scopes beside a plain program that
-//! searches the rows, trees that are read from rows, and full trees.
+//! The tree of scopes: its worked examples.
 
 mod examples;
-mod fulls;
-mod images;
-mod plain;
-mod restored;
-mod shapes;
 mod steps;

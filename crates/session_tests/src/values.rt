@@ -28,11 +28,6 @@ pub fn limit(rt: &impl Abort, most: Option<u8>) -> Limit {
     }
 }
 
-/// A letter of each of these, the first one's in the outer loop, makes 128 names of two letters.
-pub const FIRST: &[u8; 8] = b"abcdefgh";
-
-pub const SECOND: &[u8; 16] = b"abcdefghijklmnop";
-
 /// The name of a letter and the last four digits of a number.
 pub fn numbered(rt: &impl Abort, letter: u8, n: u16) -> Name {
     name(rt, &test_fixtures::numbered(letter, n))

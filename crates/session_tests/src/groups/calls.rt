@@ -34,32 +34,27 @@ pub enum Call {
 pub type Reply = Result<Option<u16>, Refusal>;
 
 /// Makes a group.
-pub fn make<A: Allocator>(groups: &mut Groups<A>, called: &Name, scope: u16, bare: bool) -> Reply {
+fn make<A: Allocator>(groups: &mut Groups<A>, called: &Name, scope: u16, bare: bool) -> Reply {
     let called = called.as_bytes();
     groups.check_make(called)?;
     Ok(Some(groups.make(called, scope, bare)))
 }
 
 /// Sets a limit.
-pub fn set_limit<A: Allocator>(groups: &mut Groups<A>, group: u16, limit: Limit) -> Reply {
+fn set_limit<A: Allocator>(groups: &mut Groups<A>, group: u16, limit: Limit) -> Reply {
     groups.check_limit(group)?;
     groups.set_limit(group, limit);
     Ok(None)
 }
 
 /// Submits a task.
-pub fn go<A: Allocator>(groups: &mut Groups<A>, group: u16, job: &Name, argument: &Name) -> Reply {
+fn go<A: Allocator>(groups: &mut Groups<A>, group: u16, job: &Name, argument: &Name) -> Reply {
     groups.check_go(group)?;
     Ok(Some(groups.go(group, job.as_bytes(), argument.as_bytes())))
 }
 
 /// Submits a task that is ready at once.
-pub fn try_go<A: Allocator>(
-    groups: &mut Groups<A>,
-    group: u16,
-    job: &Name,
-    argument: &Name,
-) -> Reply {
+fn try_go<A: Allocator>(groups: &mut Groups<A>, group: u16, job: &Name, argument: &Name) -> Reply {
     groups.check_try(group)?;
     Ok(Some(groups.try_go(group, job.as_bytes(), argument.as_bytes())))
 }

@@ -3,7 +3,6 @@
 
 use crate::asserts::{done, holds};
 use crate::groups::calls::{Call, Reply, answer};
-use crate::groups::plain::number;
 use run_model::{GroupLook, Layout, Phase, Refusal};
 use std::alloc::Allocator;
 use std::process::Abort;
@@ -41,8 +40,6 @@ pub enum Step {
     Is(Call, Reply),
     /// A restart, and the scopes that are told.
     Restart(&'static [u16]),
-    /// How far a task is, if it is there.
-    Phase(u16, Option<At>),
     /// How far the tasks are, by ascending number.
     Phases(&'static [At]),
     /// What is seen of a group.
@@ -51,8 +48,6 @@ pub enum Step {
     Seats(u16, u16, bool),
     /// How many tasks are running.
     Running(usize),
-    /// The least ready task.
-    Next(Option<u16>),
     /// A task's argument, and the task that it retries.
     Again(u16, &'static [u8], u16),
     /// A layout, how many groups there are, and the scope of the first one.
@@ -75,18 +70,15 @@ fn phase(at: At) -> Phase {
     }
 }
 
-/// Says whether a task is so far, or not there.
-fn is_at<A: Allocator>(groups: &Groups<A>, task: u16, at: Option<At>) -> bool {
-    match at {
-        Some(at) => groups.phase(task) == Some(phase(at)),
-        None => groups.phase(task).is_none(),
-    }
+/// The number of a row; those of a test are small.
+fn number(n: usize) -> u16 {
+    u16::try_from(n).unwrap_or(u16::MAX)
 }
 
 /// Says whether the tasks are so far, by ascending number.
 fn are_at<A: Allocator>(groups: &Groups<A>, phases: &[At]) -> bool {
     for (n, at) in phases.iter().enumerate() {
-        if !is_at(groups, number(n), Some(*at)) {
+        if groups.phase(number(n)) != Some(phase(*at)) {
             return false;
         }
     }
@@ -111,7 +103,7 @@ fn is_seen<A: Allocator>(groups: &Groups<A>, group: u16, seen: Seen) -> bool {
 }
 
 /// How many tasks of a group are unfinished, and whether one more would be ready.
-pub fn seats<A: Allocator>(groups: &Groups<A>, group: u16) -> Option<(u16, bool)> {
+fn seats<A: Allocator>(groups: &Groups<A>, group: u16) -> Option<(u16, bool)> {
     if groups.group_count() <= group as usize {
         return None;
     }
@@ -162,12 +154,10 @@ fn are_absent<A: Allocator>(groups: &Groups<A>, group: u16, task: u16) -> bool {
 /// Says whether groups show what a step says.
 fn is_shown<A: Allocator>(groups: &Groups<A>, step: Step) -> bool {
     match step {
-        Step::Phase(task, at) => is_at(groups, task, at),
         Step::Phases(phases) => are_at(groups, phases),
         Step::Look(group, seen) => is_seen(groups, group, seen),
         Step::Seats(group, unfinished, seat) => { seats(groups, group) == Some((unfinished, seat)) }
         Step::Running(count) => groups.running() == count,
-        Step::Next(task) => groups.next_ready() == task,
         Step::Again(task, argument, of) => is_again(groups, task, argument, of),
         Step::Groups(layout, count, scope) => are_groups(groups, layout, count, scope),
         Step::Names(names) => are_named(groups, names),
@@ -178,7 +168,7 @@ fn is_shown<A: Allocator>(groups: &Groups<A>, step: Step) -> bool {
 }
 
 /// Takes a step, and says whether it is as it says.
-pub fn is_so<A: Allocator>(rt: &impl Abort, groups: &mut Groups<A>, step: Step) -> bool {
+fn is_so<A: Allocator>(rt: &impl Abort, groups: &mut Groups<A>, step: Step) -> bool {
     match step {
         Step::Is(call, reply) => answer(rt, groups, call) == reply,
         Step::Restart(told) => groups.restart().as_slice() == told,
