@@ -18,6 +18,7 @@ from .beside import NotOurs, Umask
 from .ends import OK, End, failed
 from .far import BEGUN, PATIENCE, Elsewhere, Far, Named
 from .jobs import Job
+from .mounts import Folders, NoAnswer
 from .processes import boot, group_exists, group_lives, signal_group
 from .telling import note_once
 
@@ -107,14 +108,13 @@ class Command(Running):
         line = f"{self.group} {self.job.key} {self.tried} {boot()}"
         words = [*(self.job.shell or (SHELL,)), "-c", self.job.command]
         try:
+            look_for(folder)
             if way.via:
                 it = Named(self.group, self.job.key, self.tried)
                 words = [*far.filled(way.via, it), self.job.command]
                 self.elsewhere = Elsewhere(far, way, it, folder, given)
                 if way.ask:
                     far.note(it, BEGUN)
-            if folder and not os.path.isdir(folder):
-                raise OSError(errno.ENOENT, f"no folder {end_of_path(folder)}")
             with contextlib.ExitStack() as files:
                 out = far.files.open_output(
                     self.output, os.O_WRONLY | os.O_CREAT | os.O_TRUNC)
@@ -227,6 +227,10 @@ class Command(Running):
             and time.monotonic() >= self.since + self.job.timeout
 
 
+# Those that commands run in.
+FOLDERS = Folders()
+
+
 def from_here(folder: str) -> str:
     """A folder as `cd` takes it whatever CDPATH has."""
     return folder if not folder or folder.startswith("/") else f"./{folder}"
@@ -236,3 +240,14 @@ def end_of_path(path: str) -> str:
     """As much of a path's end as an error's text has room for."""
     path = path.removeprefix("./")
     return path if len(path) <= MOST_OF_PATH else f"..{path[-MOST_OF_PATH:]}"
+
+
+def look_for(folder: str) -> None:
+    """OSError where there is no such folder, or where its mount doesn't answer."""
+    try:
+        if folder and not (has := FOLDERS.has(folder)):
+            if has is None:
+                raise NotNow(f"{folder} doesn't answer")
+            raise OSError(errno.ENOENT, f"no folder {end_of_path(folder)}")
+    except NoAnswer:
+        raise OSError(errno.ETIMEDOUT, f"it hangs: {end_of_path(folder)}") from None

@@ -18,12 +18,14 @@ and their words are those of `settings`.
 from __future__ import annotations
 
 import collections
+import os
 import re
 from collections.abc import Iterable
 from dataclasses import dataclass
 
-from . import Mistake, Name
+from . import Fault, Mistake, Name
 from .beside import open_commands
+from .mounts import NoAnswer, answered
 from .settings import FORMS, OF_ALL, Settings, Way, Wrong, read_settings, short
 from .telling import note
 
@@ -33,6 +35,8 @@ A_LINE = "a line is GROUP KEY COMMAND.., or GROUP: and settings"
 RETURN = "it has a carriage return in its midst, and a line ends with a line feed"
 BACKSLASH = ("it ends with a backslash, which joins no lines here: a command has one line, and what"
              " is longer is a script's")
+# So many seconds the file may take to be read.
+SECONDS = 60.0
 # So many mistakes are told of a file.
 MOST_TOLD = 20
 
@@ -251,12 +255,24 @@ class Jobs:
 
 
 def lines_of(path: str) -> list[str]:
-    """The lines of the file at this path."""
+    """The lines of the file at this path. A regular one has its time, since its mount may be dead;
+    a pipe is waited for."""
     try:
-        with open(open_commands(path), "rb") as file:
-            return file.read().decode("utf-8", "surrogateescape").split("\n")
+        if answered(lambda: os.path.isfile(path), SECONDS):
+            text = answered(lambda: bytes_of(path), SECONDS) or b""
+        else:
+            text = bytes_of(path)
     except OSError as error:
         raise Mistake(f"{path}: {error.strerror}") from error
+    except NoAnswer:
+        raise Fault(f"{path}: it can't be read within {SECONDS:.0f} s: does its mount answer?") \
+            from None
+    return text.decode("utf-8", "surrogateescape").split("\n")
+
+
+def bytes_of(path: str) -> bytes:
+    with open(open_commands(path), "rb") as file:
+        return file.read()
 
 
 def check_group(group: str) -> None:

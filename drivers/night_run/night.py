@@ -33,6 +33,8 @@ FULL = (TOO_MANY_SCOPES, TOO_MANY_GROUPS, TOO_MANY_TASKS)
 SECONDS = 30.0
 # A word reads a whole store, or makes one; a session begins with that, too.
 WHOLE_SECONDS = 120.0
+# So often what goes on meanwhile is looked at.
+OFTEN = 0.05
 # A renewal does both.
 RENEWAL_SECONDS = 300.0
 # So long one that was killed is waited for; the disk may hold it.
@@ -76,15 +78,17 @@ def program() -> str:
     raise Fault("no program `night`: ./build makes it; put it on the path, or name it by NIGHT")
 
 
-def ran(*words: str, seconds: float = WHOLE_SECONDS) -> str:
+def ran(*words: str, seconds: float = WHOLE_SECONDS,
+        meanwhile: Callable[[], float] | None = None) -> str:
     """What `night` prints for these words. While the store is in use it is tried again, and so is
-    an inspection that a signal ended."""
+    an inspection that a signal ended. It has so many seconds, or as many as `meanwhile` says, which
+    is asked all the while."""
     for busy in range(MOST_BUSY):
         it = subprocess.Popen([program(), *words], stdin=subprocess.DEVNULL, text=True,
                               errors="replace", stdout=subprocess.PIPE, stderr=subprocess.PIPE,
                               start_new_session=True)
         try:
-            printed, told = it.communicate(timeout=seconds)
+            printed, told = communicated(it, seconds, meanwhile)
         except subprocess.TimeoutExpired:
             kill(it, words[-1])
             raise NightEnded(-signal.SIGKILL, f"no end within {seconds:.0f} s") from None
@@ -104,6 +108,19 @@ def kill(it: subprocess.Popen[Any], store: str) -> None:
     it.kill()
     with contextlib.suppress(subprocess.TimeoutExpired):
         it.wait(KILLED_SECONDS)
+
+
+def communicated(it: subprocess.Popen[str], seconds: float,
+                 meanwhile: Callable[[], float] | None) -> tuple[str, str]:
+    """What it prints and tells until it ends; TimeoutExpired where that takes too long."""
+    began = time.monotonic()
+    while meanwhile:
+        left = began + min(seconds, meanwhile()) - time.monotonic()
+        with contextlib.suppress(subprocess.TimeoutExpired):
+            return it.communicate(timeout=max(0.0, min(left, OFTEN)))
+        if left <= 0:
+            raise subprocess.TimeoutExpired(it.args, seconds)
+    return it.communicate(timeout=seconds)
 
 
 def refusal(reply: str) -> int | None:

@@ -37,7 +37,8 @@ def renew(files: Files, log: Log, past: Past, jobs: Jobs, wake: int,
         past = keep(files, log, past, jobs, state, state.count)
         give_back(session, state, past.night, needed(log, past, jobs, state))
         session.close()
-        said = ran("renew", "--in-place", files.path, seconds=RENEWAL_SECONDS).rstrip("\n")
+        said = ran("renew", "--in-place", files.path, seconds=RENEWAL_SECONDS,
+                   meanwhile=meanwhile).rstrip("\n")
         note(f"{files.shown}: {said}")
         return past, True
     except (Fault, NightEnded, OSError) as fault:

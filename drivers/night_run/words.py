@@ -16,7 +16,7 @@ import sys
 import time
 from typing import NoReturn
 
-from . import Fault, Mistake, Name, cancels, exits, rows, telling
+from . import Fault, Mistake, Name, cancels, clock, exits, rows, telling
 from .beside import Umask
 from .ends import text_of
 from .escapes import plain_lines
@@ -482,7 +482,10 @@ class Run:
         """Renews a store that is nearly full, and makes another one where its clock is ahead. The
         state that the next opening finds, as far as it is known."""
         ahead = state.clock - int(time.time())
-        if ahead > MOST_AHEAD:
+        if ahead > MOST_AHEAD and not clock.is_set():
+            note(f"this machine's clock shows {clock.shown()}, and so isn't set: the deadlines of"
+                 " this night wait until it is")
+        elif ahead > MOST_AHEAD:
             driver.past = make_anew(self.files, self.log, self.past, self.jobs, state, ahead)
             self.files.lock.sign()
             return None
