@@ -366,7 +366,11 @@ def cancel_beside(tries: Shared) -> None:
     """A cancel that takes its time keeps no night from beginning."""
     kind = "a slow cancel"
     room = Room(tries, [job("g", "a"), job("h", "b")])
-    tries.is_same(f"{kind}: a night before", room.path, room.run()[0], 0)
+    room.set([job("g", "a"), job("h", "b"), job("h", "c", 30)])
+    run = room.start("s", "JOBS", "--grace", "1")
+    room.until(lambda: len(room.lines("s.log")) == 3 and "h.c" in room.lines("begun"))
+    kill([run.pid], which=signal.SIGTERM)
+    tries.is_same(f"{kind}: a night before", room.path, room.ended(run)[0], 1)
     room.set([job("g", "a"), job("h", "b"), job("h", "c")])
     room.write("slow", "")
     slow = room.program("between", SLOW.format(night=tries.program).replace("sleep 2", "sleep 5"))
@@ -612,7 +616,8 @@ def names_of_rounds(tries: Shared) -> None:
             2, ["g--2.a.0", "g--2.a.1", "h--2.b.0", "h--2-2.b.0"]):
         for word in "--again", "--failed":
             run = room.start("s", "JOBS", word)
-            room.until(lambda its=its, word=word: room.has(f"s.out/{its[-1 - (word == '--again')]}"))
+            output = f"s.out/{its[-2 if word == '--again' else -1]}"
+            room.until(lambda output=output: room.has(output))
             room.run("s", "--cancel", "h", errors="errors2")
             room.ended(run)
         tries.is_same(kind, night, sorted(it for it in os.listdir(f"{room.path}/s.out")
@@ -639,7 +644,8 @@ def order(tries: Shared) -> None:
     tries.is_same(f"{kind}: it isn't begun", room.path, room.begun(), {"g.a": 1})
 
 
-CASES = [short_commands, short_deadline, short_cancel, full_store, read_meanwhile, night_dies, lists, bad_cancels,
+CASES = [short_commands, short_deadline, short_cancel, full_store, read_meanwhile, night_dies,
+         lists, bad_cancels,
          held_cancels, late_cancels, cancel_beside, two_tries, backgrounds, stopped_ok, no_room,
          clock_ahead, clock_ahead_again, other_jobs, many_groups, texts, no_traces, hung_night,
          held_night, missing_store, edits, second_evening, names_of_rounds, order]

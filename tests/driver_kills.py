@@ -494,8 +494,12 @@ def taken_away(tries: Shared) -> None:
 def all_canceled(tries: Shared) -> None:
     """After a cancel of all groups together what failed and what is new runs in a next round."""
     kind = "all are canceled"
-    room = Room(tries, [job("g", "a", end="; test -e fine"), job("g", "c")])
-    tries.is_same(f"{kind}: before", room.path, room.run()[0], 1)
+    room = Room(tries, [job("g", "a", end="; test -e fine"), job("g", "c"),
+                        "g z echo g.z >> begun; [ -e fine ] || exec sleep 60"])
+    run = room.start("s", "JOBS", "--grace", "1")
+    room.until(lambda: len(room.lines("s.log")) == 3 and "g.z" in room.lines("begun"))
+    kill([run.pid], which=signal.SIGTERM)
+    tries.is_same(f"{kind}: before", room.path, room.ended(run)[0], 1)
     tries.is_same(f"{kind}: so they are", room.path, room.run("s", "--cancel", "night", "why"), (
         0, "night: done; deadline none; err context canceled; cause why\n"))
     room.write("fine", "")
@@ -503,12 +507,12 @@ def all_canceled(tries: Shared) -> None:
     status, output = room.run()
     tries.is_same(f"{kind}: a new group is none of them", room.path,
                   (status, output.splitlines()), (1, [
-        "g a: exit 1; s.out/g.a.0", "g d: canceled: why",
-            "4 commands: 2 ok, 1 failed, 1 canceled; 1 run now"]))
+        "g a: exit 1; s.out/g.a.0", "g z: canceled: why; s.out/g.z.0", "g d: canceled: why",
+            "5 commands: 2 ok, 1 failed, 2 canceled; 1 run now"]))
     tries.is_same(f"{kind}: failed ones run again", room.path, room.last("s", "JOBS", "--failed"), (
-        0, "4 commands: 4 ok; 2 run now"))
+        0, "5 commands: 5 ok; 3 run now"))
     tries.is_same(f"{kind}: nothing else does", room.path, room.begun(),
-                  {"g.a": 2, "g.c": 1, "g.d": 1, "h.b": 1})
+                  {"g.a": 2, "g.c": 1, "g.z": 2, "g.d": 1, "h.b": 1})
     room.agrees(kind)
 
 

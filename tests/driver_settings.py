@@ -9,7 +9,7 @@ import signal
 import subprocess
 import time
 
-from driver_room import Room, Shared, environments, job, kill, most_at_once
+from driver_room import Room, Shared, environments, hit, job, kill, most_at_once
 
 # Words that name a wrong file, or no program: the status, and why. The room has a file `bytes` and
 # `null`, a link to a device.
@@ -22,6 +22,9 @@ ASTRAY = [
     (("s", "--cancel", "g"), 2, "s: No such file or directory"),
     (("s", "JOBS"), 3, "NIGHT names no program: ./missing"),
 ]
+KEY = ("crm is a key of db: --cancel db/crm cancels that command alone; a reason for all of the"
+       " group has to begin with another word")
+ENDED = "night-run: s: night 1 has ended, and nothing of it is left to cancel\n"
 # Words that are told with the usage.
 UNUSABLE = [("s",), ("s", "JOBS", "-j", "0"), ("s", "JOBS", "-j", "x"), ("s", "JOBS", "--json"),
             ("s", "JOBS", "--failed", "--again"), ("s", "JOBS", "--report", "pdf"),
@@ -149,6 +152,89 @@ def after(tries: Shared) -> None:
     room.write("fine", "")
     tries.is_same(kind, room.path, (room.last("s", "JOBS", "--failed"), room.begun()),
                   ((0, "2 commands: 2 ok; 2 run now"), {"g.a": 2, "g.b": 1}))
+
+
+def cancels(tries: Shared) -> None:
+    """One command is canceled, and what looks as if it were meant isn't taken for a reason."""
+    waits = "echo {0} >> begun; until [ -e go ]; do sleep 0.1; done"
+    kind = "a cancel of one command"
+    room = Room(tries, ["db: limit 1 retries 3", "db a " + waits.format("a"), job("db", "crm"),
+                        "db tail " + waits.format("tail"), "www x " + waits.format("x"),
+                        "www y " + waits.format("y"), "rest z true", "rest: after db/crm"])
+    run = room.start("s", "JOBS", "--grace", "1")
+    room.until(lambda: len(room.lines("begun")) == 3)
+    asked = [
+        (("db", "crm"), 2, "", KEY), (("db", "crm", "too", "slow"), 2, "", KEY),
+        (("db/nowhere", "why"), 2, "", "db has no command nowhere"),
+        (("nowhere/crm",), 2, "", "nowhere has no command crm"),
+        (("nowhere",), 2, "", "s has no group nowhere"),
+        (("db/crm", "too", "slow"), 0, "db/crm: canceled: too slow", ""),
+        (("db/crm", "again"), 0, "db/crm: canceled: too slow", ""),
+        (("www/x",), 0, "www/x: canceled: canceled by hand", "")]
+    for words, status, said, told in asked:
+        found = room.run("s", "--cancel", *words, errors="errors2", seconds=40)
+        tries.is_same(f"{kind}: {' '.join(words)}", room.path, (found, room.errors), (
+            (status, said and f"{said}\n"), told and f"night-run: {told}\n"))
+    tries.is_same(f"{kind}: the others run on", room.path,
+                  (run.poll(), sorted(room.lines("begun"))), (None, ["a", "x", "y"]))
+    room.write("go", "")
+    status, output = room.ended(run)
+    tries.is_same(kind, room.path, (status, output.splitlines()), (1, [
+        "db crm: canceled: too slow", "www x: canceled: canceled by hand; s.out/www.x.0",
+        "rest z: not begun: after db/crm, which was canceled",
+        "6 commands: 3 ok, 2 canceled, 1 not begun; 4 run now"]))
+    tries.is_same(f"{kind}: one that has ended", room.path, (
+        room.run("s", "JOBS", "--cancel", "db/a"), room.errors), ((2, ""), ENDED))
+    tries.is_same(f"{kind}: run again", room.path, room.run()[0], 1)
+    room.agrees(kind)
+    tries.is_same(f"{kind}: --failed", room.path, (room.last("s", "JOBS", "--failed"),
+                                                   "db.crm" in room.lines("done")),
+                  ((0, "6 commands: 6 ok; 3 run now"), True))
+
+
+def cancels_alone(tries: Shared) -> None:
+    """Likewise, where no driver runs."""
+    kind = "a cancel of one command where nothing runs"
+    room = Room(tries, ["db: limit 1", job("db", "a"), "db b echo b >> begun; exec sleep 60",
+                        job("db", "crm"), job("www", "x")])
+    run = room.start("s", "JOBS", "-j", "1", "--grace", "1")
+    room.until(lambda: "b" in room.lines("begun"))
+    hit(run, "driver")
+    room.ended(run)
+    asked = [
+        (("s", "--cancel", "Disks"), "--cancel 'Disks': the group 'Disks' is not 1 to 20 of a-z,"
+         " 0-9, - and _ without --, or it is root"),
+        (("s", "--cancel", "db/Crm"), "--cancel 'db/Crm': the key 'Crm' is not 1 to 32 of a-z, 0-9,"
+         " - and _"),
+        (("s", "--cancel", "night/a"),
+         "--cancel 'night/a': the group night is all groups together"),
+        (("s", "--cancel", "nowhere"), "s has no group nowhere"),
+        (("s", "--cancel", "db", "a", "stop"), KEY.replace("crm", "a")),
+        (("s", "JOBS", "--cancel", "db", "crm"), KEY),
+        (("s", "--cancel", "db/crm"), "no night-run runs: night-run s JOBS --cancel db/crm cancels"
+         " this command, by its file of commands"),
+        (("s", "JOBS", "--cancel", "db/nowhere"), "db has no command nowhere"),
+        (("s", "JOBS", "--cancel", "db/a"), "db a has ended: ok")]
+    for words, told in asked:
+        began = time.monotonic()
+        tries.is_same(f"{kind}: {' '.join(words)}", room.path, (room.run(*words), room.errors),
+                      ((2, ""), f"night-run: {told}\n"))
+        tries.holds(f"{kind}: at once", words, time.monotonic() - began < 20)
+    for key, told in ("crm", ""), ("b", "night-run: db b still runs from the last run; the next one"
+                                        " stops it\n"):
+        tries.is_same(f"{kind}: {key}", room.path, (
+            room.run("s", "JOBS", "--cancel", f"db/{key}", "not", "now"), room.errors), (
+                (0, f"db/{key}: canceled: not now\n"), told))
+    status, output = room.run("s", "JOBS", "--grace", "1", seconds=40)
+    tries.is_same(kind, room.path, (status, output.splitlines()), (1, [
+        "db b: canceled: not now; s.out/db.b.0", "db crm: canceled: not now",
+        "4 commands: 2 ok, 2 canceled; 1 run now"]))
+    tries.is_same(f"{kind}: what has run", room.path, room.begun(), {"db.a": 1, "b": 1, "www.x": 1})
+    room.agrees(kind)
+    kind = "a cancel of a night that has ended"
+    for words in ("night",), ("db", "too", "late"), ("night", "again"):
+        tries.is_same(kind, words, (room.run("s", "--cancel", *words), room.errors), (
+            (2, ""), "night-run: s: night 1 has ended, and nothing of it is left to cancel\n"))
 
 
 def stop_on_failure(tries: Shared) -> None:
@@ -351,5 +437,6 @@ def on_a_terminal(room: Room) -> str:
     return told.decode()
 
 
-SETTINGS = [retries, timeout, places, shells, after, stop_on_failure, limits, summaries, views, failed,
+SETTINGS = [retries, timeout, places, shells, cancels, cancels_alone, after, stop_on_failure,
+            limits, summaries, views, failed,
             nightly, astray, keys, terminals]

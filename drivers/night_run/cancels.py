@@ -1,17 +1,17 @@
 """STORE.cancel, a folder: what somebody at another terminal wants to have cancelled. Each process
 that waits for a cancel has a file in it, by its own name,
 
-    BOOT.PID.START             GROUP WHY
+    BOOT.PID.START             GROUP WHY, or GROUP/KEY WHY
 
 and once that is durable the driver puts the answer beside it, which the process takes away:
 
     BOOT.PID.START.answer      GROUP ANSWER
 
-ANSWER is how the group's scope is then, or `-` where there is no such group. Each file is renamed
-into place whole. One counts while its process lives: what an earlier driver left is taken away, so
-that it doesn't cancel another night. Nobody else can open the folder, so nobody else cancels, and
-nobody forges an answer. (In the place of the folder an older driver had a file, which is taken
-away.)
+ANSWER is how the group's scope is then, or how the command ended; `-` where there is no such group,
+and `- ` with the reason where nothing is canceled. Each file is renamed into place whole. One
+counts while its process lives: what an earlier driver left is taken away, so that it doesn't cancel
+another night. Nobody else can open the folder, so nobody else cancels, and nobody forges an answer.
+(In the place of the folder an older driver had a file, which is taken away.)
 """
 
 from __future__ import annotations
@@ -29,17 +29,22 @@ from .rounds import base_of
 from .telling import note_once
 
 NAMED = re.compile(rf"([0-9a-f-]{{36}}|-)\.{PID}\.{START}")
-ASKED = re.compile(r"([a-z0-9_-]{1,32}) ([ -~]{1,64})\n")
-ANSWERED = re.compile(r"[a-z0-9_-]{1,32} (.{1,400})\n")
+ASKED = re.compile(r"([a-z0-9_-]{1,32})(?:/([a-z0-9_-]{1,32}))? ([ -~]{1,64})\n")
+ANSWERED = re.compile(r"[a-z0-9_/-]{1,65} (.{1,400})\n")
 ANSWER = ".answer"
-NO_GROUP = "-"
+NO_GROUP, REFUSED = "-", "- "
 
 
 @dataclass(frozen=True)
 class Request:
     process: Process
     group: str
+    key: str  # of a command; empty where the whole group is meant
     why: str
+
+    @property
+    def what(self) -> str:
+        return f"{self.group}/{self.key}" if self.key else self.group
 
     @property
     def name(self) -> str:
@@ -66,8 +71,24 @@ def read_request(folder: Folder, name: str, process: Process) -> Request | None:
     """What a file asks for, if it is still there and whole."""
     with contextlib.suppress(FileNotFoundError):
         if found := ASKED.fullmatch(folder.read(name).decode("ascii", "replace")):
-            return Request(process, base_of(found[1]), found[2])
+            return Request(process, base_of(found[1]), found[2] or "", found[3])
     return None
+
+
+# --- why nothing is canceled
+
+def is_key(group: str, key: str) -> str:
+    """Why a reason that begins with a key of its group is none."""
+    return (f"{key} is a key of {group}: --cancel {group}/{key} cancels that command alone; a"
+            " reason for all of the group has to begin with another word")
+
+
+def no_command(group: str, key: str) -> str:
+    return f"{group} has no command {key}"
+
+
+def has_ended(group: str, key: str, how: str) -> str:
+    return f"{group} {key} has ended: {how}"
 
 
 # --- the driver
@@ -98,7 +119,7 @@ class Desk:
         request = read_request(folder, name, process) if process else None
         folder.remove(name)
         if request:
-            note_once(f"a cancel of {request.group} is passed over: who asked for it has gone")
+            note_once(f"a cancel of {request.what} is passed over: who asked for it has gone")
 
     def requests(self) -> list[Request]:
         """What is asked for now, and not answered yet."""
@@ -127,18 +148,18 @@ class Desk:
             with contextlib.closing(self.files.below(Part.CANCEL)) as folder:
                 for request, answer in done.items():
                     if folder.stat(request.name) is not None:
-                        folder.put(f"{request.name}{ANSWER}", f"{request.group} {answer}\n".encode())
+                        folder.put(f"{request.name}{ANSWER}", f"{request.what} {answer}\n".encode())
         except OSError as error:
             self.failed(error)
 
 
 # --- who asks
 
-def ask(files: Files, group: str, why: str) -> Request:
+def ask(files: Files, group: str, key: str, why: str) -> Request:
     """Writes a request of this process."""
-    made = Request(this_process(), group, why)
+    made = Request(this_process(), group, key, why)
     with opened(files) as folder:
-        folder.put(made.name, f"{group} {why}\n".encode())
+        folder.put(made.name, f"{made.what} {why}\n".encode())
     return made
 
 

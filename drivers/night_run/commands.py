@@ -84,6 +84,7 @@ class Command(Running):
         self.job, self.group, self.tried, self.number = job, group, tried, number
         self.output = output
         self.is_adopted = False  # one of an earlier driver, whose end elsewhere is known
+        self.is_never = False  # it is canceled before it begins
         self.began = self.since = 0.0
         self.took: float | None = None
         self.status: int | None = None
@@ -93,7 +94,7 @@ class Command(Running):
 
     @property
     def has_begun(self) -> bool:
-        return bool(self.pid or self.failure or self.is_adopted)
+        return bool(self.pid or self.failure or self.is_adopted or self.is_never)
 
     def environment(self, store: str, inherited: Mapping[str, str]) -> dict[str, str]:
         return {**inherited, **dict(self.job.env), "NIGHT_STORE": store,
@@ -140,6 +141,12 @@ class Command(Running):
         """Makes it a try of an earlier driver that has ended elsewhere."""
         self.elsewhere, self.output = it, output
         self.is_adopted = self.is_gone = True
+        self.status = -signal.SIGKILL
+
+    def never(self, end: End) -> None:
+        """Makes it one that never begins, and ends so."""
+        self.stopped, self.why = time.monotonic(), end
+        self.is_never = self.is_gone = True
         self.status = -signal.SIGKILL
 
     def poll(self, grace: float) -> bool:

@@ -57,6 +57,7 @@ class Book:
     limits: dict[str, int | None] = field(default_factory=dict)  # of the store's groups
     rounds: dict[str, Round] = field(default_factory=dict)  # the greatest one of each group
     is_new: bool = False  # whether nothing of it is in the store yet
+    free: dict[str, str] = field(default_factory=dict)  # likewise, one without a limit
     tries: collections.Counter[tuple[str, str]] = field(default_factory=collections.Counter)
     said: dict[str, str] = field(default_factory=dict)  # the deadlines, as the file said them
     last: dict[Name, Task] = field(default_factory=dict)

@@ -36,7 +36,6 @@ from collections.abc import Callable, Iterator
 from functools import partial
 
 from . import Fault, Name
-from .cancels import NO_GROUP, Desk, Request
 from .commands import Command, NotNow, Running
 from .ends import INTERRUPTED, End, canceled, failed
 from .facts import PASSED, Book, Facts, book_of, facts_of, numbered
@@ -48,13 +47,13 @@ from .leftovers import Leftover, sign_night, sign_stop
 from .log import Line, Log, Tried, line_of
 from .night import (ALREADY_DONE, CLOCK_NOT_FORWARD, FULL, MOST_BUSY, NOTHING_READY, NightEnded,
                     Session, SessionFull, refusal)
+from .obeying import Canceler
 from .opening import (Maker, StoreFull, advance, ready_state, set_limits, withdraw,
                       withdrawn)
 from .past import Past
 from .plan import Standing, may_begin, standings
 from .renewal import renew
-from .rounds import Role, Round, base_of, role_name, round_of
-from .settings import OF_ALL
+from .rounds import Role, Round, role_name, round_of
 from .signals import Signals
 from .state import ENDED, JOB, State
 from .telling import note, note_once, progress, tell
@@ -105,7 +104,7 @@ class Driver:
         self.signals, self.keeper = signals, keeper
         self.files, self.jobs, self.log, self.past, self.pids = files, jobs, log, past, pids
         self.left, self.most, self.grace = left, most, grace
-        self.desk, self.far = Desk(files), Far(files)
+        self.canceler, self.far = Canceler(self), Far(files)
         self.night = 1
         self.begins_night = False
         self.forgiven: dict[Name, int] = {}  # of each command failures that don't count
@@ -230,7 +229,8 @@ class Driver:
 
     def take_in(self, state: State) -> None:
         """Takes in what the store says of this night, also ends whose reply didn't come."""
-        self.commands = {name: it for name, it in self.commands.items() if it.has_begun}
+        self.commands = {name: it for name, it in self.commands.items()
+                         if it.has_begun and not it.is_never}
         self.book = book_of(state, self.past, self.night + self.begins_night)
         last = self.book.last
         for name, command in list(self.commands.items()):
@@ -387,13 +387,12 @@ class Driver:
         self.look_for_store()
         self.add_ends(batch)
         self.look_for_leftovers(batch)
-        asked = self.add_cancels(batch)
+        asked = self.canceler.add(batch)
         self.add_clock(batch, bool(batch.lines))
         begun = self.add_begins(batch)
         if batch.lines:
             batch.send(self.session)
-        if asked:
-            self.desk.answer(asked)
+        self.canceler.answer(asked)
         for it in begun:
             self.begin(it)
         self.stop_those_due()
@@ -446,11 +445,12 @@ class Driver:
         self.lost = 0
         if self.commands.get(command.name) is command:
             del self.commands[command.name]
-        self.ran[command.name] = command
+        if not command.is_never:
+            self.ran[command.name] = command
         end = command.end() or INTERRUPTED
         self.is_woken |= not end.is_ok
         tried = command.group, command.job.key, command.tried
-        began = None if command.is_adopted else command.began
+        began = None if command.is_adopted or command.is_never else command.began
         self.log.add(iter([(tried, line_of(began, command.took, end, command.job.command))]))
 
     def reopen(self, name: Name, end: End) -> None:
@@ -473,24 +473,6 @@ class Driver:
         self.leave(command)
         self.facts.interrupted.add(command.name)
         tell(f"{command.name[0]} {command.name[1]}: interrupted")
-
-    def add_cancels(self, batch: Batch) -> dict[Request, str]:
-        """The cancels that are asked for, and the answers to them, once all is acked."""
-        answers: dict[Request, str] = {}
-        for it in self.desk.requests():
-            answers[it] = NO_GROUP
-            groups = list(self.book.scopes) if it.group == OF_ALL else [it.group]
-            scopes = [self.book.scopes[group] for group in groups if group in self.book.scopes]
-            for scope in scopes:
-                self.facts.cancel(base_of(scope.name), it.why)
-            if it.group == OF_ALL and self.book.top:
-                scopes.insert(0, self.book.top)
-            for scope in scopes:
-                batch.add(f"cancel {scope.name} {it.why}")
-            for scope in scopes[:1]:
-                batch.add(f"scope {scope.name}", partial(answers.__setitem__, it))
-            self.is_stale = True
-        return answers
 
     def add_clock(self, batch: Batch, is_busy: bool) -> None:
         """Moves the clock: with other lines, where a deadline passes, and once in a while."""
@@ -544,10 +526,10 @@ class Driver:
         self.open = [self.places[name] for name, it in found.items()
                      if not it.is_final and name not in self.facts.busy]
 
-    def add_start(self, batch: Batch, command: Command) -> None:
-        """The lines that submit and start a task for a command."""
+    def add_start(self, batch: Batch, command: Command, group: str = "") -> None:
+        """The lines that submit and start a task for a command, in its group or in this one."""
         base, key = command.name
-        group = self.book.groups.get(base) or self.add_group(batch, base)
+        group = group or self.book.groups.get(base) or self.add_group(batch, base)
         last = self.book.last.get(command.name)
         is_retry = last is not None and last.group == group and last.phase == "interrupted" \
             and last.number not in self.book.retried
@@ -641,6 +623,8 @@ class Driver:
                 left.clear_here()
             elif left.is_orphaned or left.is_overdue():
                 self.stop(left, None)
+            elif (end := self.facts.ends.get(left.name)) and end.is_canceled:
+                self.stop(left, end)
             self.press_one(left)
 
     def press_one(self, it: Running) -> None:

@@ -8,7 +8,6 @@ from __future__ import annotations
 
 import argparse
 import dataclasses
-import errno
 import json
 import os
 import re
@@ -18,7 +17,7 @@ from typing import NoReturn
 
 from . import Fault, Mistake, Name, cancels, clock, exits, rows, telling
 from .beside import Umask
-from .ends import text_of
+from .canceling import cancel
 from .escapes import plain_lines
 from .exits import Hooks, Outcome, hooks_of, outcome_of
 from .facts import Book, Facts, book_of, facts_of, logged_groups, when_ended
@@ -28,14 +27,13 @@ from .keeping import Keeper
 from .leftovers import end_night, left_commands, open_pids
 from .log import Log
 from .loop import Driver
-from .night import ALREADY_DONE, RENEWAL_SECONDS, NightEnded, program, ran
-from .opening import advance, check, inspected, now_of, opened
+from .night import RENEWAL_SECONDS, NightEnded, program, ran
+from .opening import check, inspected
 from .past import Past, Unreadable, read_past
 from .plan import CANCELLED, FAILED, may_begin, standings
 from .renewal import make, make_anew, renew
 from .report_words import last_end
-from .rounds import Role, base_of, role_name
-from .settings import OF_ALL
+from .rounds import Role, role_name
 from .signals import Signals
 from .state import State
 from .summary import (changed, failed_count, failures, is_well, left_count, list_lines,
@@ -75,8 +73,9 @@ Settings, several in a line or in several lines:
   shell bash -o pipefail    these words run it by -c, in place of /bin/sh; the rest of its line
 
 Each command has the environment of night-run, with NIGHT_STORE, NIGHT_GROUP, NIGHT_KEY and
-NIGHT_TRY, an empty standard input, and its output in STORE.out/GROUP.KEY.TRY. STORE.log says what ran when, how long,
-and how it ended. Ctrl-C once lets the commands that run end, twice stops them; so does SIGTERM.
+NIGHT_TRY, an empty standard input, and its output in STORE.out/GROUP.KEY.TRY. STORE.log says what
+ran when, how long, and how it ended. Ctrl-C once lets the commands that run end, twice stops them;
+so does SIGTERM.
 
 The status is 0 where every command of the file is ok (or what was asked for is printed or done),
 1 where one isn't, 2 where the words or the file have to be changed, 3 after a fault. With
@@ -89,8 +88,6 @@ may run twice."""
 
 # A clock of a store that is ahead by more seconds than this is not waited for.
 MOST_AHEAD = 60
-# So many seconds a driver has to obey a cancel.
-CANCEL_SECONDS = 60.0
 FORMS = ("html", "text", "prom")
 
 
@@ -119,7 +116,7 @@ def read_words(given: list[str]) -> argparse.Namespace:
               "                       [--on-begin COMMAND] [--on-success COMMAND]\n"
               "                       [--on-failure COMMAND]\n"
               "       night-run STORE JOBS --list [--json] | --dry-run | --report html|text|prom\n"
-              "       night-run STORE --cancel GROUP [WHY..]\n"
+              "       night-run STORE [JOBS] --cancel GROUP[/KEY] [WHY..]\n"
               "       night-run --version | --help",
         formatter_class=argparse.RawDescriptionHelpFormatter)
     reader.add_argument("store", metavar="STORE")
@@ -156,7 +153,8 @@ def read_words(given: list[str]) -> argparse.Namespace:
     what.add_argument("--report", choices=FORMS, metavar="html|text|prom",
                       help="print the night as a page, a text for a mail, or metrics")
     what.add_argument("--cancel", nargs="+", metavar=("GROUP", "WHY"),
-                      help="cancel a group, or `night`, also while another night-run runs it")
+                      help="cancel a group, a command (GROUP/KEY), or `night`, which is all of"
+                      " them, also while another night-run runs it")
     reader.add_argument("--json", action="store_true", help="with --list: every command, as JSON")
     reader.add_argument("--version", action="version", version=f"night-run {version()}")
     found = reader.parse_args(given)
@@ -219,7 +217,7 @@ def looked(words: argparse.Namespace) -> Outcome:
         become_owner(words.store)
         files = Files(words.store)
         files.look()
-        lines = [cancel(files, *words.cancel)] if words.cancel else \
+        lines = [cancel(files, words.jobs, *words.cancel)] if words.cancel else \
             shown(files, Jobs(words.jobs), words)
         return Outcome(exits.WELL, lines=tuple(lines))
     except (Exception, KeyboardInterrupt) as error:
@@ -270,65 +268,6 @@ def planned(jobs: Jobs, view: View, most: int) -> list[str]:
         why = f": {it.why}" if it.why else ""
         lines.append(f"{what} {' '.join(name)}{why}")
     return lines
-
-
-# --- a cancel
-
-def cancel(files: Files, group: str, *words: str) -> str:
-    """Cancels a group: by the driver where one runs, else by itself."""
-    if not files.exists():
-        raise Mistake(f"{files.shown}: {os.strerror(errno.ENOENT)}")
-    why = " ".join(words) or "canceled by hand"
-    if text_of(why) != why:
-        raise Mistake("WHY is 1 to 64 bytes of printable ASCII")
-    return f"{group}: {cancelled(files, group, why)}"
-
-
-def cancelled(files: Files, group: str, why: str) -> str:
-    """How the scope of a group is, once it is cancelled."""
-    if files.lock.take_for_cancel():
-        return cancel_alone(files, group, why)
-    request = cancels.ask(files, base_of(group), why)
-    end = time.monotonic() + CANCEL_SECONDS
-    try:
-        while time.monotonic() < end:
-            answer = cancels.answered(files, request)
-            if answer == cancels.NO_GROUP:
-                raise Mistake(f"{files.shown} has no group {group}")
-            if answer:
-                return answer
-            if files.lock.take_for_cancel():
-                # (its driver has ended)
-                return cancel_alone(files, group, why)
-            time.sleep(0.05)
-    finally:
-        cancels.withdraw(files, request)
-    raise Fault(f"the driver hasn't looked into {files.shown}.cancel in {CANCEL_SECONDS:.0f} s:"
-                f" {group} is not cancelled")
-
-
-def scope_of(files: Files, state: State, group: str) -> str:
-    """The scope that a group has now."""
-    book = book_of(state, Past(), state.night())
-    scope = book.top if group == OF_ALL else book.scopes.get(group)
-    if scope is None or group == "root":
-        raise Mistake(f"{files.shown} has no group {group}")
-    return scope.name
-
-
-def cancel_alone(files: Files, group: str, why: str) -> str:
-    """Cancels a group where no driver runs."""
-    state = inspected(files)
-    scope = scope_of(files, state, group)
-    wake, wakes = os.pipe()
-    session, state = opened(files, state, wake, lambda: 1e9)
-    advance(session, now_of(state))
-    _, look, _ = session.ask([f"cancel {scope} {why}", f"scope {scope}", "flush"],
-                             may=[ALREADY_DONE])
-    session.close()
-    os.close(wake)
-    os.close(wakes)
-    return look
 
 
 # --- a night

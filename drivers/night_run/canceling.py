@@ -1,0 +1,186 @@
+"""What `--cancel` does: the driver that runs is asked for it (`cancels`); where none runs, it is
+done here.
+
+A group, or all groups together, is a scope of the store, which is cancelled. A command is none: a
+task of it ends as canceled before it begins. `--failed` runs again what was canceled either way.
+"""
+
+from __future__ import annotations
+
+import contextlib
+import errno
+import os
+import time
+from collections.abc import Iterator
+from dataclasses import dataclass
+
+from . import Fault, Mistake, Name, cancels
+from .ends import canceled, text_of
+from .facts import book_of, facts_of
+from .files import Files
+from .jobs import Jobs, check_group, check_key
+from .leftovers import running_now
+from .night import ALREADY_DONE, FULL, Session, refusal
+from .opening import advance, inspected, now_of, opened, withdraw
+from .past import read_past
+from .plan import CANCELLED, standings
+from .rounds import Role, base_of, role_name
+from .settings import OF_ALL, Wrong, short
+from .state import JOB
+from .telling import note
+
+BY_HAND = "canceled by hand"
+# So many seconds a driver has to obey.
+SECONDS = 60.0
+LOOK = 0.05
+
+
+@dataclass(frozen=True)
+class Target:
+    """What is to be canceled: a group, or a command of it."""
+
+    group: str
+    key: str = ""
+
+    @property
+    def name(self) -> Name:
+        return self.group, self.key
+
+    def __str__(self) -> str:
+        return f"{self.group}/{self.key}" if self.key else self.group
+
+
+def target_of(word: str) -> Target:
+    group, slash, key = word.partition("/")
+    made = Target(base_of(group), key)
+    try:
+        check_group(made.group)
+        if slash:
+            check_key(key)
+            if made.group == OF_ALL:
+                raise Wrong(f"the group {OF_ALL} is all groups together")
+    except Wrong as wrong:
+        raise Mistake(f"--cancel {short(word)}: {wrong}") from None
+    return made
+
+
+def cancel(files: Files, jobs: str | None, word: str, *words: str) -> str:
+    """Cancels what a word names, for the reason that follows it; `jobs` is the file of commands, if
+    it was named."""
+    target = target_of(word)
+    if not files.exists():
+        raise Mistake(f"{files.shown}: {os.strerror(errno.ENOENT)}")
+    why = " ".join(words) or BY_HAND
+    if text_of(why) != why:
+        raise Mistake("WHY is 1 to 64 bytes of printable ASCII")
+    return f"{target}: {cancelled(files, jobs, target, why)}"
+
+
+def cancelled(files: Files, jobs: str | None, target: Target, why: str) -> str:
+    """How it is, once it is canceled."""
+    if files.lock.take_for_cancel():
+        return Alone(files, jobs).cancel(target, why)
+    request = cancels.ask(files, target.group, target.key, why)
+    end = time.monotonic() + SECONDS
+    try:
+        while time.monotonic() < end:
+            answer = cancels.answered(files, request)
+            if answer == cancels.NO_GROUP:
+                raise Mistake(f"{files.shown} has no group {target.group}")
+            if answer.startswith(cancels.REFUSED):
+                raise Mistake(answer.removeprefix(cancels.REFUSED))
+            if answer:
+                return answer
+            if files.lock.take_for_cancel():
+                # (its driver has ended)
+                return Alone(files, jobs).cancel(target, why)
+            time.sleep(LOOK)
+    finally:
+        cancels.withdraw(files, request)
+    if target.key:
+        raise Fault(f"{target} hasn't ended in {SECONDS:.0f} s; it was asked to")
+    raise Fault(f"the driver hasn't looked into {files.shown}.cancel in {SECONDS:.0f} s: {target}"
+                " is not canceled")
+
+
+class Alone:
+    """A cancel where no driver runs."""
+
+    def __init__(self, files: Files, jobs: str | None) -> None:
+        self.files, self.jobs = files, jobs
+        self.past = read_past(files)
+        self.state = inspected(files)
+        self.night = max(self.state.night(), self.past.night)
+        self.book = book_of(self.state, self.past, self.night)
+
+    def cancel(self, target: Target, why: str) -> str:
+        top = self.book.top
+        if top and role_name(top.name, Role.ENDED) in self.state.by_name:
+            raise Mistake(f"{self.files.shown}: night {self.night} has ended, and nothing of it is"
+                          " left to cancel")
+        found = self.command(target, why) if target.key else self.group(target.group, why)
+        for name in sorted(running_now(self.files)):
+            if name == target.name or not target.key and target.group in (OF_ALL, name[0]):
+                note(f"{' '.join(name)} still runs from the last run; the next one stops it")
+        return found
+
+    def group(self, group: str, why: str) -> str:
+        scope = self.book.top if group == OF_ALL else self.book.scopes.get(group)
+        if scope is None:
+            raise Mistake(f"{self.files.shown} has no group {group}")
+        key = why.partition(" ")[0]
+        if key in self.keys(group):
+            raise Mistake(cancels.is_key(group, key))
+        with self.opened() as session:
+            _, look, _ = session.ask([f"cancel {scope.name} {why}", f"scope {scope.name}", "flush"],
+                                     may=[ALREADY_DONE])
+        return look
+
+    def keys(self, group: str) -> set[str]:
+        """The keys of a group that are known here."""
+        found = {it.key for it in self.state.tasks if it.name[0] == group}
+        found |= {key for it, key, _ in self.past.ends if base_of(it) == group}
+        if self.jobs is not None:
+            # (what is wrong in the file keeps no group from being canceled)
+            with contextlib.suppress(Mistake):
+                found |= {key for it, key in Jobs(self.jobs).all if it == group}
+        return found
+
+    def command(self, target: Target, why: str) -> str:
+        if self.jobs is None:
+            raise Mistake(f"no night-run runs: night-run {self.files.shown} JOBS --cancel {target}"
+                          " cancels this command, by its file of commands")
+        jobs = Jobs(self.jobs)
+        if target.name not in jobs.all:
+            raise Mistake(cancels.no_command(target.group, target.key))
+        facts = facts_of(self.state, self.past, {}, self.book, time.time(), {})
+        found = standings(jobs, facts)[target.name]
+        if found.phase == CANCELLED:
+            return found.why
+        if found.is_final:
+            raise Mistake(cancels.has_ended(target.group, target.key, found.why or found.phase))
+        if target.group not in self.book.scopes:
+            raise Mistake(f"{self.files.shown} has no group {target.group} in this night")
+        end = canceled(why)
+        scope, group = self.book.scopes[target.group].name, self.book.next_name(target.group)
+        with self.opened() as session:
+            withdraw(session, self.state)
+            replies = session.ask([f"bare {group} {scope}", f"go {group} {JOB} {target.key}",
+                                   "start"], may=FULL)
+            if any(refusal(it) for it in replies):
+                raise Fault(f"{self.files.shown} is full")
+            session.ask([f"finish {replies[-1].split()[1]} {end.words}", "flush"])
+        return end.text
+
+    @contextlib.contextmanager
+    def opened(self) -> Iterator[Session]:
+        """A session, whose events are durable at its end."""
+        wake, wakes = os.pipe()
+        try:
+            session, self.state = opened(self.files, self.state, wake, lambda: 1e9)
+            advance(session, now_of(self.state))
+            yield session
+            session.close()
+        finally:
+            os.close(wake)
+            os.close(wakes)

@@ -1,0 +1,118 @@
+"""How a driver obeys the cancels that it is asked for (`cancels`).
+
+The scope of a group, or of all groups together, is cancelled in the store. A command has no scope:
+one that runs is stopped, and one that doesn't gets a task that ends as canceled before it begins,
+in a group without a limit where its own group may be at its limit. A request is answered once what
+it asked for is durable; until then each round comes back to it.
+"""
+
+from __future__ import annotations
+
+from functools import partial
+from typing import TYPE_CHECKING
+
+from . import Name
+from .cancels import NO_GROUP, REFUSED, Desk, Request, has_ended, is_key, no_command
+from .commands import Command
+from .ends import End, canceled
+from .plan import CANCELLED, standings
+from .rounds import base_of
+from .settings import OF_ALL
+
+if TYPE_CHECKING:
+    from .loop import Batch, Driver
+
+
+class Canceler:
+    """The cancels of a driver."""
+
+    def __init__(self, driver: Driver) -> None:
+        self.driver, self.desk = driver, Desk(driver.files)
+
+    def add(self, batch: Batch) -> dict[Request, str]:
+        """The lines for what is asked for, and the answers to it, once all is acked."""
+        answers: dict[Request, str] = {}
+        for it in self.desk.requests():
+            refused = self.refusal(it)
+            if refused:
+                answers[it] = f"{REFUSED}{refused}"
+            elif it.key:
+                self.add_command(batch, it, answers)
+            else:
+                self.add_group(batch, it, answers)
+        return answers
+
+    def answer(self, answers: dict[Request, str]) -> None:
+        if answers:
+            self.desk.answer(answers)
+
+    def refusal(self, it: Request) -> str:
+        """Why a request isn't obeyed; empty where it is."""
+        names = self.driver.jobs.all
+        if it.key:
+            if (it.group, it.key) not in names:
+                return no_command(it.group, it.key)
+            full = self.driver.is_full and (it.group, it.key) not in self.driver.facts.busy
+            return f"{self.driver.files.shown} is full" if full else ""
+        key = it.why.partition(" ")[0]
+        return is_key(it.group, key) if (it.group, key) in names else ""
+
+    def add_group(self, batch: Batch, it: Request, answers: dict[Request, str]) -> None:
+        book = self.driver.book
+        answers[it] = NO_GROUP
+        groups = list(book.scopes) if it.group == OF_ALL else [it.group]
+        scopes = [book.scopes[group] for group in groups if group in book.scopes]
+        for scope in scopes:
+            self.driver.facts.cancel(base_of(scope.name), it.why)
+        if it.group == OF_ALL and book.top:
+            scopes.insert(0, book.top)
+        for scope in scopes:
+            batch.add(f"cancel {scope.name} {it.why}")
+        for scope in scopes[:1]:
+            batch.add(f"scope {scope.name}", partial(answers.__setitem__, it))
+        self.driver.is_stale = True
+
+    def add_command(self, batch: Batch, it: Request, answers: dict[Request, str]) -> None:
+        name, end = (it.group, it.key), canceled(it.why)
+        if name in self.driver.facts.busy:
+            self.stop(name, end)
+            return
+        found = standings(self.driver.jobs, self.driver.facts)[name]
+        if not found.is_final:
+            self.end(batch, name, end)
+        elif found.phase == CANCELLED:
+            answers[it] = found.why
+        else:
+            answers[it] = REFUSED + has_ended(it.group, it.key, found.why or found.phase)
+
+    def stop(self, name: Name, end: End) -> None:
+        """Stops what runs of a command, also what an earlier driver began."""
+        command = self.driver.commands.get(name)
+        if command and not command.has_begun:
+            command.never(end)
+        elif command:
+            self.driver.stop(command, end)
+        for left in self.driver.left:
+            if left.name == name:
+                self.driver.stop(left, end)
+
+    def end(self, batch: Batch, name: Name, end: End) -> None:
+        """Gives a command that doesn't run a task, which ends in the next round."""
+        driver = self.driver
+        command = Command(driver.jobs.all[name], "", 0, -1, "")
+        command.never(end)
+        driver.commands[name] = command
+        driver.facts.busy.add(name)
+        driver.add_start(batch, command, self.free_group(batch, name[0]))
+        driver.is_woken = driver.is_stale = True
+
+    def free_group(self, batch: Batch, base: str) -> str:
+        """A group of the store that is never at a limit; empty where the usual one has none."""
+        book = self.driver.book
+        if not self.driver.jobs.limit(base):
+            return ""
+        if base not in book.free:
+            made = book.free[base] = book.next_name(base)
+            book.limits[made] = None
+            batch.add(f"bare {made} {book.scopes[base].name}", self.driver.submitted)
+        return book.free[base]
