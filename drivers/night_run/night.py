@@ -225,6 +225,11 @@ class Session:
         if status:
             raise NightEnded(status, told)
 
+    def abandon(self) -> None:
+        """Ends it, however it is: its `night` has the store's lock."""
+        with contextlib.suppress(NightEnded, OSError, ValueError):
+            self.close()
+
     def outlasts(self) -> bool:
         """Whether `night`, which is late, goes on after a sync in which the disk held it; else it
         is killed."""

@@ -48,12 +48,15 @@ def opened(files: Files, before: State | None, wake: int,
     """A session that is open, and its state. While another program has the store, as one that reads
     it for a moment, it is tried again."""
     for left in reversed(range(MOST_BUSY)):
+        session = Session(files.path, wake, meanwhile)
         try:
-            session = Session(files.path, wake, meanwhile)
             return session, ready_state(session, files, before)
         except NightEnded as ended:
             if not ended.is_in_use() or not left:
                 raise
+        except BaseException:
+            session.abandon()
+            raise
         meanwhile()
         time.sleep(0.1)
     raise AssertionError

@@ -9,8 +9,9 @@ the store, and groups that take no more tasks: the next run makes others.
 
 from __future__ import annotations
 
+import contextlib
 import time
-from collections.abc import Callable, Mapping
+from collections.abc import Callable, Iterator, Mapping
 
 from . import Fault, Name
 from .ends import End
@@ -33,10 +34,10 @@ def renew(files: Files, log: Log, past: Past, jobs: Jobs, wake: int,
     """Renews the store. What STORE.ended says then, and whether the store could be renewed."""
     try:
         session, state = opened(files, inspected(files), wake, meanwhile)
-        advance(session, now_of(state))
-        past = keep(files, log, past, jobs, state, state.count)
-        give_back(session, state, past.night, needed(log, past, jobs, state))
-        session.close()
+        with ended(session):
+            advance(session, now_of(state))
+            past = keep(files, log, past, jobs, state, state.count)
+            give_back(session, state, past.night, needed(log, past, jobs, state))
         said = ran("renew", "--in-place", files.path, seconds=RENEWAL_SECONDS,
                    meanwhile=meanwhile).rstrip("\n")
         note(f"{files.shown}: {said}")
@@ -44,6 +45,18 @@ def renew(files: Files, log: Log, past: Past, jobs: Jobs, wake: int,
     except (Fault, NightEnded, OSError) as fault:
         tell(f"{files.shown} is nearly full, and can't be renewed; it is used as it is: {fault}")
         return past, False
+
+
+@contextlib.contextmanager
+def ended(session: Session) -> Iterator[None]:
+    """A session that has ended once this is left, by an error, too: else its `night` keeps the
+    store in use."""
+    try:
+        yield
+    except BaseException:
+        session.abandon()
+        raise
+    session.close()
 
 
 def needed(log: Log, past: Past, jobs: Jobs, state: State) -> set[str]:
