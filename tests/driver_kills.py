@@ -164,7 +164,7 @@ def kills(tries: Shared, dice: random.Random, rounds: int) -> None:
         jobs = ["a: limit 3", "c: limit 1"]
         jobs += [job(dice.choice("abbc"), f"k{it}", dice.choice((0, 0.02, 0.1)),
                      "; exit 3" if it % 9 == 0 else "") for it in range(60)]
-        room, ended = Room(tries, jobs), dict[str, int]()
+        room, ended, alls = Room(tries, jobs), dict[str, int](), 0
         failing = [name_of(it) for it in jobs if it.endswith("exit 3")]
         while at < rounds and len(ended) < 60:
             run, who = room.start(), ""
@@ -172,7 +172,7 @@ def kills(tries: Shared, dice: random.Random, rounds: int) -> None:
                 time.sleep(dice.uniform(0, 0.8))
                 who = dice.choice(("driver", "night", "both", "all"))
                 hit(run, who)
-                hits[who], at = hits[who] + 1, at + 1
+                hits[who], at, alls = hits[who] + 1, at + 1, alls + (who == "all")
             if who == "night":
                 # (a driver that lost its `night` goes on)
                 time.sleep(dice.uniform(0, 0.3))
@@ -181,6 +181,9 @@ def kills(tries: Shared, dice: random.Random, rounds: int) -> None:
             room.settle()
             looked(room, kind, ended)
         whole(room, kind, ended, failing)
+        again = sum(room.begun().values()) - len(room.begun())
+        tries.holds(f"{kind}: only those run again that were killed, too", room.path,
+                    again <= 4 * alls, (again, alls))
     print(f"{kind}: {dict(hits)}")
 
 
@@ -274,8 +277,8 @@ def resumed(tries: Shared) -> None:
 
 
 def left_behind(tries: Shared) -> None:
-    """Commands of a killed driver run on; the next one stops them as it would its own, and the
-    others don't wait for them."""
+    """Commands of a killed driver run on; the next one stops them as it would its own, takes the
+    ends of the others, and what can begin doesn't wait for them."""
     jobs = ["soon: within 9s", job("soon", "a", 60), "hard: within 9s",
             "hard b echo hard.b >> begun; trap '' TERM; while :; do sleep 0.1; done",
             job("late", "c", 60), job("free", "d", 6), job("more", "e")]
@@ -296,11 +299,10 @@ def left_behind(tries: Shared) -> None:
     shown = [it.split("; s.out")[0] for it in output.splitlines() if not it.startswith(" ")]
     tries.is_same(f"{kind}: its end", room.path, (status, shown), (1, [
         "soon a: canceled: within 9s", "hard b: canceled: within 9s", "late c: canceled: not now",
-        "5 commands: 2 ok, 3 canceled; 2 run now"]))
+        "5 commands: 2 ok, 3 canceled; 5 run now"]))
     tries.is_same(f"{kind}: told", room.path, len(re.findall(
         r"^night-run: \S+ \S still runs from the last run: process \d+$", room.errors, re.M)), 4)
-    tries.is_same(f"{kind}: what was stopped isn't begun again", room.path, room.begun(),
-                  {"soon.a": 1, "hard.b": 1, "late.c": 1, "free.d": 2, "more.e": 1})
+    tries.is_same(f"{kind}: each began once", room.path, set(room.begun().values()), {1})
 
 
 def stubborn(trap: str) -> str:
@@ -310,18 +312,19 @@ def stubborn(trap: str) -> str:
 
 
 def is_over(room: Room, kind: str, timeout: str) -> None:
-    """The next run begins it anew, once nothing of the first try lives, and stops that, too."""
+    """The next run stops it, if it has to; its end is why it was stopped, and it isn't begun
+    again."""
     status, output = room.run("s", "JOBS", "--grace", "1")
     shown = [it.split(";")[0] for it in output.splitlines() if not it.startswith(" ")]
     room.tries.is_same(kind, room.path, (status, shown, room.begun()),
-                       (1, [f"g a: timeout {timeout}", "1 command: 1 failed"], {"g.a": 2}))
+                       (1, [f"g a: timeout {timeout}", "1 command: 1 failed"], {"g.a": 1}))
     room.tries.holds(f"{kind}: nothing of it lives on", room.path, room.settle(5))
     room.write("over", "")
 
 
 def stopped_after_a_kill(tries: Shared) -> None:
     """A try that a killed driver left is stopped by its timeout: nothing of it lives on, though its
-    group keeps what its commands leave, and no other try begins before."""
+    group keeps what its commands leave, and it has failed by that."""
     kind = "a try that was left is stopped"
     room = Room(tries, ["g: background keep timeout 2s", stubborn("")])
     run = room.start("s", "JOBS", "--grace", "1")

@@ -21,6 +21,9 @@ BESIDE = {"key": "4: {key} began at {at:.3f} beside another try of it",
           "left": "4: {key} began at {at:.3f} beside what a try of it had left",
           "group": "2: {key} began at {at:.3f}, and {group} was at its limit",
           "all": "2: {key} began at {at:.3f}, and so many as may were alive"}
+# Stops that leave the commands alone: the driver, with its `night`, is killed, or is asked to begin
+# no more.
+LEAVE = ("driver", "both", "rest", "int")
 # The end of a task that was submitted and is not to begin.
 WITHDRAWN = "withdrawn"
 
@@ -323,7 +326,7 @@ def end_between(seen: Seen, key: str, one: float, other: float) -> str | None:
                  if it.end is not None and one < it.at < other), None)
 
 
-# --- 6: so many commands run twice after a stop, and no more
+# --- 6: so many commands run twice after a stop that ends them, and none after another one
 
 def run_twice(seen: Seen) -> Iterator[str]:
     again: Counter[int] = Counter()
@@ -331,13 +334,15 @@ def run_twice(seen: Seen) -> Iterator[str]:
         for one, other in zip(tries, tries[1:]):
             if end_between(seen, key, one.began, other.began) is not None:
                 continue
-            at = next((number for number, it in enumerate(seen.stops)
-                       if started(seen, one) <= it.at < other.began), None)
+            between = [(number, it) for number, it in enumerate(seen.stops)
+                       if started(seen, one) <= it.at < other.began]
+            at = next((number for number, it in between if it.how not in LEAVE), None)
             if at is not None:
                 again[at] += 1
             elif not any(run.is_first_of and one.began < run.began < other.began
                          for run in seen.runs):
-                yield f"6: {key} began again at {other.began:.3f}, with no stop between"
+                hows = ", ".join(it.how for _, it in between) or "no stop"
+                yield f"6: {key} began again at {other.began:.3f}, with {hows} between"
     for at, count in again.items():
         if count > seen.stops[at].most:
             yield f"6: {count} commands ran twice after one stop ({seen.stops[at].how})"

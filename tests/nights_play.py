@@ -122,19 +122,19 @@ class Night:
         opened = self.opens()
         if twin:
             driver = self.one_of(driver, twin)
-        asked = False
-        while driver.poll() is None and self.left > 0 and not asked:
+        ending = ""
+        while driver.poll() is None and self.left > 0 and not ending:
             self.wait_for_moment(driver)
             self.left -= 1
             if driver.poll() is None:
-                asked = self.disturb(driver)
-        if not asked:
+                ending = self.disturb(driver)
+        if not ending:
             status, _ = room.end(driver, began, opened)
             room.holds(status in (0, 1), f"8: a driver ended with status {status}:"
                        f" {room.text('errors')[-400:]}")
             return status in (0, 1)
         room.end(driver, began, opened, SECONDS_TO_END)
-        self.stop("asked")
+        self.stop(ending)
         return False
 
     def one_of(self, driver: subprocess.Popen[str],
@@ -166,8 +166,8 @@ class Night:
 
     # --- what is done to a driver
 
-    def disturb(self, driver: subprocess.Popen[str]) -> bool:
-        """Does something to a driver. Whether it was to end by that."""
+    def disturb(self, driver: subprocess.Popen[str]) -> str:
+        """Does something to a driver. What it was, if it was to end by that."""
         kinds = {**KILLS, **ASKED, **OTHERS}
         if self.plan.shape in ("damage", "clock"):
             kinds[self.plan.shape] = 15
@@ -178,11 +178,12 @@ class Night:
         if what in KILLS:
             hit(driver, what)
             self.stop(what)
-            return what != "night"
+            return what if what != "night" else ""
         if what in ASKED:
-            return self.ask_to_end(driver, what)
+            self.ask_to_end(driver, what)
+            return "int" if what == "int" else "asked"
         getattr(self, f"do_{what}")(driver, of)
-        return False
+        return ""
 
     def stop(self, how: str) -> None:
         if how == "night":
@@ -190,14 +191,13 @@ class Night:
         else:
             self.room.seen.stops.append(Stop(time.monotonic(), how, self.plan.most))
 
-    def ask_to_end(self, driver: subprocess.Popen[str], what: str) -> bool:
+    def ask_to_end(self, driver: subprocess.Popen[str], what: str) -> None:
         which = {"term": signal.SIGTERM, "hup": signal.SIGHUP}.get(what, signal.SIGINT)
         driver.send_signal(which)
         if what == "int twice":
             time.sleep(self.dice.choice((0.0, 0.05, 0.3)))
             if driver.poll() is None:
                 driver.send_signal(which)
-        return True
 
     def do_cancel(self, driver: subprocess.Popen[str], of: str) -> None:
         if self.has_begun():
@@ -215,8 +215,15 @@ class Night:
         began = time.monotonic()
         other = self.room.start(errors="errors.second")
         status, _ = self.room.end(other, began, "")
-        self.room.holds(status == 3 or driver.poll() is not None,
+        self.room.holds(status == 3 or self.is_over(driver),
                         f"4: a second driver ended with status {status}")
+
+    def is_over(self, driver: subprocess.Popen[str]) -> bool:
+        """Whether a driver ends that has let its locks go, as it does before its last words."""
+        end = time.monotonic() + SECONDS_TO_END
+        while driver.poll() is None and time.monotonic() < end:
+            time.sleep(0.01)
+        return driver.poll() is not None
 
     def do_halt(self, driver: subprocess.Popen[str], _: str) -> None:
         """Its `night` stands still for a while."""

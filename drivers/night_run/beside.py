@@ -54,6 +54,7 @@ class Part(Enum):
 
     STORE = ""
     LOCK = ".lock"
+    TRIES = ".tries"
     PIDS = ".pids"
     OUT = ".out"
     LOG = ".log"

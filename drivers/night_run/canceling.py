@@ -19,7 +19,6 @@ from .ends import canceled, text_of
 from .facts import book_of, facts_of
 from .files import Files
 from .jobs import Jobs, check_group, check_key
-from .leftovers import running_now
 from .night import ALREADY_DONE, FULL, Session, refusal
 from .opening import advance, inspected, now_of, opened, withdraw
 from .past import read_past
@@ -28,6 +27,7 @@ from .rounds import Role, base_of, role_name
 from .settings import OF_ALL, Wrong, short
 from .state import JOB
 from .telling import note
+from .tries import running_now
 
 BY_HAND = "canceled by hand"
 # So many seconds a driver has to obey.

@@ -1,8 +1,10 @@
 """A command that runs: how it is begun, stopped, and how it ended.
 
-A command is a shell that leads a session and a process group of its own. Before it becomes the
-command it writes its process into STORE.pids, and closes that: so what runs is known there, and a
-process that it leaves holds nothing of the driver's.
+A command is begun by a shell that leads a session and a process group of its own. Just before the
+command begins it writes its process into the file of the try (`tries`), then waits for the command,
+and writes how that ended: so what runs is known there, and how it ended, also where its driver was
+killed meanwhile. What stops a group it outlives, but for SIGKILL. The command holds nothing of the
+driver's.
 """
 
 from __future__ import annotations
@@ -14,21 +16,32 @@ import signal
 import time
 from collections.abc import Mapping
 
-from .beside import NotOurs, Umask
+from .beside import NotOurs, Part, Umask
 from .ends import OK, End, failed
-from .far import BEGUN, PATIENCE, Elsewhere, Far, Named
+from .far import BEGUN, PATIENCE, Elsewhere, Far
+from .files import Files
 from .jobs import Job
 from .mounts import Folders, NoAnswer
 from .processes import boot, group_exists, group_lives, signal_group
 from .telling import note_once
+from .tries import Named, Told, Tries, naming
 
 SHELL = "/bin/sh"
-# Goes to the folder $2, writes `$1 PID START` into the file 9, and becomes the words after these.
-BEGINNING = ('[ -z "$2" ] || cd -- "$2" || exit 127; read -r s </proc/self/stat; set -f;'
-             ' began() { echo "$1 $$ ${23:-0}" >&9; }; began "$1" $s || exit 127; exec 9>&-;'
-             ' shift 2; exec "$@"')
+# Writes `process $1 PID START` into the file 8, runs the words after $2 in the folder $2, and
+# writes how they ended. What the shell itself tells stands there, too. (SIGINT isn't ignored by a
+# command in the foreground, as it would be in the background.)
+BEGINNING = """\
+exec 2>&8; trap : HUP INT QUIT USR1 USR2 PIPE ALRM TERM
+set -f; read -r s </proc/self/stat
+process() { echo "process $1 $$ ${23:-0}" >&8; }
+(process "$1" $s || exit; exec 2>&1 8>&-
+[ -z "$2" ] || cd -- "$2" || exit 127; shift 2; exec "$@")
+it=$?; read -r up s </proc/uptime; echo "ended $it $up ." >&8; exit $it"""
 # What the system lacks for a while: a command that can't be begun by it is begun later.
-LATER = (errno.EAGAIN, errno.ENOMEM, errno.EMFILE, errno.ENFILE, errno.ENOSPC, errno.EDQUOT)
+LATER = (errno.EAGAIN, errno.ENOMEM, errno.EMFILE, errno.ENFILE, errno.ENOSPC, errno.EDQUOT,
+         errno.EROFS)
+# How a shell ends that can't be run itself, and how often in a row that is no reason to wait.
+NO_SHELL, MOST_MISSES = 127, 100
 # So many characters of a folder's path are told, the last ones.
 MOST_OF_PATH = 32
 # Behind SIGKILL so many seconds are given to a process group that doesn't go.
@@ -44,6 +57,7 @@ class Running:
 
     def __init__(self, job_name: tuple[str, str], pid: int) -> None:
         self.name, self.pid = job_name, pid
+        self.record: Named | None = None  # by which its file is called (`tries`)
         self.stopped: float | None = None
         self.why: End | None = None  # the end that it was stopped for; None where it was cut off
         self.is_killed = False
@@ -83,14 +97,18 @@ class Command(Running):
         super().__init__(job.name, 0)
         self.job, self.group, self.tried, self.number = job, group, tried, number
         self.output = output
-        self.is_adopted = False  # one of an earlier driver, whose end elsewhere is known
+        self.is_adopted = False  # one of an earlier driver, whose end is known
         self.is_never = False  # it is canceled before it begins
+        self.text = job.command
         self.began = self.since = 0.0
         self.took: float | None = None
         self.status: int | None = None
         self.failure = ""  # why it couldn't be started
         self.is_gone = False
         self.left_since: float | None = None
+        self.tries: Tries | None = None
+        self.put_off = ""  # why its shell couldn't begin it
+        self.misses = 0
 
     @property
     def has_begun(self) -> bool:
@@ -101,47 +119,87 @@ class Command(Running):
                 "NIGHT_GROUP": self.job.group, "NIGHT_KEY": self.job.key,
                 "NIGHT_TRY": str(self.tried)}
 
-    def begin(self, pids: int, far: Far, inherited: Mapping[str, str]) -> None:
-        """Begins it; NotNow where the system has no room for it."""
+    def begin(self, tries: Tries, events: int, far: Far, inherited: Mapping[str, str]) -> None:
+        """Begins it, in a store that has so many events; NotNow where the system has no room for
+        it."""
         self.began, self.since = time.time(), time.monotonic()
         folder, way = from_here(self.job.folder or ""), self.job.way
+        it = Named(self.group, self.job.key, self.tried)
         given = self.environment(far.files.path, inherited)
-        line = f"{self.group} {self.job.key} {self.tried} {boot()}"
         words = [*(self.job.shell or (SHELL,)), "-c", self.job.command]
         try:
             look_for(folder)
             if way.via:
-                it = Named(self.group, self.job.key, self.tried)
                 words = [*far.filled(way.via, it), self.job.command]
                 self.elsewhere = Elsewhere(far, way, it, folder, given)
-                if way.ask:
-                    far.note(it, BEGUN)
-            with contextlib.ExitStack() as files:
-                out = far.files.open_output(
-                    self.output, os.O_WRONLY | os.O_CREAT | os.O_TRUNC)
-                files.callback(os.close, out)
-                files.enter_context(Umask.restored())
-                self.pid = os.posix_spawn(
-                    SHELL, [SHELL, "-c", BEGINNING, SHELL, line, folder, *words], given,
-                    setsid=True, setsigdef=[signal.SIGPIPE, signal.SIGXFSZ],
-                    file_actions=[(os.POSIX_SPAWN_OPEN, 0, os.devnull, os.O_RDONLY, 0),
-                                  (os.POSIX_SPAWN_DUP2, out, 1), (os.POSIX_SPAWN_DUP2, out, 2),
-                                  (os.POSIX_SPAWN_DUP2, pids, 9)])
+            file = self.noted(tries, it, events, far)
+            try:
+                self.spawn(far.files, file, folder, words, given)
+                self.record, self.tries = it, tries
+            finally:
+                os.close(file)
+                if self.record is None:
+                    tries.forget(it)
         except NotOurs as error:
             note_once(f"{error.filename}: {error.strerror}")
             self.failure = "its output isn't to be trusted"
         except OSError as error:
             if error.errno in LATER:
-                raise NotNow(error.strerror) from None
+                raise NotNow(told_of(error)) from None
             self.failure = error.strerror or str(error)
         except ValueError as error:
             self.failure = str(error)
 
-    def adopt(self, it: Elsewhere, output: str) -> None:
-        """Makes it a try of an earlier driver that has ended elsewhere."""
+    def noted(self, tries: Tries, it: Named, events: int, far: Far) -> int:
+        """Notes that a try is about to begin; the file of it. NotNow where that can't be, whatever
+        the reason: nothing begins without it."""
+        try:
+            if self.elsewhere and self.job.way.ask:
+                far.note(it, BEGUN)
+            return tries.make(it, events, self.job.command)
+        except OSError as error:
+            raise NotNow(told_of(error)) from None
+
+    def spawn(self, files: Files, file: int, folder: str, words: list[str],
+              given: Mapping[str, str]) -> None:
+        """Begins the shell of these words, to which a file of its try is given."""
+        with contextlib.ExitStack() as left:
+            with naming(files.shown_of(Part.OUT)):
+                out = files.open_output(self.output, os.O_WRONLY | os.O_CREAT | os.O_TRUNC)
+            left.callback(os.close, out)
+            left.enter_context(Umask.restored())
+            self.pid = os.posix_spawn(
+                SHELL, [SHELL, "-c", BEGINNING, SHELL, boot(), folder, *words], given,
+                setsid=True, setsigdef=[signal.SIGPIPE, signal.SIGXFSZ],
+                file_actions=[(os.POSIX_SPAWN_OPEN, 0, os.devnull, os.O_RDONLY, 0),
+                              (os.POSIX_SPAWN_DUP2, out, 1), (os.POSIX_SPAWN_DUP2, out, 2),
+                              (os.POSIX_SPAWN_DUP2, file, 8)])
+
+    def look_back(self) -> None:
+        """Takes what the file of the try knows better than its shell's status: by which signal the
+        command ended, and that it never began, so that it is to begin later."""
+        told = self.tries.told(self.record) if self.tries and self.record and self.status else None
+        if told is None or self.stopped is not None:
+            return
+        if told.ended:
+            self.status = told.ended.status
+        elif told.process is None and self.misses < MOST_MISSES:
+            self.misses += self.status == NO_SHELL or self.status is not None and self.status < 0
+            self.put_off = told.excuse or "a shell can't begin its command"
+            if self.tries and self.record:
+                self.tries.forget(self.record)
+            self.record = self.elsewhere = self.status = self.took = None
+            self.pid = 0
+
+    def adopt(self, told: Told, it: Elsewhere | None, output: str) -> None:
+        """Makes it a try of an earlier driver that has ended."""
         self.elsewhere, self.output = it, output
         self.is_adopted = self.is_gone = True
-        self.status = -signal.SIGKILL
+        self.status = told.ended.status if told.ended else -signal.SIGKILL
+        self.took = told.ended.took if told.ended else None
+        if told.ended and self.took is not None:
+            self.began = told.ended.at - self.took
+        self.text = told.command or self.job.command
 
     def never(self, end: End) -> None:
         """Makes it one that never begins, and ends so."""
@@ -154,6 +212,7 @@ class Command(Running):
         if not self.is_gone and self.has_begun:
             if self.status is None:
                 self.reap()
+                self.look_back()
             if self.status is not None:
                 self.is_gone = self.may_leave or not self.pid or self.is_left_alone(grace)
         return self.is_gone and self.is_over_elsewhere(grace)
@@ -168,7 +227,7 @@ class Command(Running):
 
     @property
     def is_here(self) -> bool:
-        return self.status is None
+        return self.status is None and bool(self.pid)
 
     @property
     def is_asked_for(self) -> bool:
@@ -258,3 +317,7 @@ def look_for(folder: str) -> None:
             raise OSError(errno.ENOENT, f"no folder {end_of_path(folder)}")
     except NoAnswer:
         raise OSError(errno.ETIMEDOUT, f"it hangs: {end_of_path(folder)}") from None
+
+
+def told_of(error: OSError) -> str:
+    return f"{error.filename}: {error.strerror}" if error.filename else str(error.strerror)

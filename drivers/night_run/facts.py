@@ -76,6 +76,12 @@ class Book:
         return named(base, made)
 
 
+def groups_of(state: State, past: Past, night: int) -> set[str]:
+    """The names that the store's groups of a night have, or had before a renewal."""
+    its = {it.name for it in state.groups if state.night_of(it.scope) == night}
+    return its | past.groups() | set(past.done) if past.night == night else its
+
+
 def book_of(state: State, past: Past, night: int) -> Book:
     """The book of a night, by what the store has."""
     rounds: dict[str, Round] = {}

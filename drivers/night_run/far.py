@@ -30,7 +30,6 @@ import subprocess
 import tempfile
 import time
 from collections.abc import Iterable, Mapping
-from dataclasses import dataclass
 from typing import IO
 
 from . import Fault, Name
@@ -42,6 +41,7 @@ from .rounds import base_of, round_of
 from .settings import Way
 from .state import ENDED, State
 from .telling import note_once
+from .tries import Named, naming
 
 BEGUN, STOPPED, OVER = "begun", "stopped", "over"
 FIELD = re.compile(r"\{(?:store|group|key|try)\}")
@@ -53,22 +53,6 @@ UNPLAIN = re.compile(r"[^A-Za-z0-9.]")
 FIRST, LAST, MOST = 1.0, 30.0, 60.0
 # So many seconds after its client was killed one that was stopped is asked for; then it is left.
 PATIENCE = 60.0
-
-
-@dataclass(frozen=True)
-class Named:
-    """A try by the three parts of its output's name."""
-
-    group: str
-    key: str
-    number: int
-
-    @property
-    def name(self) -> Name:
-        return base_of(self.group), self.key
-
-    def __str__(self) -> str:
-        return f"{self.group} {self.key} {self.number}"
 
 
 class Far:
@@ -118,8 +102,15 @@ class Far:
             end = os.pread(self.file, 100, max(0, size - 100)).rpartition(b"\n")[2]
             os.ftruncate(self.file, size - len(end))
             self.files.folder.sync()
-        write_all(self.file, f"{it} {how}\n".encode())
-        os.fsync(self.file)
+        size = os.fstat(self.file).st_size
+        with naming(self.shown):
+            try:
+                write_all(self.file, f"{it} {how}\n".encode())
+                os.fsync(self.file)
+            except OSError:
+                # (a line that a full disk has cut off would be glued to the next one)
+                os.ftruncate(self.file, size)
+                raise
 
 
 def store_name(path: str) -> str:

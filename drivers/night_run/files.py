@@ -2,8 +2,9 @@
 
     STORE            the store
     STORE.lock       locked by the one driver that may run, or by a cancel (`lock`)
-    STORE.pids       the processes of its commands; locked by the driver, and by each command until
-                     it has written its line there (`leftovers`)
+    STORE.tries/     what was begun and isn't recorded yet, GROUP.KEY.TRY: its process, and how it
+                     ended (`tries`)
+    STORE.pids       the processes of an older driver's commands
     STORE.out/       the output of each task, GROUP.KEY.TRY
     STORE.log        what ran when, how long, and how it ended (`log`)
     STORE.cancel/    which groups somebody wants to have cancelled, and the answers (`cancels`)

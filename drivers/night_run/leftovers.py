@@ -1,13 +1,10 @@
-"""Commands that a killed driver left. STORE.pids has a line for each process that was begun:
+"""Commands that a killed driver left, by the files of their tries (`tries`): those that live, and
+those that have ended since then. The end of one counts as that of a try of this driver's own, if it
+was begun in this night and isn't recorded. A try that was stopped ends by why it was. One of which
+nobody knows how it ended, as after a kill of its shell or a crash of the machine, runs again.
 
-    GROUP KEY TRY BOOT PID START
-
-A command writes its own before it does anything else, and holds the file's lock until then. So
-once the driver has the lock, each command that lives stands there; its process number, when that
-began and which boot it was tell it from any other process. The line of a `night` has the group
-`night`. A process that is stopped gets a line `stopped BOOT PID START` first: then nothing of it
-may live on, under a later driver either. (An older driver's line is `PID GROUP KEY`; its commands
-have the folder of outputs open.)
+What an older driver began stands in STORE.pids, in lines `GROUP KEY TRY BOOT PID START` or `PID
+GROUP KEY`. It is waited for, and runs again.
 """
 
 from __future__ import annotations
@@ -17,170 +14,187 @@ import os
 import re
 import signal
 import time
-from collections.abc import Iterator
+from collections.abc import Container, Iterator, Sequence
 
 from . import Fault
 from .beside import Part
 from .commands import Running
+from .far import is_recorded
 from .files import Files, leave_mark
 from .jobs import Job, Jobs
-from .lock import locked, others_can_lock
+from .lock import try_lock
 from .night import WHOLE_SECONDS
-from .processes import (NO_COMMAND, PID, START, Process, age, boot, group_exists, is_held, lives,
-                        members, signal_group, stat_of)
+from .past import Past
+from .processes import (NO_COMMAND, PID, START, Process, Tried, age, boot, group_exists, is_held,
+                        lives, ours_in, signal_group, stat_of)
 from .rounds import base_of
 from .settings import OF_ALL
+from .state import State
 from .telling import note, note_once
+from .tries import Named, Told, Tries, told_by
 
 LINE = re.compile(rf"([a-z0-9_-]{{1,32}}) ([a-z0-9_-]{{1,32}}) ([0-9]{{1,6}}) (\S+) {PID} {START}")
-STOPPED = re.compile(rf"stopped (\S+) {PID} {START}")
 OLD_LINE = re.compile(rf"{PID} ([a-z0-9_-]{{1,32}}) ([a-z0-9_-]{{1,32}})")
-# So many seconds a command may take to write its line, and a `night` to end after its driver has.
+# So many seconds a shell may take to write its line, and a `night` to end after its driver has.
 PATIENCE = 10.0
 
 
 class Leftover(Running):
-    """A command of an earlier driver, or what it left of its process group; or one that may run
-    elsewhere, of which no process is left here."""
+    """A try of an earlier driver. Its shell lives as long as the lock of its file is held; of what
+    has no file the system is asked."""
 
-    def __init__(self, group: str, key: str, process: Process | None, job: Job | None) -> None:
-        super().__init__((base_of(group), key), process.pid if process else 0)
-        self.process = process
-        self.keeps = job is not None and job.keeps
-        self.timeout = job.timeout if job else None
-        self.is_orphaned = False
-        self.counts = False  # whether its end elsewhere is that of its command
+    def __init__(self, it: Named, store: str, job: Job | None, told: Told = Told(),
+                 file: int = -1) -> None:
+        super().__init__(it.name, told.process.pid if told.process else 0)
+        self.it, self.job, self.told, self.file = it, job, told, file
+        self.record = it if file >= 0 else None
+        self.tried = Tried(store, base_of(it.group), it.key, it.number)
+        self.counts = False  # whether its end is that of its command in this night
+        self.cleared: float | None = None
+
+    # --- what there is of it
+
+    def has_shell(self) -> bool:
+        """Whether the shell that began it lives."""
+        if self.file >= 0 and not try_lock(self.file):
+            return True
+        if self.file >= 0:
+            self.told = told_by(self.it, self.file)
+            os.close(self.file)
+            self.file = -1
+            return False
+        return self.record is None and self.told.process is not None and lives(self.told.process)
 
     @property
     def is_here(self) -> bool:
-        return self.process is not None and self.is_left_here()
+        """What a command leaves goes with it, unless it may live on."""
+        return bool(self.pid) and (self.has_shell() or self.has_orphans())
 
-    def is_overdue(self) -> bool:
-        return self.timeout is not None and self.process is not None \
-            and age(self.process) >= self.timeout
-
-    def clear_here(self) -> None:
-        """Kills what is left of its process group, once its leader has gone."""
-        if self.is_here:
-            signal_group(self.pid, signal.SIGKILL)
-
-    def is_there(self) -> bool:
-        """Whether it still runs, here or elsewhere."""
-        return self.is_left_here() or self.elsewhere is not None and not self.elsewhere.is_over()
-
-    def is_left_here(self) -> bool:
-        """Whether it runs here. What a command leaves goes with it, unless it may live on."""
-        if self.process is None:
-            return False
-        if lives(self.process):
-            return True
-        may_leave = self.keeps and self.stopped is None
-        if may_leave or self.process.boot != boot() or not group_exists(self.pid):
+    def has_orphans(self) -> bool:
+        """Whether its shell has gone, and something of its group hasn't that may not live on."""
+        process = self.told.process
+        may_leave = self.job is not None and self.job.keeps and self.stopped is None
+        if process is None or may_leave or process.boot != boot() or self.has_shell() \
+                or not group_exists(self.pid):
             return False
         leader = stat_of(self.pid)
-        if leader and leader.start != self.process.start:
-            # (a number is given anew only once its whole group is gone)
-            return False
-        self.is_orphaned = True
-        return any(not it.is_dead for it in members(self.pid))
+        # (another group may have its number by now)
+        return (leader is None or leader.start == process.start) \
+            and ours_in(self.pid, self.tried) is not None
+
+    def is_there(self) -> bool:
+        """Whether it still runs, here or elsewhere. What its client's status 0 says is so."""
+        ended = self.told.ended
+        is_ok = ended is not None and not ended.status and self.stopped is None
+        return self.is_here or self.elsewhere is not None and not is_ok \
+            and not self.elsewhere.is_over()
+
+    # --- its end
+
+    def is_overdue(self) -> bool:
+        process, job = self.told.process, self.job
+        return job is not None and job.timeout is not None and process is not None \
+            and age(process) >= job.timeout and self.has_shell()
+
+    def stop_again(self, why: End) -> None:
+        """Asks for the end of one that an earlier driver has stopped, for this if nobody knows
+        why."""
+        if self.stopped is not None and self.elsewhere:
+            self.elsewhere.stop()
+        self.stop(why)
+        self.why = self.why or why
+
+    def clear(self, grace: float) -> None:
+        """Ends what is left of its group."""
+        now = time.monotonic()
+        if self.cleared is None:
+            self.cleared = now
+            signal_group(self.pid, signal.SIGTERM)
+        elif now >= self.cleared + grace:
+            signal_group(self.pid, signal.SIGKILL)
+
+    def is_known(self) -> bool:
+        """Whether it is known how it ended, once nothing of it is there."""
+        if self.stopped is not None:
+            return self.why is not None
+        return self.told.ended is not None or bool(self.elsewhere and self.elsewhere.end())
 
 
-def open_pids(files: Files) -> int:
-    """The file of processes, once no command is about to write into it."""
-    end = time.monotonic() + PATIENCE
-    while (file := locked(files, Part.PIDS, os.O_APPEND)) is None:
-        if time.monotonic() >= end:
-            if not others_can_lock(files, Part.PIDS):
-                raise Fault(f"{files.shown_of(Part.PIDS)} is locked by another program")
-            # (no command takes so long for its line: somebody else keeps the lock)
-            files.put(Part.PIDS, files.read(Part.PIDS))
-        time.sleep(0.005)
-    return file
+# --- those of the last driver
 
-
-def left_commands(files: Files, pids: int, jobs: Jobs) -> list[Leftover]:
-    """The commands that still run. Where there is none, the file is emptied."""
-    found = [it for it in written(read(pids), files, jobs) if it.is_there()]
-    if not found:
-        os.ftruncate(pids, 0)
+def left_commands(files: Files, tries: Tries, jobs: Jobs) -> list[Leftover]:
+    """The tries of earlier drivers whose ends aren't known to be recorded."""
+    found = [*(taken(tries, it, files.path, jobs) for it in tries.all()),
+             *of_an_older_driver(files, jobs)]
+    for it in found:
+        if it.is_here:
+            note(f"{' '.join(it.name)} still runs from the last run: process {it.pid}")
     return found
 
 
-def read(pids: int) -> str:
-    return os.pread(pids, os.fstat(pids).st_size, 0).decode("ascii", "replace")
+def taken(tries: Tries, it: Named, store: str, jobs: Jobs) -> Leftover:
+    """A try by its file, once its shell has written its line or has gone."""
+    file = tries.open(it)
+    end = time.monotonic() + PATIENCE
+    while (told := told_by(it, file)).process is None and not try_lock(file):
+        if time.monotonic() >= end:
+            raise Fault(f"{tries.folder.shown_of(it.file)} is locked by another program")
+        time.sleep(0.005)
+    left = Leftover(it, store, jobs.all.get(it.name), told, file)
+    if told.is_stopped:
+        left.stop(told.why)
+    return left
 
 
-def written(text: str, files: Files, jobs: Jobs) -> Iterator[Leftover]:
-    """What the lines of the file say was begun."""
-    olds = None
-    stopped = {Process(it[1], int(it[2]), int(it[3]))
-               for it in map(STOPPED.fullmatch, text.splitlines()) if it}
-    for line in text.splitlines():
-        if found := LINE.fullmatch(line):
-            group, key = found[1], found[2]
-            process = Process(found[4], int(found[5]), int(found[6]))
-            if process.pid <= NO_COMMAND:
+def counted(left: Sequence[Leftover], tries: Tries, state: State, past: Past,
+            ours: Container[str]) -> list[Leftover]:
+    """Those that have yet to end, or to be recorded. The end of one counts where its group is one
+    of these, those of this night, and its store is this one."""
+    kept = []
+    for it in left:
+        since = it.told.since
+        it.counts = it.record is not None and it.it.group in ours and since is not None \
+            and (since <= state.count or past.is_of_a_store_made_anew)
+        is_over = not it.is_here
+        if it.record and (not it.counts or is_recorded(it.it, state, past)):
+            if is_over:
+                tries.forget(it.record)
                 continue
-        elif found := OLD_LINE.fullmatch(line):
-            group, key = found[2], found[3]
-            olds = set(processes_with(f"{files.path}{Part.OUT.value}")) if olds is None else olds
-            stat = stat_of(int(found[1]))
+            it.counts = False
+            tries.disown(it.record)
+        # (a command that isn't in the file now may be there again)
+        if not is_over or it.job is not None:
+            kept.append(it)
+    return kept
+
+
+def of_an_older_driver(files: Files, jobs: Jobs) -> Iterator[Leftover]:
+    """The commands that STORE.pids says live; the file is removed where none does."""
+    try:
+        text = files.read(Part.PIDS).decode("ascii", "replace")
+    except FileNotFoundError:
+        return
+    found = []
+    olds: set[int] | None = None
+    for line in text.splitlines():
+        if it := LINE.fullmatch(line):
+            name, process = (it[1], it[2], it[3]), Process(it[4], int(it[5]), int(it[6]))
+        elif it := OLD_LINE.fullmatch(line):
+            if olds is None:
+                olds = set(processes_with(f"{files.path}{Part.OUT.value}"))
+            stat = stat_of(int(it[1]))
             if stat is None or stat.pid not in olds:
                 continue
-            process = Process(boot(), stat.pid, stat.start)
+            name, process = (it[2], it[3], "0"), Process(boot(), stat.pid, stat.start)
         else:
             continue
-        if group != OF_ALL:
-            left = Leftover(group, key, process, jobs.all.get((base_of(group), key)))
-            left.keeps = left.keeps and process not in stopped
-            yield left
-
-
-def running_now(files: Files) -> set[tuple[str, str]]:
-    """The commands that run at this moment, by the file of processes; nothing is locked."""
-    with contextlib.suppress(OSError):
-        text = files.read(Part.PIDS).decode("ascii", "replace")
-        its = [(base_of(it[1]), it[2], Process(it[4], int(it[5]), int(it[6])))
-               for it in map(LINE.fullmatch, text.splitlines()) if it and it[1] != OF_ALL]
-        return {(group, key) for group, key, process in its if lives(process)}
-    return set()
-
-
-def end_night(files: Files, pids: int) -> None:
-    """Waits for the `night` of a killed driver, which ends with its input; one that doesn't, as
-    where it is stopped, is killed; one that the disk holds in a sync only after longer."""
-    its = [Process(it[4], int(it[5]), int(it[6]))
-           for it in map(LINE.fullmatch, read(pids).splitlines()) if it and it[1] == OF_ALL]
-    began = time.monotonic()
-    while its := [it for it in its if lives(it)]:
-        held = [it.pid for it in its if is_held(it.pid)]
-        waited = time.monotonic() - began
-        if waited >= PATIENCE and held:
-            note_once(f"waiting for the disk: the `night` of the last run, process {held[0]}, is in"
-                      f" a sync of {files.shown}")
-        if waited >= (WHOLE_SECONDS if held else PATIENCE):
-            leave_mark(files.path)
-            for it in its:
-                note(f"the `night` of the last run didn't end: process {it.pid} is killed")
-                with contextlib.suppress(ProcessLookupError, PermissionError):
-                    os.kill(it.pid, signal.SIGKILL)
-            return
-        time.sleep(0.01)
-
-
-def sign_night(pids: int, pid: int) -> None:
-    """Writes the line of a `night`."""
-    found = stat_of(pid)
-    if found:
-        os.write(pids, f"{OF_ALL} script 0 {boot()} {pid} {found.start}\n".encode())
-
-
-def sign_stop(pids: int, pid: int) -> None:
-    """Writes that this command is stopped, before it is."""
-    found = stat_of(pid)
-    if found:
-        with contextlib.suppress(OSError):  # (as where the disk is full)
-            os.write(pids, f"stopped {boot()} {pid} {found.start}\n".encode())
+        named = Named(name[0], name[1], int(name[2]))
+        if name[0] != OF_ALL and process.pid > NO_COMMAND and lives(process):
+            found.append(Leftover(named, files.path, jobs.all.get(named.name),
+                                  Told(process=process)))
+    if not found:
+        files.remove(Part.PIDS)
+    yield from found
 
 
 def processes_with(path: str) -> Iterator[int]:
@@ -190,3 +204,22 @@ def processes_with(path: str) -> Iterator[int]:
             files = [os.readlink(f"/proc/{it}/fd/{at}") for at in os.listdir(f"/proc/{it}/fd")]
             if path in files and int(it) != os.getpid():
                 yield int(it)
+
+
+def end_night(files: Files, tries: Tries) -> None:
+    """Waits for the `night` of a killed driver, which ends with its input; one that doesn't, as
+    where it is stopped, is killed; one that the disk holds in a sync only after longer."""
+    it = tries.last_night()
+    began = time.monotonic()
+    while it and lives(it):
+        held, waited = is_held(it.pid), time.monotonic() - began
+        if waited >= PATIENCE and held:
+            note_once(f"waiting for the disk: the `night` of the last run, process {it.pid}, is in"
+                      f" a sync of {files.shown}")
+        if waited >= (WHOLE_SECONDS if held else PATIENCE):
+            leave_mark(files.path)
+            note(f"the `night` of the last run didn't end: process {it.pid} is killed")
+            with contextlib.suppress(ProcessLookupError, PermissionError):
+                os.kill(it.pid, signal.SIGKILL)
+            return
+        time.sleep(0.01)

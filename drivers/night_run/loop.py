@@ -5,13 +5,15 @@
     interrupted. So at most `-j` commands, and at most `limit` of a group, live or are unrecorded.
  3. Each round takes a bounded time, whatever the commands do: it records ends, moves the clock,
     obeys cancels, deadlines and timeouts, and begins at most as many as there are free places.
- 4. No two tries of a key live at a time: who lives stands in STORE.pids, what may run elsewhere in
-    STORE.far, and neither in what a command may close. What its group's `ask` doesn't know to be
+ 4. No two tries of a key live at a time: who lives stands in STORE.tries, what may run elsewhere
+    in STORE.far, and neither in what a command may close. What its group's `ask` doesn't know to be
     over is taken to run.
  5. An end that was acked is never run again in its night. A try that was stopped, by a cancel, a
     deadline, a timeout or a signal of ours, is never ok, whatever its status.
- 6. After a kill of anything at most the commands run again whose end wasn't acked: `-j` of them,
-    twice that where it is killed twice.
+ 6. After a kill of the driver and of `night` nothing runs again: the shell that begins a command
+    keeps how it ended, in STORE.tries. After a kill of such shells, too, or a crash of the machine,
+    at most the commands run again whose end wasn't acked: `-j` of them, twice that where it is
+    killed twice.
  7. A command that has ended has no process left in its group, unless it has `background keep`.
  8. What can't be read (a cancel, a log, the ends of a renewed store) ends no night: it is told once
     and passed over, or the night doesn't begin.
@@ -21,7 +23,7 @@
     and why. The status is 0 only where every command of the file is ok.
 11. While the store isn't in its place nothing more is begun, and nothing is made there anew.
 
-1, 2, 3, 6 and 11 are kept by `Driver.round`, 4 by `leftovers`, `far` and `Driver.left`, 5 by
+1, 2, 3 and 11 are kept by `Driver.round`, 4 and 6 by `leftovers`, `far` and `Driver.left`, 5 by
 `Command.end` and `facts`, 7 by `Command.poll`, 8 by `cancels`, `log` and `past`, 9 by `views`, 10
 by `summary` and `Driver.known`.
 """
@@ -38,12 +40,12 @@ from functools import partial
 from . import Fault, Name
 from .commands import Command, NotNow, Running
 from .ends import INTERRUPTED, End, canceled, failed
-from .facts import PASSED, Book, Facts, book_of, facts_of, numbered
-from .far import Elsewhere, Far, Named, outstanding
+from .facts import PASSED, Book, Facts, book_of, facts_of, groups_of, numbered
+from .far import Elsewhere, Far, outstanding
 from .files import Files
-from .jobs import Jobs
+from .jobs import Job, Jobs
 from .keeping import Keeper
-from .leftovers import Leftover, sign_night, sign_stop
+from .leftovers import Leftover
 from .log import Line, Log, Tried, line_of
 from .night import (ALREADY_DONE, CLOCK_NOT_FORWARD, FULL, MOST_BUSY, NOTHING_READY, NightEnded,
                     Session, SessionFull, refusal)
@@ -52,11 +54,13 @@ from .opening import (Maker, StoreFull, advance, ready_state, set_limits, withdr
                       withdrawn)
 from .past import Past
 from .plan import Standing, may_begin, standings
+from .processes import group_lives, process_of
 from .renewal import renew
 from .rounds import Role, Round, role_name, round_of
 from .signals import Signals
 from .state import ENDED, JOB, State
 from .telling import note, note_once, progress, tell
+from .tries import Tries
 
 # So often in a row `night` may end by itself with no end of a command recorded between, ..
 MOST_LOST = 5
@@ -84,12 +88,14 @@ class Batch:
         self.lines.append(line)
         self.then.append(then)
 
-    def send(self, session: Session) -> None:
+    def send(self, session: Session) -> int:
+        """How many events are acked then."""
         replies = session.ask([*self.lines, "flush"],
                               may=[ALREADY_DONE, CLOCK_NOT_FORWARD, NOTHING_READY, 2, *FULL])
         for reply, then in zip(replies, self.then):
             if then:
                 then(reply)
+        return int(replies[-1].split()[1])
 
 
 class Driver:
@@ -98,11 +104,11 @@ class Driver:
     session: Session
     opened: float  # when that was
 
-    def __init__(self, files: Files, jobs: Jobs, log: Log, past: Past, pids: int,
+    def __init__(self, files: Files, jobs: Jobs, log: Log, past: Past, tries: Tries,
                  left: list[Leftover], most: int, grace: float, signals: Signals,
                  keeper: Keeper) -> None:
         self.signals, self.keeper = signals, keeper
-        self.files, self.jobs, self.log, self.past, self.pids = files, jobs, log, past, pids
+        self.files, self.jobs, self.log, self.past, self.tries = files, jobs, log, past, tries
         self.left, self.most, self.grace = left, most, grace
         self.canceler, self.far = Canceler(self), Far(files)
         self.night = 1
@@ -125,7 +131,7 @@ class Driver:
         self.is_fruitless = self.is_woken = self.has_mark = False
         self.later: float | None = None
         self.try_again = 0.0
-        self.clock = self.ticked = 0
+        self.clock = self.ticked = self.acked = 0
         self.inherited = dict(os.environ)
         signals.raises = False
 
@@ -158,8 +164,7 @@ class Driver:
         """Ends a session that a fault left: it has the store's lock."""
         session: Session | None = getattr(self, "session", None)
         if session:
-            with contextlib.suppress(NightEnded, OSError, ValueError):
-                session.close()
+            session.abandon()
         self.log.write("")  # (what it had no room for)
 
     def after(self, ended: NightEnded) -> None:
@@ -187,7 +192,7 @@ class Driver:
         before, self.before = self.before, None
         self.session = Session(self.files.path, self.signals.wake, self.meanwhile,
                                lambda: self.asked_to_end)
-        sign_night(self.pids, self.session.it.pid)
+        self.tries.sign_night(process_of(self.session.it.pid))
         state = ready_state(self.session, self.files, before)
         self.files.keep_in_sight()
         self.is_open, self.busy, self.opened = True, 0, time.monotonic()
@@ -249,26 +254,26 @@ class Driver:
     def look_elsewhere(self, state: State) -> None:
         """Takes up what earlier drivers began elsewhere: it is asked for before another try of it
         begins, and how it ended is taken for its end, if it was begun in this night."""
-        ours = {it.name for it in state.groups if state.night_of(it.scope) == self.book.night}
-        if self.past.night == self.book.night:
-            ours |= self.had
+        ours = groups_of(state, self.past, self.book.night)
         its: dict[Name, tuple[Named, bool]] = outstanding(self.far, state, self.past)
         for name, (it, counts) in its.items():
             job = self.jobs.all.get(name)
             if job is None or not job.way.ask:
                 note(f"{' '.join(name)} may still run elsewhere; there is no `ask` for it any more")
                 continue
-            left = next((one for one in self.left if one.name == name), None)
+            left = next((one for one in self.left if one.it == it), None)
             if left is None:
-                left = Leftover(it.group, it.key, None, job)
+                left = Leftover(it, self.files.path, job)
+                left.counts = counts and it.group in ours and not self.begins_night
                 self.left.append(left)
                 note(f"{' '.join(name)} may still run elsewhere: {it}")
             command = Command(job, it.group, it.number, -1, "")
             left.elsewhere = Elsewhere(self.far, job.way, it, job.folder or "",
                                        command.environment(self.files.path, self.inherited))
-            left.counts = counts and it.group in ours and not self.begins_night
-            if not counts:
-                left.stop(failed("it was stopped before"))
+            if left.stopped is not None or not counts:
+                # (it is asked for during a while)
+                left.counts = left.counts and left.why is not None
+                left.stop_again(failed("it was stopped before"))
         if not its:
             self.far.clear()
 
@@ -293,7 +298,7 @@ class Driver:
         """The line of an end, with its times where its command is at hand."""
         it = self.commands.get(name)
         if it and it.number == number and it.took is not None and end is not INTERRUPTED:
-            return line_of(it.began, it.took, end, it.job.command)
+            return line_of(it.began, it.took, end, it.text)
         return line_of(None, None, end, text)
 
     def make_scopes(self, state: State) -> None:
@@ -303,7 +308,7 @@ class Driver:
         found = standings(self.jobs, self.facts)
         wanted = {group for (group, _), it in found.items()
                   if not it.is_final or group in self.anew}
-        homeless = any(it[0] not in self.book.scopes for it in self.commands)
+        homeless = bool(self.homeless())
         if wanted or self.begins_night or homeless:
             old = self.book.top
             maker.top()
@@ -349,11 +354,16 @@ class Driver:
 
     def make_for_running(self, maker: Maker) -> None:
         """Makes scopes for commands that run on while theirs was done, and went with a renewal."""
-        for group in {it[0] for it in self.commands} - set(self.book.scopes):
+        for group in self.homeless():
             cause = self.facts.done.get(group)
             maker.group(group)
             if cause is not None:
                 maker.lines.append(f"cancel {self.book.scopes[group].name} {cause}")
+
+    def homeless(self) -> set[str]:
+        """The groups that have no scope, and commands whose ends are to be recorded."""
+        its = {it[0] for it in self.commands} | {it.name[0] for it in self.left if it.counts}
+        return its - set(self.book.scopes)
 
     def rebind(self) -> None:
         """Gives each command that runs on, or whose end isn't recorded, a running task again."""
@@ -361,7 +371,7 @@ class Driver:
         its = [it for it in self.commands.values() if it.end() is not None or it.status is None]
         for it in its:
             self.add_start(batch, it)
-        batch.send(self.session)
+        self.acked = batch.send(self.session)
         self.look_at_room()
 
     def look_at_room(self) -> None:
@@ -391,7 +401,7 @@ class Driver:
         self.add_clock(batch, bool(batch.lines))
         begun = self.add_begins(batch)
         if batch.lines:
-            batch.send(self.session)
+            self.acked = batch.send(self.session)
         self.canceler.answer(asked)
         for it in begun:
             self.begin(it)
@@ -435,7 +445,7 @@ class Driver:
             it.over()
             return
         note(f"{' '.join(command.name)} was stopped, and may still run elsewhere: {it.it}")
-        left = Leftover(it.it.group, it.it.key, None, command.job)
+        left = Leftover(it.it, self.files.path, command.job)
         left.elsewhere, left.stopped, left.why = it, command.stopped, command.why
         self.left.append(left)
         self.facts.busy.add(command.name)
@@ -445,13 +455,21 @@ class Driver:
         self.lost = 0
         if self.commands.get(command.name) is command:
             del self.commands[command.name]
+        self.put_aside(command)
         if not command.is_never:
             self.ran[command.name] = command
         end = command.end() or INTERRUPTED
         self.is_woken |= not end.is_ok
         tried = command.group, command.job.key, command.tried
-        began = None if command.is_adopted or command.is_never else command.began
-        self.log.add(iter([(tried, line_of(began, command.took, end, command.job.command))]))
+        began = None if command.is_never or not command.began else command.began
+        self.log.add(iter([(tried, line_of(began, command.took, end, command.text))]))
+
+    def put_aside(self, command: Command) -> None:
+        """The file of a try says nothing any more, unless something of it is left that may not
+        be."""
+        may_be = command.may_leave or not command.pid or not group_lives(command.pid)
+        if command.record and may_be:
+            self.tries.forget(command.record)
 
     def reopen(self, name: Name, end: End) -> None:
         """A command that failed may be tried again; one that failed for good may decide about
@@ -469,6 +487,8 @@ class Driver:
     def forget(self, command: Command) -> None:
         """A command that was cut off: the next opening interrupts its task."""
         del self.commands[command.name]
+        if command.end() is None:
+            self.put_aside(command)
         self.facts.busy.discard(command.name)
         self.leave(command)
         self.facts.interrupted.add(command.name)
@@ -546,7 +566,7 @@ class Driver:
         """The lines that make a group of the store in a group's scope."""
         scope = self.book.scopes[base].name
         taken = self.book.limits
-        group = scope if scope not in taken and scope not in self.had else \
+        group = scope if scope not in taken and scope not in self.past.groups() else \
             self.book.next_name(base)
         limit = self.jobs.limit(base) if base in self.jobs.members else None
         self.book.groups[base], self.book.limits[group] = group, limit
@@ -554,11 +574,6 @@ class Driver:
         if limit:
             batch.add(f"limit {group} {limit}")
         return group
-
-    @property
-    def had(self) -> set[str]:
-        """The names of groups that a renewal gave back."""
-        return {group for group, _, _ in self.past.ends} | set(self.past.had)
 
     def submitted(self, reply: str) -> None:
         if refusal(reply):
@@ -586,15 +601,22 @@ class Driver:
         if command.number < 0 or command.has_begun:
             return
         try:
-            command.begin(self.pids, self.far, self.inherited)
+            command.begin(self.tries, self.acked, self.far, self.inherited)
         except NotNow as why:
-            self.try_again = time.monotonic() + IDLE
-            note_once(f"{why}: commands are begun later")
+            self.begin_later(str(why))
         self.is_woken |= bool(command.failure)
+
+    def begin_later(self, why: str) -> None:
+        self.try_again = time.monotonic() + IDLE
+        note_once(f"{why}: commands are begun later")
 
     def stop_those_due(self) -> None:
         """Stops the commands of groups that are done and those whose time is over, and begins those
         that had no room."""
+        for command in self.commands.values():
+            if command.put_off:
+                self.begin_later(command.put_off)
+                command.put_off = ""
         retry = time.monotonic() >= self.try_again
         for command in list(self.commands.values()):
             if not command.has_begun:
@@ -614,15 +636,15 @@ class Driver:
         """Asks commands to end whose time is over, and kills those that don't."""
         for command in self.commands.values():
             if command.has_begun and not command.poll(self.grace) and (
-                    command.status is None or command.is_asked_for):
+                    command.is_here or command.is_asked_for):
                 if command.is_overdue():
                     self.stop(command, failed(f"timeout {command.job.timeout_said}"))
                 self.press_one(command)
-        for left in self.left:
-            if left.is_orphaned and left.elsewhere:
-                left.clear_here()
-            elif left.is_orphaned or left.is_overdue():
-                self.stop(left, None)
+        for left in [it for it in self.left if it.is_there()]:
+            if left.is_overdue() and left.job:
+                self.stop(left, failed(f"timeout {left.job.timeout_said}"))
+            elif left.has_orphans():
+                left.clear(self.grace)
             elif (end := self.facts.ends.get(left.name)) and end.is_canceled:
                 self.stop(left, end)
             self.press_one(left)
@@ -641,29 +663,32 @@ class Driver:
 
     def stop(self, it: Running, why: End | None) -> None:
         """Asks a command to end, once, and has a later driver know it."""
-        if it.stopped is None and it.is_here:
-            sign_stop(self.pids, it.pid)
+        if it.stopped is None and it.record:
+            self.tries.stop(it.record, why)
         it.stop(why)
 
     def look_for_leftovers(self, batch: Batch) -> None:
-        """Forgets commands of an earlier driver that have ended; they are begun anew, unless it is
-        known how they ended elsewhere."""
-        gone = [it for it in self.left if not it.is_there()]
-        for it in gone:
+        """Takes the ends of tries of an earlier driver that are over. Of what is over without one
+        another try begins."""
+        for it in [it for it in self.left if not it.is_there()]:
             self.left.remove(it)
             if not any(that.name == it.name for that in self.left):
                 self.facts.busy.discard(it.name)
             self.is_stale = True
             if it.elsewhere and it.stopped is not None:
                 it.elsewhere.over()
-            elif it.elsewhere and it.counts and it.elsewhere.end():
-                self.adopt(it.elsewhere, batch)
+            is_open = it.name not in self.commands and it.name not in self.facts.ends
+            if it.counts and it.job and it.is_known() and is_open:
+                self.adopt(it, it.job, batch)
+            elif it.record and it.job:
+                self.tries.forget(it.record)
 
-    def adopt(self, it: Elsewhere, batch: Batch) -> None:
-        """Takes the end of a try that an earlier driver began elsewhere."""
-        job = self.jobs.all[it.it.name]
+    def adopt(self, it: Leftover, job: Job, batch: Batch) -> None:
+        """Takes the end of a try that an earlier driver began."""
         command = Command(job, it.it.group, it.it.number, -1, "")
-        command.adopt(it, self.files.output(it.it.group, it.it.key, it.it.number))
+        command.adopt(it.told, it.elsewhere, self.files.output(it.it.group, it.it.key,
+                                                               it.it.number))
+        command.record, command.stopped, command.why = it.record, it.stopped, it.why
         self.commands[job.name] = command
         self.facts.busy.add(job.name)
         self.add_start(batch, command)

@@ -45,6 +45,15 @@ class Past:
     had: list[str] = field(default_factory=list)
     failures: dict[Name, int] = field(default_factory=dict)
 
+    @property
+    def is_of_a_store_made_anew(self) -> bool:
+        """Whether the store was made in the place of another one, and so counts its events anew."""
+        return not self.events and bool(self.round)
+
+    def groups(self) -> set[str]:
+        """The names of the store's groups that a renewal gave back."""
+        return {group for group, _, _ in self.ends} | set(self.had)
+
     def rounds(self) -> Iterable[tuple[str, Round]]:
         for it in [*(group for group, _, _ in self.ends), *self.done, *self.had]:
             yield base_of(it), round_of(it)

@@ -58,8 +58,13 @@ def stat_of(pid: int, thread: str = "") -> Stat | None:
 
 
 def this_process() -> Process:
-    found = stat_of(os.getpid())
-    return Process(boot(), os.getpid(), found.start if found else 0)
+    return process_of(os.getpid())
+
+
+def process_of(pid: int) -> Process:
+    """The process that has this number now."""
+    found = stat_of(pid)
+    return Process(boot(), pid, found.start if found else 0)
 
 
 def lives(it: Process) -> bool:

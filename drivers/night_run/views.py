@@ -12,7 +12,6 @@ from .ends import INTERRUPTED
 from .facts import Book, Facts, book_of, facts_of, logged_groups, numbered
 from .files import Files
 from .jobs import Jobs
-from .leftovers import running_now
 from .log import Line, Tried, read_log
 from .nights import read_nights
 from .opening import check, inspected
@@ -22,6 +21,7 @@ from .processes import this_process
 from .rounds import base_of
 from .settings import OF_ALL
 from .state import State
+from .tries import running_now
 
 # So many last lines of an output are shown, of so many last bytes.
 LINES, BYTES = 3, 4096

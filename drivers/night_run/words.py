@@ -20,11 +20,11 @@ from .beside import Umask
 from .canceling import cancel
 from .escapes import plain_lines
 from .exits import Hooks, Outcome, hooks_of, outcome_of
-from .facts import Book, Facts, book_of, facts_of, logged_groups, when_ended
+from .facts import Book, Facts, book_of, facts_of, groups_of, logged_groups, when_ended
 from .files import Files, become_owner
 from .jobs import Jobs
 from .keeping import Keeper
-from .leftovers import end_night, left_commands, open_pids
+from .leftovers import counted, end_night, left_commands
 from .log import Log
 from .loop import Driver
 from .night import RENEWAL_SECONDS, NightEnded, program, ran
@@ -39,6 +39,7 @@ from .state import State
 from .summary import (changed, failed_count, failures, is_well, left_count, list_lines,
                       names_not_there, nothing_to_do, total)
 from .telling import note
+from .tries import Tries
 from .version import version
 from .views import View, look, remembered, report, without_past
 
@@ -281,7 +282,6 @@ class Run:
     def __init__(self, words: argparse.Namespace, signals: Signals, hooks: Hooks) -> None:
         self.words, self.signals, self.hooks = words, signals, hooks
         self.driver: Driver | None = None
-        self.pids = -1
         self.is_alone = False  # whether it has the locks
 
     def outcome(self) -> Outcome:
@@ -297,8 +297,6 @@ class Run:
             self.let_go()
 
     def let_go(self) -> None:
-        if self.pids >= 0:
-            os.close(self.pids)
         if self.is_alone:
             self.files.lock.release()
 
@@ -353,11 +351,10 @@ class Run:
             return None
 
     def run_alone(self) -> Outcome:
-        pids = self.pids = open_pids(self.files)
-        end_night(self.files, pids)
-        left = left_commands(self.files, pids, self.jobs)
-        for it in left:
-            note(f"{' '.join(it.name)} still runs from the last run: process {it.pid}")
+        tries = Tries(self.files)
+        end_night(self.files, tries)
+        tries.sign_night(None)
+        left = left_commands(self.files, tries, self.jobs)
         self.files.keep_others_out()
         if not self.files.exists():
             make(self.files)
@@ -368,7 +365,7 @@ class Run:
         check(self.files, state, self.past.events)
         self.log = Log(self.files, logged_groups(state, self.past))
         self.keeper = Keeper(self.files, self.log, self.words.keep)
-        driver = Driver(self.files, self.jobs, self.log, self.past, pids, left, self.words.most,
+        driver = Driver(self.files, self.jobs, self.log, self.past, tries, left, self.words.most,
                         self.words.grace, self.signals, self.keeper)
         self.driver = driver
         if not self.prepare(driver, state):
@@ -403,6 +400,8 @@ class Run:
                     driver.forgiven[name] = facts.failures.get(name, 0)
                     if name[0] in facts.done:
                         driver.anew.add(name[0])
+        ours = set() if driver.begins_night else groups_of(state, self.past, night)
+        driver.left = counted(driver.left, driver.tries, state, self.past, ours)
         self.tell_missing(facts.interrupted)
         has_work = not is_over or driver.begins_night or bool(
             driver.forgiven or driver.left) or not has_mark and self.is_unsaid(book, facts)
