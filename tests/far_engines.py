@@ -12,7 +12,8 @@ comes.
 
 All of them are this file, whose first word is the program. An engine's folder is ENGINE. There
 `down` makes the programs of slurm fail, and `lag` has how many seconds ssh's server needs to see
-that a connection has gone. `forget` says what becomes of the jobs that run: they are `gone`, they
+that a connection has gone, and `gap` how many seconds scancel takes for each job that it finds.
+`forget` says what becomes of the jobs that run: they are `gone`, they
 begin `again`, or they have ended, as with `NODE_FAIL`.
 """
 
@@ -186,10 +187,22 @@ def scancel(words: list[str]) -> None:
     if text(here("down")):
         sys.exit("scancel: error: Unable to contact slurm controller (connect failure)")
     ended, wckey = set(jobs(".end")), word_after(words, "--wckey") if "--wckey" in words else ""
+    found = []
     for it in jobs(".job"):
         name, _, _, its, _ = json.loads(text(f"{it}.job"))
         if it not in ended and name == word_after(words, "-n") and wckey in ("", its):
-            write(f"{it}.cancel", "1")
+            found.append(it)
+            time.sleep(float(text(here("gap")) or 0))
+    write(here(f"jobs/{time.time_ns()}.scancel"), json.dumps(found))
+
+
+def take_cancels() -> None:
+    """Takes what was asked of scancel, all jobs of a call at once: or one that waits for another
+    would begin between the two."""
+    for it in jobs(".scancel"):
+        for job in json.loads(text(f"{it}.scancel")):
+            write(f"{job}.cancel", "1")
+        os.remove(f"{it}.scancel")
 
 
 def slurmctld() -> None:
@@ -199,6 +212,7 @@ def slurmctld() -> None:
     write(here("jobs.txt"), "")
     while True:
         time.sleep(TICK)
+        take_cancels()
         if how := text(here("forget")):
             os.remove(here("forget"))
             for job, (name, it) in running.items():

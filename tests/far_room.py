@@ -100,6 +100,11 @@ class FarRoom(Room):
         with open(f"{self.engine}/lag", "w", encoding="utf-8") as file:
             file.write(str(seconds))
 
+    def slow_cancels(self, seconds: float) -> None:
+        """How long the stand-in's scancel takes for each job."""
+        with open(f"{self.engine}/gap", "w", encoding="utf-8") as file:
+            file.write(str(seconds))
+
     def record(self) -> list[str]:
         """What Slurm's record of ended jobs has of this room."""
         path = self.given["JOBS"]
