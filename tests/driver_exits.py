@@ -3,6 +3,7 @@ alarms, the one exit, signals and terminals."""
 
 from __future__ import annotations
 
+import contextlib
 import os
 import re
 import signal
@@ -189,6 +190,30 @@ def hung_alarm(tries: Shared) -> None:
     alarms.tell = real
 
 
+def stalled_output(tries: Shared) -> None:
+    """A standard output that takes nothing more keeps neither the alarm, nor the next night, nor a
+    signal waiting."""
+    kind = "a standard output that stalls"
+    room = Room(tries, ["g a [ -e well ]"])
+    ours, its = os.pipe()
+    os.set_blocking(its, False)
+    with contextlib.suppress(BlockingIOError):
+        while True:
+            os.write(its, b"x" * 65536)
+    os.set_blocking(its, True)
+    with open(its, "w", encoding="ascii") as stalled:
+        run = room.start("s", "JOBS", "--on-failure", ALARM, stdout=stalled)
+        tries.is_same(f"{kind}: the alarm", room.path, room.until(lambda: room.has("told")), True)
+        room.write("well", "")
+        tries.is_same(f"{kind}: the next night", room.path, room.last(
+            "s", "JOBS", "--nightly", errors="errors2"), (0, "1 command: 1 ok; 1 run now"))
+        tries.is_same(f"{kind}: it does", room.path, run.poll(), None)
+        kill([run.pid], which=signal.SIGTERM)
+        tries.is_same(f"{kind}: a signal", room.path, (room.ended(run, 20)[0], room.errors), (
+            3, "night-run: standard output: a signal came\n"))
+    os.close(ours)
+
+
 def begin_and_success(tries: Shared) -> None:
     """--on-begin and --on-success are run by a night that had something to do."""
     kind = "the begin and the success of a night"
@@ -285,4 +310,4 @@ def writers(tries: Shared) -> None:
 
 
 EXITS = [white_lines, strange_numbers, nothing_runs, not_printed, left, hung_alarm,
-         begin_and_success, unforeseen, stalled_terminal, writers]
+         stalled_output, begin_and_success, unforeseen, stalled_terminal, writers]
