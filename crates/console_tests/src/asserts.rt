@@ -1,25 +1,11 @@
 //! What a test takes for granted, and what it holds: one call each, so that its branch and its
 //! message are proved once.
 
-use run_disk::Torn;
 use std::process::Abort;
 
 /// Asserts that something holds. The message names the row.
 pub fn holds(rt: &impl Abort, it: bool, what: &str, row: usize) {
     assert!(rt; it, "{what} {row}");
-}
-
-/// Asserts that something holds where a crash tears so. The message names the row.
-pub fn holds_torn(rt: &impl Abort, it: bool, what: &str, row: u64, torn: Torn) {
-    assert!(rt; it, "{what}: {row}, {torn:?}");
-}
-
-/// What is there, and must be.
-pub fn given<T>(rt: &impl Abort, it: Option<T>, what: &str) -> T {
-    match it {
-        Some(it) => it,
-        None => panic!(rt; "no {what}"),
-    }
 }
 
 /// What was made, and must have been.

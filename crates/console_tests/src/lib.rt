@@ -1,5 +1,5 @@
-//! Tests of the console over a book on a disk in memory: whole nights, runs that stop, what a stop
-//! leaves, and hostile use.
+//! Tests of the console over a book on a disk in memory: whole nights, runs that stop, and what a
+//! stop leaves.
 #![tactic(auto)]
 
 #[cfg(test)]
@@ -10,8 +10,6 @@ mod books;
 mod crews;
 #[cfg(test)]
 mod groups;
-#[cfg(test)]
-mod hostile;
 #[cfg(test)]
 mod inspects;
 #[cfg(test)]
