@@ -60,10 +60,14 @@ class Keeper:
     def tidy(self, night: int) -> None:
         """Removes what is of nights before the first that is kept."""
         oldest = night - self.keep
-        remove(self.files.folder, old_logs(self.files, oldest))
-        with contextlib.suppress(FileNotFoundError), \
-                contextlib.closing(self.files.below(Part.OUT)) as folder:
-            remove(folder, old_outputs(folder, first_kept(self.nights, night, self.keep)))
+        try:
+            remove(self.files.folder, old_logs(self.files, oldest))
+            with contextlib.closing(self.files.below(Part.OUT)) as folder:
+                remove(folder, old_outputs(folder, first_kept(self.nights, night, self.keep)))
+        except FileNotFoundError:
+            pass
+        except OSError as error:
+            note_once(f"{error.filename}: {error.strerror}; nothing of earlier nights is removed")
 
 
 def remove(folder: Folder, names: Iterator[str]) -> None:
