@@ -5,9 +5,6 @@ use run_disk::{MemoryDisk, Torn};
 use std::alloc::Global;
 use std::process::Abort;
 
-/// Bytes, each from a place on.
-pub type Puts<'a> = &'a [(usize, &'a [u8])];
-
 /// So many bytes of one value.
 pub fn filled(rt: &impl Abort, alloc: Global, value: u8, count: usize) -> Vec<u8> {
     done(rt, Vec::from_elem(alloc, value, count), "memory")
@@ -22,24 +19,6 @@ pub fn put(bytes: &mut [u8], from: usize, new: &[u8]) {
         }
         place = place.saturating_add(1);
     }
-}
-
-/// Says whether these bytes stand from a place on.
-pub fn is_at(bytes: &[u8], from: usize, wanted: &[u8]) -> bool {
-    match bytes.get(from..) {
-        Some(rest) => rest.starts_with(wanted),
-        None => false,
-    }
-}
-
-/// Says whether all of these bytes stand at their places.
-pub fn are_at(bytes: &[u8], wanted: Puts) -> bool {
-    for (from, wanted) in wanted.iter() {
-        if !is_at(bytes, *from, wanted) {
-            return false;
-        }
-    }
-    true
 }
 
 /// A disk of these bytes.
@@ -61,13 +40,4 @@ pub fn left(rt: &impl Abort, alloc: Global, disk: &MemoryDisk, calls: u64, torn:
 /// What a crash now leaves, torn in this way.
 pub fn now(rt: &impl Abort, alloc: Global, disk: &MemoryDisk, torn: Torn) -> Vec<u8> {
     left(rt, alloc, disk, disk.calls(), torn)
-}
-
-/// What a disk has, but for some bytes.
-pub fn damaged(rt: &impl Abort, alloc: Global, disk: &MemoryDisk, puts: Puts) -> Vec<u8> {
-    let mut bytes = now(rt, alloc, disk, Torn::Keep);
-    for (from, new) in puts.iter() {
-        put(&mut bytes, *from, new);
-    }
-    bytes
 }

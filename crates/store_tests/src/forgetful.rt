@@ -66,7 +66,7 @@ fn run_on<D: RunDisk>(rt: &impl Abort, alloc: Global, mut disk: D, calls: &[Call
     let mut journal = Journal::adopt(disk, &stored);
     let mut acknowledged = 0usize;
     for call in calls.iter() {
-        if !journal.is_broken() && called(rt, alloc, &mut journal, *call).is_ok() {
+        if !journal.is_broken() && called(rt, &mut journal, *call).is_ok() {
             acknowledged = acknowledged.saturating_add(1);
         }
     }

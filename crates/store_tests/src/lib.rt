@@ -1,11 +1,9 @@
-//! Tests of the store, layer by layer: disks, segments, slots, the places of both layouts, the
-//! journal over them, and the durable book.
+//! Tests of what a book stands on: disks, the places of both layouts, and a journal over a disk
+//! that forgets. What slots, segments and journals leave is said by their contracts.
 #![tactic(auto)]
 
 #[cfg(test)]
 mod asserts;
-#[cfg(test)]
-mod book;
 #[cfg(test)]
 mod bytes;
 #[cfg(test)]
@@ -15,16 +13,6 @@ mod files;
 #[cfg(test)]
 mod forgetful;
 #[cfg(test)]
-mod journals;
-#[cfg(test)]
 mod pairs;
-#[cfg(test)]
-mod recoveries;
-#[cfg(test)]
-mod segments;
-#[cfg(test)]
-mod slots;
-#[cfg(test)]
-mod stops;
 #[cfg(test)]
 mod stores;

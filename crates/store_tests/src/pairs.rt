@@ -1,10 +1,9 @@
 //! What a store holds, a [`Pair`], and the journals that the tests of stores make it by.
 
-use crate::asserts::{done, holds};
+use crate::asserts::holds;
 use crate::bytes::{disk_of, filled, put};
 use run_disk::{MemoryDisk, RunDisk};
 use run_journal::{Journal, Stored};
-use run_model::Fault::DiskFailed;
 use run_model::{Fault, Layout};
 use std::alloc::Global;
 use std::process::Abort;
@@ -59,11 +58,6 @@ pub const CHECKPOINTED: Pair = Pair {
     batches: &[],
 };
 
-/// Says whether a store holds this pair.
-pub fn is_pair(stored: &Stored, pair: &Pair) -> bool {
-    is_grown(stored, pair, None)
-}
-
 /// Says whether a store holds this pair, and this batch after its own, if any.
 pub fn is_grown(stored: &Stored, pair: &Pair, added: Option<&[u8]>) -> bool {
     let mut lent = stored.batches();
@@ -83,25 +77,6 @@ pub fn recovered<D: RunDisk>(alloc: Global, disk: &mut D) -> Result<Stored, Faul
     Journal::recover(alloc, disk)
 }
 
-/// The fault of a recovery, if it has one.
-pub fn fault_of<D: RunDisk>(alloc: Global, disk: &mut D) -> Option<Fault> {
-    recovered(alloc, disk).err()
-}
-
-/// Says whether a recovery of a disk gives this pair.
-pub fn gives_pair(alloc: Global, disk: &mut MemoryDisk, pair: &Pair) -> bool {
-    match recovered(alloc, disk) {
-        Ok(stored) => is_pair(&stored, pair),
-        Err(_) => false,
-    }
-}
-
-/// Says whether a recovery of these bytes gives this pair, by three reads.
-pub fn holds_pair(rt: &impl Abort, alloc: Global, bytes: Vec<u8>, pair: &Pair) -> bool {
-    let mut disk = disk_of(rt, alloc, bytes);
-    gives_pair(alloc, &mut disk, pair) && disk.calls() == 3
-}
-
 /// A call of a journal.
 #[derive(Clone, Copy)]
 pub enum Call {
@@ -109,8 +84,6 @@ pub enum Call {
     Checkpoint(&'static [u8; 23]),
     /// A flush of this batch.
     Flush(&'static [u8]),
-    /// A flush of a batch of so many bytes, all 0xA7, which are all the room that there is.
-    Fill(usize),
 }
 
 /// A body with this image from place 12 on.
@@ -135,7 +108,7 @@ fn checkpoint<D: RunDisk>(
 }
 
 /// A flush of a batch that fits.
-pub fn flush<D: RunDisk>(
+fn flush<D: RunDisk>(
     rt: &impl Abort,
     journal: &mut Journal<D>,
     pending: &[u8],
@@ -145,63 +118,15 @@ pub fn flush<D: RunDisk>(
     journal.flush(pending)
 }
 
-/// A flush of so many bytes, which are all the room that there is.
-fn fill<D: RunDisk>(
-    rt: &impl Abort,
-    alloc: Global,
-    journal: &mut Journal<D>,
-    count: usize,
-) -> Result<(), Fault> {
-    holds(rt, journal.room() == count as u64, "room", count);
-    let told = flush(rt, journal, &filled(rt, alloc, 0xA7, count));
-    holds(rt, journal.room() == 0, "room after", count);
-    told
-}
-
 /// Makes a call.
 pub fn called<D: RunDisk>(
     rt: &impl Abort,
-    alloc: Global,
     journal: &mut Journal<D>,
     call: Call,
 ) -> Result<(), Fault> {
     match call {
         Call::Checkpoint(image) => checkpoint(rt, journal, image),
         Call::Flush(pending) => flush(rt, journal, pending),
-        Call::Fill(count) => fill(rt, alloc, journal, count),
-    }
-}
-
-/// The journal of a store that can be read.
-pub fn adopted<D: RunDisk>(rt: &impl Abort, alloc: Global, mut disk: D) -> Journal<D> {
-    match Journal::recover(alloc, &mut disk) {
-        Ok(stored) => Journal::adopt(disk, &stored),
-        Err(_) => panic!(rt; "no store"),
-    }
-}
-
-/// Calls of a journal, and what each is answered.
-pub type Calls = &'static [(Call, Result<(), Fault>)];
-
-/// The disk of a store after these calls.
-pub fn after_calls<D: RunDisk>(rt: &impl Abort, alloc: Global, disk: D, calls: Calls) -> D {
-    let mut journal = adopted(rt, alloc, disk);
-    call_all(rt, alloc, &mut journal, calls);
-    journal.into_disk()
-}
-
-/// Makes the calls, each of which is answered so, and breaks the journal where its disk fails.
-pub fn call_all<D: RunDisk>(
-    rt: &impl Abort,
-    alloc: Global,
-    journal: &mut Journal<D>,
-    calls: Calls,
-) {
-    for (row, (call, wanted)) in calls.iter().enumerate() {
-        let told = called(rt, alloc, journal, *call);
-        holds(rt, told == *wanted, "call", row);
-        let fails = told == Err(DiskFailed);
-        holds(rt, journal.is_broken() == fails, "broken, call", row);
     }
 }
 
@@ -213,23 +138,4 @@ pub fn formatted(rt: &impl Abort, alloc: Global, layout: Layout, value: u8) -> M
     let told = Journal::format(&mut disk, &mut body_of(&FORMATTED));
     holds(rt, told == Ok(()), "format over", value as usize);
     disk
-}
-
-/// The opening of a store, and flushes of the first batch and of the second.
-pub const OPEN: Calls = &[(Call::Checkpoint(&OPENED), Ok(()))];
-
-pub const FLUSH: Calls = &[
-    (Call::Checkpoint(&OPENED), Ok(())),
-    (Call::Flush(&FIRST), Ok(())),
-];
-
-pub const FLUSH_TWICE: Calls = &[
-    (Call::Checkpoint(&OPENED), Ok(())),
-    (Call::Flush(&FIRST), Ok(())),
-    (Call::Flush(&SECOND), Ok(())),
-];
-
-/// The disk of a small store, formatted over zeros, after these calls.
-pub fn small_after(rt: &impl Abort, alloc: Global, calls: Calls) -> MemoryDisk {
-    after_calls(rt, alloc, formatted(rt, alloc, Layout::Small, 0), calls)
 }

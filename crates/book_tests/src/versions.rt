@@ -2,14 +2,12 @@
 //!
 //! This rests on `Recovers` and `Opens`, whose `Stores` takes images of either version.
 
-use crate::book::asserts::{holds, holds_after};
-use crate::book::disks::{
-    At, assert_bytes, counted, disk_of, now, played_on, recovered, small_disk, told_by_opening,
-    torn_image,
+use crate::asserts::{holds, holds_after};
+use crate::disks::{
+    At, assert_bytes, counted, disk_of, now, played_on, recovered, small_disk, torn_image,
 };
-use crate::book::looks::{assert_group, assert_scopes, assert_tasks};
+use crate::looks::{assert_group, assert_scopes, assert_tasks};
 use run_disk::{MemoryDisk, Torn};
-use run_model::Fault;
 use std::alloc::Global;
 use std::process::Abort;
 use test_fixtures::Call::{Flush, Retry};
@@ -37,14 +35,6 @@ const RESTARTED_BEFORE: &[u8; 110] = b"\xa7\0\0\0\0\0\0\0\0\0\0\0\x61\x01\0\0\0\
 
 /// A batch of a retry of task 0.
 const RETRY: &[u8; 10] = b"\xa7\0\0\0\x05\x0c\0\x02\0\0";
-
-/// Slot 0 in version 1: four events, scope `a`, cancelled by the last of them, and `b` below it.
-const CANCELED: &[u8; 70] = b"\xa7\0\0\0\0\0\0\0\0\0\0\0\x39\x01\0\0\0\0\0\0\0\0\
-\0\0\0\0\0\0\0\x04\0\x02\0\0\0\0\
-\x01a\0\0\x02\x01\0\0\0\0\0\0\0\x04\0\0\0\0\0\0\0\0\x01\x04disk\x01b\0\x01\x01\0";
-
-/// A batch of scope `c` below root.
-const DERIVED: &[u8; 13] = b"\xa7\0\0\0\x08\x01\0\x05\x01c\0\0\x01";
 
 /// All that a small store with these bytes has.
 fn stored(rt: &impl Abort, alloc: Global, rows: &[(usize, &[u8])]) -> Listing {
@@ -145,48 +135,4 @@ fn an_opening_takes_a_store_of_version_1_over(rt: HostRuntime) {
     holds(&rt, disk.calls() == 16, "calls", 16);
     assert_bytes(&rt, &now(&rt, rt.alloc(), &disk), &TAKEN_OVER);
     assert_left(&rt, rt.alloc(), &disk);
-}
-
-/// What a stop after so many calls leaves of a disk.
-fn stopped(rt: &impl Abort, alloc: Global, disk: &MemoryDisk, calls: u64) -> Listing {
-    recovered(rt, alloc, torn_image(rt, alloc, disk, calls, Torn::Keep))
-}
-
-#[test]
-fn an_opening_restarts_a_store_of_version_1(rt: HostRuntime) {
-    let disk = taken_over(&rt, rt.alloc());
-    assert_interrupted(&rt, &stopped(&rt, rt.alloc(), &disk, 10));
-    assert_retried(&rt, &stopped(&rt, rt.alloc(), &disk, 16));
-}
-
-/// Asserts that two scopes are cancelled, and a third is not.
-fn assert_three(rt: &impl Abort, found: &Listing, count: u64) {
-    let scopes = [
-        (b"a".as_slice(), Seen::Canceled(b"disk")),
-        (b"b", Seen::Canceled(b"disk")),
-        (b"c", Seen::Live),
-    ];
-    holds(rt, found.count == count, "events", count);
-    assert_scopes(rt, found, &scopes);
-}
-
-/// A store of version 1 with a record after its image.
-static AFTER: [(usize, &'static [u8]); 2] = [(0, CANCELED), (1_048_576, DERIVED)];
-
-#[test]
-fn records_after_version_1_are_applied(rt: HostRuntime) {
-    assert_three(&rt, &stored(&rt, rt.alloc(), &AFTER), 5);
-    let disk = disk_with(&rt, rt.alloc(), &AFTER);
-    let disk = played_on(&rt, rt.alloc(), disk, &[]);
-    assert_three(&rt, &stopped(&rt, rt.alloc(), &disk, 10), 6);
-}
-
-/// A retry after an image of version 1.
-static RETRIED_BEFORE: [(usize, &'static [u8]); 2] = [(0, RESTARTED_BEFORE), (1_048_576, RETRY)];
-
-#[test]
-fn a_retry_after_version_1_is_no_event(rt: HostRuntime) {
-    let disk = disk_with(&rt, rt.alloc(), &RETRIED_BEFORE);
-    let told = told_by_opening(rt.alloc(), disk);
-    holds(&rt, told == (Some(Fault::BadEvent), 3), "calls", 3);
 }

@@ -5,11 +5,11 @@
 //! rest then), on `Opens`, whose premise that is, and on `IsTornImage` of the disk in memory. One
 //! that isn't settled may lose all, and does where the last test says so.
 
-use crate::book::asserts::holds;
-use crate::book::calls::steps_of;
-use crate::book::disks::{TEARS, counted, now, opened_over, played_on, recovered, torn_image};
-use crate::book::failures::play_over_fuse;
-use crate::book::nights::{NIGHT, left, opens};
+use crate::asserts::holds;
+use crate::calls::steps_of;
+use crate::disks::{TEARS, counted, now, opened_over, played_on, recovered, torn_image};
+use crate::failures::play_over_fuse;
+use crate::nights::{NIGHT, left, opens};
 use run_disk::{MemoryDisk, Torn, settle};
 use run_model::{Fault, Step};
 use std::alloc::Global;

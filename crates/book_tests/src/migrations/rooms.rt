@@ -3,9 +3,9 @@
 //! This rests on `Migrates`, the contract of `migrate`: at Memory both disks are as they were
 //! given.
 
-use crate::book::asserts::holds;
-use crate::book::disks::heap;
-use crate::book::migrations::stores::{LARGE_LEN, Told, small, told, zeros};
+use crate::asserts::holds;
+use crate::disks::heap;
+use crate::migrations::stores::{LARGE_LEN, Told, small, told, zeros};
 use run_book::MigrateFault;
 use std::alloc::Global;
 use std::process::Abort;

@@ -5,8 +5,8 @@
 //! leaves), on `CarriesOn` (each acknowledged event is among it), on `Recovers`, and on
 //! `IsTornImage` of the disk in memory. Further stops of openings are in `console_tests`.
 
-use crate::book::asserts::{holds, holds_after};
-use crate::book::disks::{TEARS, counted, disk_of, played, played_on, small_disk, torn_image};
+use crate::asserts::{holds, holds_after};
+use crate::disks::{TEARS, counted, disk_of, played, played_on, small_disk, torn_image};
 use run_disk::{MemoryDisk, Torn};
 use run_model::Layout;
 use std::alloc::Global;

@@ -4,10 +4,9 @@
 //! This rests on `Opens` (at Memory the disk is as it was given), and on `AnswersStep` of a book
 //! whose allocator may refuse everything. That memory is given back no clause says.
 
-use crate::asserts::done;
-use crate::book::asserts::{given, holds};
-use crate::book::calls::{assert_replies, name, step, steps_of, take};
-use crate::book::disks::{AMPLE, book_of, disk_of, formatted, heap, play_without_memory, played};
+use crate::asserts::{done, given, holds};
+use crate::calls::{name, step, take};
+use crate::disks::{AMPLE, book_of, disk_of, formatted, heap, played};
 use linked_list_allocator::LocalHeap;
 use run_book::Book;
 use run_disk::{Fuse, MemoryDisk, RunDisk};
@@ -110,39 +109,6 @@ fn a_refused_growth_comes_before_any_device_call(rt: HostRuntime) {
     for row in AFTER_STATE.iter() {
         assert_growths(&rt, rt.alloc(), row.0, &row.1);
     }
-}
-
-/// Steps of each kind, each with its answer.
-static ROWS: [(Call, Said<'static>); 15] = [
-    (Derive(b"a", b"root", Ask::Cause), Said::Scope(1)),
-    (Cancel(b"a", b"disk"), Said::Done),
-    (Cancel(b"a", b""), Said::Refused(Refusal::AlreadyDone)),
-    (Group(b"g", b"root"), Said::Group(0, Some(2))),
-    (Limit(b"g", Some(1)), Said::Done),
-    (Go(b"g", b"copy", b"a"), Said::Ready(0)),
-    (Go(b"g", b"copy", b"b"), Said::Held(1)),
-    (Flush, Said::Acked(7)),
-    (Start, Said::Started(8, 0, b"copy", b"a", false)),
-    (Checkpoint, Said::Acked(8)),
-    (Call::Fail(0, b"x"), Said::Finished(9)),
-    (Retry(0), Said::Refused(Refusal::NotInterrupted)),
-    (Wait(b"g"), Said::Refused(Refusal::Unfinished(1))),
-    (Start, Said::Started(10, 1, b"copy", b"b", true)),
-    (Flush, Said::Acked(10)),
-];
-
-/// Asserts what those steps are answered without memory.
-fn assert_steps(rt: &impl Abort, alloc: Global, layout: Layout) {
-    let steps = steps_of(rt, alloc, &[&ROWS]);
-    let (disk, replies) = play_without_memory(rt, alloc, formatted(rt, alloc, layout), &steps);
-    assert_replies(rt, &replies, &[&ROWS]);
-    holds(rt, disk.calls() == 37, "calls of bytes", layout.store_len());
-}
-
-#[test]
-fn no_step_takes_memory(rt: HostRuntime) {
-    assert_steps(&rt, rt.alloc(), Layout::Small);
-    assert_steps(&rt, rt.alloc(), Layout::Large);
 }
 
 /// A night whose task is running as it ends.

@@ -4,9 +4,9 @@
 //! This rests on `Formats`, `Opens`, `Flushes` and `Checkpoints` (what is stored, by how many
 //! calls); the bytes are those of docs/formats.
 
-use crate::book::asserts::holds;
-use crate::book::disks::{At, assert_bytes, formatted, now, played};
-use crate::book::six_events::{FIRST, FIRST_BATCH, FLUSHED, SECOND_BATCH};
+use crate::asserts::holds;
+use crate::disks::{At, assert_bytes, formatted, now, played};
+use crate::six_events::{FIRST, FIRST_BATCH, FLUSHED, SECOND_BATCH};
 use run_disk::MemoryDisk;
 use run_model::Layout;
 use std::alloc::Global;

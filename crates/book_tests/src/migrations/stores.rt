@@ -5,8 +5,8 @@
 //! opening, and a flush. So task 0 is running, task 1 is held, and there were six events.
 
 use crate::asserts::done;
-use crate::book::bytes::{FORMATTED, OPENED};
-use crate::book::disks::{At, disk_of, now, put};
+use crate::bytes::{FORMATTED, OPENED};
+use crate::disks::{At, disk_of, now, put};
 use run_book::{MigrateFault, migrate};
 use run_disk::{MemoryDisk, RunDisk};
 use std::alloc::{Allocator, Global};

@@ -1,16 +1,15 @@
-//! Flushes that fill a segment to its last byte or want a byte more, and a full log.
+//! Flushes that fill a segment to its last byte or want a byte more.
 //!
-//! This rests on `Flushes` (one batch where there is room for it, else a checkpoint), and on the
-//! rules of SessionFull, which `AnswersStep` takes up.
+//! This rests on `Flushes` (one batch where there is room for it, else a checkpoint).
 
-use crate::book::asserts::holds;
-use crate::book::calls::{add_steps, assert_last};
-use crate::book::disks::{At, assert_bytes, counted_on, formatted, now, play, played_on};
+use crate::asserts::holds;
+use crate::calls::{add_steps, assert_last};
+use crate::disks::{At, assert_bytes, counted_on, formatted, now, play};
 use run_disk::MemoryDisk;
-use run_model::{Layout, Refusal, Step};
+use run_model::{Layout, Step};
 use std::alloc::Global;
 use std::process::Abort;
-use test_fixtures::Call::{Advance, Bare, Checkpoint, Flush, Go, Group, Limit, Start, Wait};
+use test_fixtures::Call::{Advance, Flush, Group, Limit};
 use test_fixtures::{Call, Said};
 
 /// Adds so many advances of the clock, by one second each: 11 bytes each.
@@ -136,70 +135,4 @@ fn a_flush_after_a_full_segment_is_a_checkpoint(rt: HostRuntime) {
     assert_bytes(&rt, &now(&rt, rt.alloc(), &disk), &OTHER_SEGMENT);
     let found = counted_on(rt.alloc(), &mut disk);
     holds(&rt, found == Ok(23_835), "events", 23_835);
-}
-
-/// The longest error.
-const LONGEST: &[u8] = b"0123456789abcdef0123456789abcdef0123456789abcdef0123456789abcdef";
-
-/// What comes first: 7 + 7 + 5 bytes, and 10 limits of 6.
-static FRONT: [(Call, Said<'static>); 13] = [
-    (Group(b"g", b"root"), Said::Group(0, Some(1))),
-    (Bare(b"h", b"root"), Said::Group(1, None)),
-    (Wait(b"h"), Said::Waited(None)),
-    (Limit(b"g", Some(2)), Said::Done),
-    (Limit(b"g", Some(2)), Said::Done),
-    (Limit(b"g", Some(2)), Said::Done),
-    (Limit(b"g", Some(2)), Said::Done),
-    (Limit(b"g", Some(2)), Said::Done),
-    (Limit(b"g", Some(2)), Said::Done),
-    (Limit(b"g", Some(2)), Said::Done),
-    (Limit(b"g", Some(2)), Said::Done),
-    (Limit(b"g", Some(2)), Said::Done),
-    (Limit(b"g", Some(2)), Said::Done),
-];
-
-/// After 95,308 advances of 11 bytes and two tasks of 12 the log has 1,048,491. A start has 5, and
-/// 80 are kept then. What is durable takes room of the log still.
-static FULL: [(Call, Said<'static>); 9] = [
-    (Go(b"g", b"copy", b"a"), Said::Ready(0)),
-    (Go(b"g", b"copy", b"b"), Said::Ready(1)),
-    (Flush, Said::Acked(95_324)),
-    (Start, Said::Started(95_325, 0, b"copy", b"a", false)),
-    (Start, Said::Refused(Refusal::SessionFull)),
-    (Checkpoint, Said::Acked(95_325)),
-    (Start, Said::Refused(Refusal::SessionFull)),
-    (Call::Fail(0, LONGEST), Said::Finished(95_326)),
-    (Flush, Said::Acked(95_326)),
-];
-
-/// What fills the log so far.
-fn nearly_full(rt: &impl Abort, alloc: Global) -> Vec<Step> {
-    let mut steps = Vec::new(alloc);
-    add_steps(rt, &mut steps, &FRONT);
-    add_advances(rt, &mut steps, 95_308);
-    steps
-}
-
-/// The next opening begins with an empty log.
-static NEXT: [(Call, Said<'static>); 1] = [(Start, Said::Started(95_328, 1, b"copy", b"b", true))];
-
-#[test]
-fn a_start_that_just_fits_is_accepted(rt: HostRuntime) {
-    let steps = nearly_full(&rt, rt.alloc());
-    let disk = played_after(&rt, rt.alloc(), Layout::Small, steps, &FULL);
-    played_on(&rt, rt.alloc(), disk, &[&NEXT]);
-}
-
-/// After 7 bytes, 5 limits of 6 and 95,313 advances of 11 a task of 12 makes 1,048,492.
-static OVERFULL: [(Call, Said<'static>); 4] = [
-    (Go(b"g", b"copy", b"a"), Said::Ready(0)),
-    (Flush, Said::Acked(95_321)),
-    (Start, Said::Refused(Refusal::SessionFull)),
-    (Flush, Said::Acked(95_321)),
-];
-
-#[test]
-fn a_start_that_is_a_byte_too_long_is_refused(rt: HostRuntime) {
-    let steps = pending(&rt, rt.alloc(), 5, 95_313);
-    played_after(&rt, rt.alloc(), Layout::Large, steps, &OVERFULL);
 }

@@ -3,12 +3,9 @@
 //! This rests on `Recovers` and `Opens`: of all faults whose cause holds the first one is told,
 //! after so many reads, and nothing is written. That its memory is given back no clause says.
 
-use crate::asserts::done;
-use crate::book::asserts::holds;
-use crate::book::disks::{
-    AMPLE, counted, counted_on, disk_of, heap, put, small_disk, told_by_opening,
-};
-use crate::book::six_events::FIRST_BATCH;
+use crate::asserts::{done, holds};
+use crate::disks::{AMPLE, counted, counted_on, disk_of, heap, put, small_disk, told_by_opening};
+use crate::six_events::FIRST_BATCH;
 use linked_list_allocator::LocalHeap;
 use run_book::{MigrateFault, migrate};
 use run_disk::MemoryDisk;
@@ -199,29 +196,6 @@ fn the_first_damage_is_told(rt: HostRuntime) {
         assert_told(&rt, rt.alloc(), version, &IN_IMAGES);
         assert_told(&rt, rt.alloc(), version, &IN_SEGMENTS);
         assert_told(&rt, rt.alloc(), version, &IN_TWO_PLACES);
-    }
-}
-
-/// Damages, each with the fault that an opening tells and the reads that it made. The read of the
-/// segment comes after the choice of a slot.
-static REFUSED: [(Puts, Fault, u64); 4] = [
-    (&[(524_296, b"\x02")], Fault::BadSlot, 2),
-    (&[(524_301, b"\x09")], Fault::BadImage, 3),
-    (&[(1_310_725, b"\x0c")], Fault::BadRecord, 3),
-    (&[(1_310_731, b"\x05")], Fault::BadEvent, 3),
-];
-
-/// Asserts that a damaged store isn't opened, by this fault after so many calls.
-fn assert_unopened(rt: &impl Abort, alloc: Global, damages: Puts, fault: Fault, calls: u64) {
-    let disk = disk_of(rt, alloc, damaged(rt, alloc, 2, damages));
-    let told = told_by_opening(alloc, disk);
-    holds(rt, told == (Some(fault), calls), fault.name(), calls);
-}
-
-#[test]
-fn an_opening_of_a_damaged_store_only_reads(rt: HostRuntime) {
-    for row in REFUSED.iter() {
-        assert_unopened(&rt, rt.alloc(), row.0, row.1, row.2);
     }
 }
 

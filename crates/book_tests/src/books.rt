@@ -1,19 +1,16 @@
 //! Each call of a book, in both layouts, and a book that is opened again.
 //!
-//! This rests on `AnswersStep` (what each step is answered), `Flushes`, `Checkpoints`, `Opens`,
-//! `Recovers` and `Formats`, which count the device calls, and on the clauses of `history`.
+//! This rests on `AnswersStep` (what each step is answered), `Flushes`, `Checkpoints` and `Opens`,
+//! which count the device calls, and on the clauses of `history`.
 
-use crate::asserts::done;
-use crate::book::asserts::holds;
-use crate::book::calls::assert_said;
-use crate::book::disks::{
-    book_of, counted_on, formatted, found_on, fresh, played, shown_by, told_by_opening,
-};
-use crate::book::looks::{assert_group, assert_scopes, assert_tasks, listed};
+use crate::asserts::holds;
+use crate::calls::assert_said;
+use crate::disks::{book_of, fresh, played, shown_by};
+use crate::looks::{assert_group, assert_scopes, assert_tasks, listed};
 use record_view::{EventView, Events};
-use run_book::{Book, State};
+use run_book::State;
 use run_disk::MemoryDisk;
-use run_model::{Fault, Layout, Phase, Refusal};
+use run_model::{Layout, Refusal};
 use std::alloc::Global;
 use std::process::Abort;
 use test_fixtures::Call::{Cancel, Checkpoint, Derive, Flush, Go, Group, Start, Succeed, Wait};
@@ -149,61 +146,4 @@ fn history_gives_the_events_since_the_opening(rt: HostRuntime) {
     let unlike = first_unlike(book.history());
     drop(book);
     assert!(rt; unlike.is_none(), "event {unlike:?}");
-}
-
-/// Asserts that two recoveries of a new store read alone, by three calls each: root is there.
-fn assert_recovers_twice(rt: &impl Abort, alloc: Global, layout: Layout) {
-    let mut disk = formatted(rt, alloc, layout);
-    for calls in [11, 14] {
-        let found = done(rt, found_on(rt, alloc, &mut disk), "store");
-        let numbers = (found.layout, found.count, found.scopes.len());
-        let is_read = numbers == (layout, 0, 1) && disk.calls() == calls;
-        holds(rt, is_read, "recovery of bytes", layout.store_len());
-    }
-}
-
-#[test]
-fn recovery_reads_alone(rt: HostRuntime) {
-    assert_recovers_twice(&rt, rt.alloc(), Layout::Small);
-    assert_recovers_twice(&rt, rt.alloc(), Layout::Large);
-}
-
-/// What each call tells of a disk: its fault, if there is one, and how many calls the disk counts.
-type Told = (Option<Fault>, u64);
-
-fn told_by_format(disk: MemoryDisk) -> Told {
-    match Book::format(disk) {
-        Ok(disk) => (None, disk.calls()),
-        Err((fault, disk)) => (Some(fault), disk.calls()),
-    }
-}
-
-fn told_by_recovery(alloc: Global, mut disk: MemoryDisk) -> Told {
-    (counted_on(alloc, &mut disk).err(), disk.calls())
-}
-
-/// A disk of so many zeros.
-fn zeros(rt: &impl Abort, alloc: Global, size: usize) -> MemoryDisk {
-    done(rt, MemoryDisk::new(alloc, size), "memory")
-}
-
-/// What a format, a recovery and an opening tell of a disk of this size.
-fn told_of(rt: &impl Abort, alloc: Global, size: usize) -> [Told; 3] {
-    [
-        told_by_format(zeros(rt, alloc, size)),
-        told_by_recovery(alloc, zeros(rt, alloc, size)),
-        told_by_opening(alloc, zeros(rt, alloc, size)),
-    ]
-}
-
-/// Sizes of no store: prefixes of a small one among them.
-static SIZES: [usize; 7] = [0, 1, 1_048_576, 1_572_863, 1_572_865, 6_291_455, 6_291_457];
-
-#[test]
-fn another_size_is_no_store(rt: HostRuntime) {
-    for size in SIZES.iter() {
-        let told = told_of(&rt, rt.alloc(), *size);
-        let wanted = [(Some(Fault::WrongSize), 0); 3];
-        holds(&rt, told == wanted, "of bytes", *size as u64);
-    }
 }

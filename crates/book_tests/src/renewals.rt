@@ -3,11 +3,10 @@
 //! This rests on `Renews`, the contract of `renew`: what it tells, and how many calls it makes of
 //! both disks. How much memory is taken and that it is given back no clause says.
 
-use crate::asserts::done;
-use crate::book::asserts::holds;
-use crate::book::calls::{add, name, step};
-use crate::book::disks::{AMPLE, formatted, heap, play};
-use crate::book::rooms::bytes_of_state;
+use crate::asserts::{done, holds};
+use crate::calls::{add, name, step};
+use crate::disks::{AMPLE, formatted, heap, play};
+use crate::rooms::bytes_of_state;
 use book_renewal::renew;
 use linked_list_allocator::LocalHeap;
 use run_book::{Book, MigrateFault, State};

@@ -1,6 +1,6 @@
 //! What a state shows, as tables write it.
 
-use crate::book::asserts::{given, holds};
+use crate::asserts::{given, holds};
 use run_book::State;
 use run_model::Look;
 use std::alloc::{Allocator, Global};

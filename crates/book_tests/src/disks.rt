@@ -2,10 +2,9 @@
 
 ghost use Rattle.std.specs.Prelude.{◌≡◌, ◌≤◌, [], length, vec_capacity};
 
-use crate::asserts::done;
-use crate::book::asserts::holds;
-use crate::book::calls::{assert_replies, steps_of};
-use crate::book::looks::listed;
+use crate::asserts::{done, holds};
+use crate::calls::{assert_replies, steps_of};
+use crate::looks::listed;
 use linked_list_allocator::LocalHeap;
 use record_view::Events;
 use run_book::{Book, State};
@@ -108,18 +107,6 @@ pub fn played(
     played_on(rt, alloc, formatted(rt, alloc, layout), lists)
 }
 
-/// What a disk with these bytes holds after an opening and lists of steps, each with its answer,
-/// and how many calls it counts.
-pub fn played_over(
-    rt: &impl Abort,
-    alloc: Global,
-    bytes: Vec<u8>,
-    lists: &[&[(Call, Said<'static>)]],
-) -> (Vec<u8>, u64) {
-    let disk = played_on(rt, alloc, disk_of(rt, alloc, bytes), lists);
-    (now(rt, alloc, &disk), disk.calls())
-}
-
 /// What a book shows beside its rows: its layout, how many events there were and are durable,
 /// whether it is broken, how many scopes it has, and how many bytes its history.
 pub type Shown = (Layout, u64, u64, bool, usize, usize);
@@ -155,44 +142,6 @@ pub fn heap(rt: &impl Abort, alloc: Global, bytes: usize) -> LocalHeap {
 
 /// More bytes than any book takes while it is opened.
 pub const AMPLE: usize = 16_000_000;
-
-/// What is left of a heap.
-fn rest_of<'h>(rt: &impl Abort, heap: &'h LocalHeap) -> Vec<u8, &'h LocalHeap> {
-    done(
-        rt,
-        Vec::<u8, &LocalHeap>::with_capacity(heap, heap.free()),
-        "rest",
-    )
-}
-
-/// Opens a disk over a heap, and plays steps while no byte of memory can be had. Gives the disk
-/// back, and a reply for each step.
-fn play_within(
-    rt: &impl Abort,
-    alloc: Global,
-    heap: &LocalHeap,
-    disk: MemoryDisk,
-    steps: &[Step],
-) -> (MemoryDisk, Vec<Reply>) {
-    let mut replies = room(rt, alloc, steps);
-    let mut book = book_of(rt, heap, disk);
-    let _rest = rest_of(rt, heap);
-    holds(rt, heap.free() == 0, "bytes left", 0);
-    book.play(steps, &mut replies);
-    (book.into_disk(), replies)
-}
-
-/// Opens a disk, and plays steps while no byte of memory can be had. Gives the disk back, and a
-/// reply for each step.
-pub fn play_without_memory(
-    rt: &impl Abort,
-    alloc: Global,
-    disk: MemoryDisk,
-    steps: &[Step],
-) -> (MemoryDisk, Vec<Reply>) {
-    let heap = heap(rt, alloc, AMPLE);
-    play_within(rt, alloc, &heap, disk, steps)
-}
 
 /// How many events there are in what a disk stores.
 pub fn counted_on<D: RunDisk, A: Allocator + Copy>(alloc: A, disk: &mut D) -> Result<u64, Fault> {

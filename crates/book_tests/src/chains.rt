@@ -3,9 +3,9 @@
 //!
 //! This rests on `lasts` and `why` of `use_store` and of `use_new_store`.
 
-use crate::book::asserts::holds;
-use crate::book::calls::{assert_replies, steps_of};
-use crate::book::disks::{formatted, now, recovered, room};
+use crate::asserts::holds;
+use crate::calls::{assert_replies, steps_of};
+use crate::disks::{formatted, now, recovered, room};
 use book_laws::laws::{use_new_store_in_memory, use_store};
 use run_book::Book;
 use run_disk::{FailOnce, MemoryDisk};

@@ -21,3 +21,11 @@ pub fn holds(rt: &impl Abort, it: bool, what: &str, row: u64) {
 pub fn holds_after(rt: &impl Abort, it: bool, calls: u64, torn: Torn) {
     assert!(rt; it, "after call {calls}, {torn:?}");
 }
+
+/// What was made, and must have been.
+pub fn done<T, E: Drop>(rt: &impl Abort, it: Result<T, E>, what: &str) -> T {
+    match it {
+        Ok(it) => it,
+        Err(_) => panic!(rt; "no {what}"),
+    }
+}

@@ -1,7 +1,6 @@
 //! The steps of tables, each by the book's call for it, and what their replies must say.
 
-use crate::asserts::done;
-use crate::book::asserts::{given, holds};
+use crate::asserts::{done, given, holds};
 use run_book::Book;
 use run_disk::RunDisk;
 use run_model::{Name, Reply, Step, Trouble};
