@@ -3,14 +3,6 @@
 
 use std::process::Abort;
 
-/// What is there, and must be.
-pub fn given<T>(rt: &impl Abort, it: Option<T>, what: &str) -> T {
-    match it {
-        Some(it) => it,
-        None => panic!(rt; "no {what}"),
-    }
-}
-
 /// What was made, and must have been.
 pub fn done<T, E: Drop>(rt: &impl Abort, it: Result<T, E>, what: &str) -> T {
     match it {

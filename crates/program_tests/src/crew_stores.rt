@@ -3,7 +3,7 @@
 use crate::asserts::{done, holds_at};
 use run_book::{Book, State};
 use run_disk::{MemoryDisk, RunDisk};
-use run_model::{Name, Outcome, Text};
+use run_model::Name;
 use std::alloc::Global;
 use std::process::Abort;
 use test_fixtures::{Ask, Call, Going, command_of, going_of};
@@ -13,14 +13,6 @@ pub type Task = (&'static [u8], &'static [u8]);
 
 pub fn name(rt: &impl Abort, bytes: &[u8]) -> Name {
     Name::read(bytes).expect(rt, "a name")
-}
-
-/// How a task ended: with this error, or without one where it has no bytes.
-pub fn outcome(rt: &impl Abort, error: &[u8]) -> Outcome {
-    if error.is_empty() {
-        return Outcome::Success;
-    }
-    Outcome::Failure(Text::read(error).expect(rt, "a text"))
 }
 
 /// A book over a disk that holds a store.

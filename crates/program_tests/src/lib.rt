@@ -1,11 +1,8 @@
-//! Tests of the program, over words, files, an input and outputs in memory, of its crews, and of
-//! how its words, lines and replies are read and written.
+//! Tests of the program, over words, files, an input and outputs in memory, and of its crews.
 #![tactic(auto)]
 
 #[cfg(test)]
 mod asserts;
-#[cfg(test)]
-mod audits;
 #[cfg(test)]
 mod closed;
 #[cfg(test)]
@@ -15,13 +12,7 @@ mod crew_stores;
 #[cfg(test)]
 mod crews;
 #[cfg(test)]
-mod desks;
-#[cfg(test)]
 mod failures;
-#[cfg(test)]
-mod faults;
-#[cfg(test)]
-mod forgetful;
 #[cfg(test)]
 mod gates;
 #[cfg(test)]
@@ -33,15 +24,11 @@ mod locks;
 mod nights;
 #[cfg(test)]
 mod runs;
-#[cfg(test)]
-mod seated;
 pub mod shelves;
 #[cfg(test)]
 mod slow_syncs;
 #[cfg(test)]
 mod stores;
-#[cfg(test)]
-mod texts;
 #[cfg(test)]
 mod times;
 #[cfg(test)]

@@ -1,7 +1,7 @@
 //! A night that is stopped, inspected, opened again, migrated and renewed.
 
 use crate::asserts::{done, holds};
-use crate::runs::{End, Printed, assert_run, run_words};
+use crate::runs::{End, assert_run};
 use crate::shelves::Shelf;
 use crate::stores::{SIZES, copied, kept, left, scripted, shelved, typed, zeros};
 use run_disk::MemoryDisk;
@@ -178,177 +178,6 @@ fn a_stopped_night_is_migrated(rt: HostRuntime) {
     }
 }
 
-/// Words that make a store of a file of so many zeros, and how they end.
-type Unserved = (&'static [&'static str], usize, End);
-
-/// How they end where it is large already, has the size of no store, or holds none.
-const LARGE_OLD: End = (
-    3,
-    "",
-    "night: fault 4 WrongSize\nnight: a: is a large store already; OLD has to be a small one\n",
-);
-
-const WRONG_SIZE: End = (
-    3,
-    "",
-    "night: fault 4 WrongSize\n\
-     night: a: not the size of a store: 1,572,864 or 6,291,456 bytes\n",
-);
-
-const NOT_A_STORE: End = (3, "", "night: fault 3 NotAStore\nnight: a: not a store\n");
-
-static UNSERVED: [Unserved; 7] = [
-    (&["migrate", "a", "b"], SIZES.1, LARGE_OLD),
-    (&["migrate", "a", "b"], SIZES.0 - 1, WRONG_SIZE),
-    (&["migrate", "a", "b"], SIZES.0, NOT_A_STORE),
-    (&["migrate", "--new", "a", "b"], SIZES.0, NOT_A_STORE),
-    (&["renew", "a", "b"], SIZES.0 - 1, WRONG_SIZE),
-    (&["renew", "a", "b"], SIZES.1, NOT_A_STORE),
-    (&["renew", "a", "b", "--new"], SIZES.0, NOT_A_STORE),
-];
-
-/// Asserts how these words end, and that no file was made, emptied or taken away.
-fn assert_spared<R: Threads + Wait + Sync + Abort>(
-    rt: &R,
-    alloc: Global,
-    n: usize,
-    shelf: &mut Shelf,
-    words: &[&str],
-    end: &End,
-) {
-    assert_run(rt, alloc, words, shelf, "", end);
-    holds(rt, !shelf.has_made && !shelf.has_removed, "files", n);
-}
-
-/// Asserts that a file of zeros is no source of a store.
-fn assert_unserved<R: Threads + Wait + Sync + Abort>(
-    rt: &R,
-    alloc: Global,
-    n: usize,
-    row: &Unserved,
-) {
-    let mut shelf = shelved(rt, alloc, "a", zeros(rt, alloc, row.1));
-    assert_spared(rt, alloc, n, &mut shelf, row.0, &row.2);
-}
-
-#[test]
-fn what_is_no_old_store_leaves_the_new_file_as_it_was(rt: HostRuntime) {
-    for (n, row) in UNSERVED.iter().enumerate() {
-        assert_unserved(&rt, rt.alloc(), n, row);
-    }
-}
-
-/// Words that make a store of the stopped night, the other file that is there, how many calls of
-/// each disk pass, and how they end.
-type Sparing = (
-    &'static [&'static str],
-    Option<&'static str>,
-    u64,
-    &'static str,
-);
-
-/// What is told of a file that was to be new, and of an old store whose disk fails.
-const THERE: &str = "night: fault 2 DiskFailed\nnight: new.store: there is one\n";
-
-const FAILS: &str = "night: fault 2 DiskFailed\nnight: jobs.store: broken\n";
-
-static SPARED: [Sparing; 6] = [
-    (
-        &["migrate", "--new", "jobs.store", "new.store"],
-        Some("new.store"),
-        u64::MAX,
-        THERE,
-    ),
-    (
-        &["renew", "jobs.store", "new.store", "--new"],
-        Some("new.store"),
-        u64::MAX,
-        THERE,
-    ),
-    (&["migrate", "jobs.store", "new.store"], None, 0, FAILS),
-    (
-        &["migrate", "jobs.store", "new.store"],
-        Some("new.store"),
-        2,
-        FAILS,
-    ),
-    (&["renew", "jobs.store", "new.store"], None, 1, FAILS),
-    (
-        &["renew", "--new", "jobs.store", "new.store"],
-        None,
-        2,
-        FAILS,
-    ),
-];
-
-/// A store of these bytes.
-fn stored_again(rt: &impl Abort, alloc: Global, stored: &[u8]) -> Shelf {
-    let disk = MemoryDisk::from_bytes(alloc, copied(rt, alloc, stored));
-    shelved(rt, alloc, "jobs.store", done(rt, disk, "disk"))
-}
-
-/// Asserts that these words leave the files as they are.
-fn assert_sparing<R: Threads + Wait + Sync + Abort>(
-    rt: &R,
-    alloc: Global,
-    stored: &[u8],
-    n: usize,
-    row: &Sparing,
-) {
-    let mut shelf = stored_again(rt, alloc, stored);
-    if let Some(other) = row.1 {
-        let laid = shelf.lay(other, zeros(rt, alloc, 0));
-        done(rt, laid, "other file");
-    }
-    shelf.passes = row.2;
-    assert_spared(rt, alloc, n, &mut shelf, row.0, &(3, "", row.3));
-}
-
-#[test]
-fn a_file_that_is_there_is_spared(rt: HostRuntime) {
-    let stored = scripted(&rt, rt.alloc(), STOPPED.0);
-    let stored = kept(&rt, &stored, "jobs.store");
-    for (n, row) in SPARED.iter().enumerate() {
-        assert_sparing(&rt, rt.alloc(), stored.as_slice(), n, row);
-    }
-}
-
-/// Words that make a store of the stopped night, how many calls of each disk pass, and which file
-/// is to blame.
-type Blaming = (&'static [&'static str], u64, &'static str);
-
-const NEW_FAILS: &str = "night: fault 2 DiskFailed\nnight: new.store: broken\n";
-
-static BLAMING: [Blaming; 4] = [
-    (&["migrate", "jobs.store", "new.store"], 3, FAILS),
-    (&["migrate", "jobs.store", "new.store"], 7, NEW_FAILS),
-    (&["renew", "jobs.store", "new.store"], 8, FAILS),
-    (&["renew", "jobs.store", "new.store"], 9, NEW_FAILS),
-];
-
-/// Asserts which of two files is named, and that the new one is taken away.
-fn assert_blamed<R: Threads + Wait + Sync + Abort>(
-    rt: &R,
-    alloc: Global,
-    stored: &[u8],
-    n: usize,
-    row: &Blaming,
-) {
-    let mut shelf = stored_again(rt, alloc, stored);
-    shelf.passes = row.1;
-    assert_run(rt, alloc, row.0, &mut shelf, "", &(3, "", row.2));
-    holds(rt, shelf.has_removed, "file", n);
-}
-
-#[test]
-fn the_file_of_two_that_fails_is_named(rt: HostRuntime) {
-    let stored = scripted(&rt, rt.alloc(), STOPPED.0);
-    let stored = kept(&rt, &stored, "jobs.store");
-    for (n, row) in BLAMING.iter().enumerate() {
-        assert_blamed(&rt, rt.alloc(), stored.as_slice(), n, row);
-    }
-}
-
 /// What a crew prints: the opening interrupts task 0 and lets task 1 be ready.
 const WORKED: &str = "audit ok; starts 1; finishes 1\nacked 9\n";
 
@@ -397,130 +226,11 @@ const ENDED: &str =
     "bare a root\ngo a copy x\nstart\nfinish 0 ok\nwait a\ngroup g root\ngo g copy b\n";
 
 /// How its renewal ends.
-static RENEWAL: End = (
+const RENEWAL: End = (
     0,
     "renewed; events 8; scopes 2 of 2; groups 1 of 2; tasks 1 of 2\n",
     "",
 );
-
-/// What is left of it.
-const LEFT: &str = "events 8; clock 0\n\
-     scope 0 root live; deadline none\n\
-     scope 1 g live; deadline none\n\
-     group 0 g unfinished 1; limit none; waited no; error none\n\
-     task 0 g copy b ready\n";
-
-/// Words that renew it, and whether the store itself is renewed.
-type Renewing = (&'static [&'static str], bool);
-
-static RENEWED: [Renewing; 4] = [
-    (&["renew", "jobs.store", "new.store"], false),
-    (&["renew", "--new", "jobs.store", "new.store"], false),
-    (&["renew", "--in-place", "jobs.store"], true),
-    (&["renew", "jobs.store", "--in-place"], true),
-];
-
-/// Says whether this is what was printed.
-fn is_printed(printed: &Printed, text: &str) -> bool {
-    printed.output.as_str() == text
-}
-
-/// Asserts what is printed of a renewal, and what the store holds then.
-fn assert_renewed<R: Threads + Wait + Sync + Abort>(
-    rt: &R,
-    alloc: Global,
-    n: usize,
-    row: &Renewing,
-) {
-    let mut shelf = scripted(rt, alloc, ENDED);
-    assert_run(rt, alloc, row.0, &mut shelf, "", &RENEWAL);
-    let shown = run_words(rt, alloc, &["inspect", "jobs.store"], &mut shelf, "");
-    holds(rt, is_printed(&shown, LEFT) == row.1, "store", n);
-}
-
-#[test]
-fn a_night_is_renewed(rt: HostRuntime) {
-    for (n, row) in RENEWED.iter().enumerate() {
-        assert_renewed(&rt, rt.alloc(), n, row);
-    }
-}
-
-/// Disks that fail after so many calls, whether the file can't be replaced, and why there is no
-/// renewal.
-type Unrenewed = (u64, bool, &'static str);
-
-/// What is told of a renewal in place over disks that fail after so many calls, of which the old
-/// one is read by six and the new one written by eight and read by three, or over a file that can't
-/// be replaced.
-static UNRENEWED: [Unrenewed; 4] = [
-    (5, false, "broken"),
-    (7, false, "broken"),
-    (10, false, "broken"),
-    (u64::MAX, true, "in use by another program"),
-];
-
-/// Says whether it is told alone that a store was not had for this.
-fn is_untaken(printed: &Printed, why: &str) -> bool {
-    printed.ended.status == 3 && printed.output.is_empty() && printed.errors.contains(why)
-}
-
-/// Asserts what is told of a renewal that isn't made, and what is left of the files.
-fn assert_unrenewed<R: Threads + Wait + Sync + Abort>(
-    rt: &R,
-    alloc: Global,
-    stored: &[u8],
-    n: usize,
-    row: &Unrenewed,
-) {
-    let mut shelf = stored_again(rt, alloc, stored);
-    shelf.passes = row.0;
-    shelf.is_kept = row.1;
-    let words = ["renew", "--in-place", "jobs.store"];
-    let printed = run_words(rt, alloc, &words, &mut shelf, "");
-    holds(rt, is_untaken(&printed, row.2), "words", n);
-    holds(rt, shelf.has_removed, "file beside", n);
-    let left = kept(rt, &shelf, "jobs.store");
-    holds(rt, left.as_slice() == stored, "store", n);
-}
-
-#[test]
-fn a_store_that_is_not_renewed_in_place_stays(rt: HostRuntime) {
-    let stored = scripted(&rt, rt.alloc(), ENDED);
-    let stored = kept(&rt, &stored, "jobs.store");
-    for (n, row) in UNRENEWED.iter().enumerate() {
-        assert_unrenewed(&rt, rt.alloc(), stored.as_slice(), n, row);
-    }
-}
-
-/// What is told of a disk that fails, and its file.
-const BROKEN: &str = "night: fault 2 DiskFailed\nnight: b: broken\n";
-
-/// Words that make a file, over a disk that fails after so many calls: whether there was one of
-/// its name before, and whether the file is taken away again.
-type Making = (&'static [&'static str], &'static str, u64, bool);
-
-static MAKING: [Making; 5] = [
-    (&["format", "b"], "a", 0, true),
-    (&["format", "b"], "a", 7, true),
-    (&["format", "--new", "b"], "a", 3, true),
-    (&["format", "b"], "b", 3, false),
-    (&["format", "b"], "b", 0, false),
-];
-
-/// Asserts what is told of a file that is made in vain, and what is left of it.
-fn assert_unmade<R: Threads + Wait + Sync + Abort>(rt: &R, alloc: Global, n: usize, row: &Making) {
-    let mut shelf = shelved(rt, alloc, row.1, zeros(rt, alloc, 0));
-    shelf.passes = row.2;
-    assert_run(rt, alloc, row.0, &mut shelf, "", &(3, "", BROKEN));
-    holds(rt, shelf.has_removed == row.3, "file", n);
-}
-
-#[test]
-fn a_new_file_of_no_store_is_taken_away(rt: HostRuntime) {
-    for (n, row) in MAKING.iter().enumerate() {
-        assert_unmade(&rt, rt.alloc(), n, row);
-    }
-}
 
 /// What is printed when the same is typed once more.
 const GOES_FURTHER: &str = "task 0 interrupted\n\
@@ -550,6 +260,24 @@ const MIXED: &str = "group g root\nlimit g 3\ngo g mail a\ngo g copy b\ngo g mai
 
 /// Lines, words over the store over which they were run, what is typed, and how it ends.
 type Night = (&'static str, &'static [&'static str], &'static str, End);
+
+/// Words that renew a night of which one group is waited for.
+static RENEWED: [Night; 4] = [
+    (ENDED, &["renew", "jobs.store", "new.store"], "", RENEWAL),
+    (
+        ENDED,
+        &["renew", "--new", "jobs.store", "new.store"],
+        "",
+        RENEWAL,
+    ),
+    (ENDED, &["renew", "--in-place", "jobs.store"], "", RENEWAL),
+    (ENDED, &["renew", "jobs.store", "--in-place"], "", RENEWAL),
+];
+
+#[test]
+fn a_night_is_renewed(rt: HostRuntime) {
+    assert_nights(&rt, rt.alloc(), &RENEWED);
+}
 
 /// Asserts how each of these nights ends.
 fn assert_nights<R: Threads + Wait + Sync + Abort>(rt: &R, alloc: Global, nights: &[Night]) {

@@ -1,11 +1,11 @@
 //! Tests of the words of the command line: what each asks for, and which are mistakes.
 
 use crate::asserts::{done, given, holds};
-use crate::texts::word_cases::{
+use crate::word_cases::{
     CREWS, Case, DEMO, FLAGS, HELP, JSON_TASKS, MIGRATIONS, RENEWALS, RENEWALS_IN_PLACE, RUNS,
     SOME_TASKS, STORES, TWO_VIEWS, Told, VERSION, VIEWS,
 };
-use crate::texts::word_mistakes::{MISTAKES, STRAY_FLAGS};
+use crate::word_mistakes::{MISTAKES, STRAY_FLAGS};
 use console_lines::Row;
 use night_requests::{Asked, View, WordsFault};
 use night_words::read_words;

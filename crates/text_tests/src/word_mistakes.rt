@@ -1,6 +1,6 @@
 //! Words of the command line that are mistakes, and what is told of each.
 
-use crate::texts::word_cases::{Case, Told};
+use crate::word_cases::{Case, Told};
 
 /// Words that ask for nothing.
 pub static MISTAKES: [Case; 25] = [

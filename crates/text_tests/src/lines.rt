@@ -1,6 +1,6 @@
 //! Tests of what lines ask for; the values stand in `docs/formats/console.md`.
 
-use crate::texts::meanings::{Kind, Meaning, Row, assert_all, assert_read};
+use crate::meanings::{Kind, Meaning, Row, assert_all, assert_read};
 use console_lines::{LONGEST_INPUT, LONGEST_LINE};
 use run_model::Refusal;
 

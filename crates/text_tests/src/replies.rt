@@ -1,8 +1,7 @@
 //! Tests of what replies are gathered as, and of what faults print. The texts stand in
 //! `docs/formats/console.md`.
 
-use crate::asserts::{done, given, holds};
-use crate::crew_stores::name;
+use crate::asserts::{done, given, holds, name};
 use arrayvec::ArrayVec;
 use console_lines::{Counts, LONGEST_REPLY, Reply, RunFault, Tally};
 use run_model::{

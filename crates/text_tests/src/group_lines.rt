@@ -1,7 +1,7 @@
 //! Tests of what lines of groups and tasks ask for; the values stand in
 //! `docs/formats/console.md`.
 
-use crate::texts::meanings::{Meaning, Row, assert_all, assert_read};
+use crate::meanings::{Meaning, Row, assert_all, assert_read};
 use run_model::Refusal;
 
 static GROUPS: [Row; 3] = [
