@@ -3,7 +3,7 @@
 //!
 //! This rests on `Opens`, `Flushes` and `Checkpoints` (what a crash at any moment of the call
 //! leaves), on `CarriesOn` (each acknowledged event is among it), on `Recovers`, and on
-//! `IsTornImage` of the disk in memory. Further stops of openings are in `console_tests`.
+//! `IsTornImage` of the disk in memory. Further stops of openings are in `kills`.
 
 use crate::asserts::{holds, holds_after};
 use crate::disks::{TEARS, counted, disk_of, played, played_on, small_disk, torn_image};
