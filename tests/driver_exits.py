@@ -309,5 +309,50 @@ def writers(tries: Shared) -> None:
     tries.is_same(f"{kind}: one that nobody reads", "", writer.flush(5), True)
 
 
-EXITS = [white_lines, strange_numbers, nothing_runs, not_printed, left, hung_alarm,
-         stalled_output, begin_and_success, unforeseen, stalled_terminal, writers]
+# --- the parts by themselves
+
+def outcomes(tries: Shared) -> None:
+    """What each error comes to: a status, and a line."""
+    kind, exits = "what an error comes to", driver_module(tries, "exits")
+    driver = driver_module(tries, "jobs")
+    for error, status, line in (
+            (driver.Mistake("JOBS: no"), 2, "JOBS: no"), (driver.Fault("s: no"), 3, "s: no"),
+            (OSError(28, "No space left", "/a/b"), 3, "/a/b: No space left"),
+            (OSError(28, "No space left"), 3, "No space left"),
+            (KeyboardInterrupt(), 3, "ended before it began"),
+            (ValueError("two\nlines"), 3, "an error that nobody foresaw: ValueError: two lines;"
+             " NIGHT_DEBUG=1 shows its place"),
+            (MemoryError(), 3, "an error that nobody foresaw: MemoryError:; NIGHT_DEBUG=1 shows its"
+             " place")):
+        it = exits.outcome_of(error)
+        tries.is_same(kind, repr(error), (it.status, it.told), (status, (line,)))
+        tries.is_same(f"{kind}: what an alarm gets", repr(error), (it.text(), it.environment()), (
+            f"night-run: {line}\n",
+            {"NIGHT_STATUS": str(status), "NIGHT_FAILED": "0", "NIGHT_LEFT": "0"}))
+
+
+def heard_signals(tries: Shared) -> None:
+    """A signal is an interruption once, before the loop counts them and while it is wanted."""
+    kind, signals = "signals", driver_module(tries, "signals").Signals()
+
+    def raised(steps: int) -> bool:
+        try:
+            signals.heard(steps)
+        except KeyboardInterrupt:
+            return True
+        return False
+
+    found = [(raised(2), signals.steps), (raised(2), signals.steps)]
+    with signals.raising():
+        found.append((raised(1), signals.steps))
+    tries.is_same(kind, "", [*found, (raised(1), signals.steps)],
+                  [(True, 2), (False, 4), (True, 5), (False, 6)])
+    os.write(signals.wakes, b"xx")
+    began = time.monotonic()
+    signals.wait(30)
+    tries.is_same(f"{kind}: one ends a wait", "", (time.monotonic() < began + 10, signals.drain(),
+                                                   signals.drain()), (True, True, False))
+
+
+EXITS = [outcomes, heard_signals, white_lines, strange_numbers, nothing_runs, not_printed, left,
+         hung_alarm, stalled_output, begin_and_success, unforeseen, stalled_terminal, writers]
