@@ -9,7 +9,8 @@ import signal
 import subprocess
 import time
 
-from driver_room import Room, Shared, environments, hit, job, kill, most_at_once
+from driver_room import (Room, Shared, environments, hit, job, kill, locked,
+                         most_at_once)
 
 # Words that name a wrong file, or no program: the status, and why. The room has a file `bytes` and
 # `null`, a link to a device.
@@ -25,6 +26,7 @@ ASTRAY = [
 KEY = ("crm is a key of db: --cancel db/crm cancels that command alone; a reason for all of the"
        " group has to begin with another word")
 ENDED = "night-run: s: night 1 has ended, and nothing of it is left to cancel\n"
+LEFT = "night-run: night 1 wasn't done: the rest of it comes first\n"
 # Words that are told with the usage.
 UNUSABLE = [("s",), ("s", "JOBS", "-j", "0"), ("s", "JOBS", "-j", "x"), ("s", "JOBS", "--json"),
             ("s", "JOBS", "--failed", "--again"), ("s", "JOBS", "--report", "pdf"),
@@ -336,10 +338,60 @@ def failed(tries: Shared) -> None:
     room.until(lambda: len(room.lines("begun")) == 2)
     kill([run.pid], which=signal.SIGTERM)
     room.ended(run)
-    tries.is_same(f"{kind}: --nightly resumes it", room.path,
-                  (room.run("s", "JOBS", "--nightly")[0], room.begun()["g.k0"]), (0, 1))
-    tries.is_same(f"{kind}: and begins the next one", room.path,
-                  (room.run("s", "JOBS", "--nightly")[0], room.begun()["g.k0"]), (0, 2))
+    tries.is_same(f"{kind}: --nightly does the rest, and tonight's", room.path,
+                  (room.run("s", "JOBS", "--nightly"), room.errors), ((0, (
+                      "night 1, the rest of it:\n4 commands: 4 ok; 3 run now\nnight 2:\n"
+                      "4 commands: 4 ok; 4 run now\n")), LEFT))
+    tries.is_same(f"{kind}: how often each began", room.path, room.begun(),
+                  {"g.k0": 2, "g.k1": 3, "g.k2": 2, "g.k3": 2})
+    for word, count in ("--nightly", 4), ("--again", 6):
+        run = room.start("s", "JOBS", word, "-j", "1")
+        room.until(lambda count=count: room.begun()["g.k1"] == count)
+        kill([run.pid], which=signal.SIGTERM)
+        room.ended(run)
+        if word == "--nightly":
+            tries.is_same(f"{kind}: --resume does the rest alone", room.path,
+                          (room.run("s", "JOBS", "--resume")[0], room.begun()["g.k0"]), (0, 3))
+    run = room.start("s", "JOBS", "--nightly", "-j", "1")
+    room.until(lambda: room.begun()["g.k1"] == 7)
+    kill([run.pid], which=signal.SIGTERM)
+    status, output = room.ended(run)
+    tries.is_same(f"{kind}: a stop in the rest", room.path, (
+        status, output.splitlines()[-1], room.begun()["g.k0"]), (
+            1, "4 commands: 1 ok, 3 left; 0 run now", 4))
+    tries.is_same(f"{kind}: --quiet", room.path,
+                  (room.run("s", "JOBS", "--nightly", "--quiet"), room.errors,
+                   room.begun()["g.k0"]), ((0, ""), "", 5))
+
+
+def missed(tries: Shared) -> None:
+    """What the last night missed for good is told with tonight's, and a command that outlived its
+    driver and its deadline is stopped before tonight's try of it begins."""
+    kind = "the rest of a night whose deadline has passed"
+    room = Room(tries, ["g: within 4s", job("g", "a"), "g b [ -e second ] || { touch second;"
+                        " exec sleep 61; }; echo b >> done", job("g", "c"), "g c: after b"])
+    run = room.start("s", "JOBS", "--grace", "1")
+    room.until(lambda: room.has("second"))
+    hit(run, "driver")
+    room.ended(run)
+    time.sleep(5)
+    alarm = "{ echo $NIGHT_STATUS $NIGHT_FAILED; cat; } > alarm"
+    found = room.run("s", "JOBS", "--nightly", "--quiet", "--grace", "1", "--on-failure", alarm,
+                     seconds=40)
+    tries.is_same(kind, room.path, found, (0, (
+        "night 1, the rest of it:\ng b: canceled: within 4s; s.out/g.b.1\n"
+        "g c: canceled: within 4s\n3 commands: 1 ok, 2 canceled; 1 run now\nnight 2:\n"
+        "3 commands: 3 ok; 3 run now\n")))
+    tries.is_same(f"{kind}: the alarm", room.path, room.text("alarm"), f"0 2\n{found[1]}")
+    tries.is_same(f"{kind}: its command is stopped", room.path,
+                  [it for it in environments(room.path) if "sleep\x0061" in it], [])
+    tries.is_same(f"{kind}: once", room.path, room.run("s", "JOBS", "--nightly"),
+                  (0, "3 commands: 3 ok; 3 run now\n"))
+    kind = "a store that another program has"
+    with locked(f"{room.path}/s"):
+        status, output = room.run("s", "JOBS", "--nightly", seconds=90)
+    tries.holds(kind, room.path, (status, output) == (3, "") and
+                "s: in use by another program" in room.errors, (status, output, room.errors))
 
 
 def nightly(tries: Shared) -> None:
@@ -438,5 +490,5 @@ def on_a_terminal(room: Room) -> str:
 
 
 SETTINGS = [retries, timeout, places, shells, cancels, cancels_alone, after, stop_on_failure,
-            limits, summaries, views, failed,
+            limits, summaries, views, failed, missed,
             nightly, astray, keys, terminals]

@@ -4,6 +4,7 @@ until it has ended, and then it is compared with what its commands told."""
 import json
 import os
 import random
+import re
 import shutil
 import signal
 import subprocess
@@ -86,15 +87,15 @@ class Night:
     def to_its_end(self, words: list[str]) -> None:
         """Runs drivers until the night has ended, and compares it."""
         self.begun = begun = self.room.told_size()
+        night = self.night() if words else 0
         while self.left > 0:
             if self.run_disturbed(words):
                 words = []
                 break
             self.rest()
-            if self.room.told_size() > begun:
+            # (--nightly does the rest of a night that was made, and begins another one)
+            if self.room.told_size() > begun or words and self.night() > night:
                 words = []
-            elif words:
-                words = ["--nightly"]
         self.restore()
         began = time.monotonic()
         status, output = self.room.end(self.room.start(*words), began, self.opens())
@@ -102,6 +103,12 @@ class Night:
         self.runs_nothing(status)
         if self.plan.shape == "clock":
             self.goes_on_later()
+
+    def night(self) -> int:
+        """The number of the last night that was made."""
+        output = self.room.run("s", "JOBS", "--report", "prom")[1]
+        found = re.search(r"^night_run_night\{.*\} ([0-9]+)$", output, re.M)
+        return int(found[1]) if found else 0
 
     def has_begun(self) -> bool:
         """Whether something of this night has begun, so that it is what a cancel is of."""

@@ -35,6 +35,11 @@ class Outcome:
     left: int = 0  # those that are left
     has_run: bool = False  # whether there was something to do
     is_silent: bool = False  # whether nothing is printed
+    missed: int = 0  # commands of the night before that didn't end well, and are told of first now
+
+    @property
+    def is_well(self) -> bool:
+        return not self.status and not self.missed
 
     def text(self) -> str:
         """All that is known."""
@@ -84,7 +89,7 @@ class Hooks:
         self.run("--on-begin", "", {})
 
     def end(self, it: Outcome) -> None:
-        self.run("--on-failure" if it.status else "--on-success", it.text(), it.environment())
+        self.run("--on-success" if it.is_well else "--on-failure", it.text(), it.environment())
 
 
 def hooks_of(commands: Mapping[str, str | None], store: str, signals: Signals) -> Hooks:
@@ -94,7 +99,7 @@ def hooks_of(commands: Mapping[str, str | None], store: str, signals: Signals) -
 
 def leave(it: Outcome, hooks: Hooks) -> int:
     """Ends a run: raises the alarm, prints, and returns the status."""
-    if it.status:
+    if not it.is_well:
         hooks.end(it)
     if not it.is_silent:
         telling.let_go()
@@ -102,9 +107,9 @@ def leave(it: Outcome, hooks: Hooks) -> int:
         why = unprinted(it.lines, hooks.signals)
         if why:
             before, it = it, replace(it, status=FAULT, told=(*it.told, f"standard output: {why}"))
-            if not before.status:
+            if before.is_well:
                 hooks.end(it)
-    if not it.status and it.has_run:
+    if it.is_well and it.has_run:
         hooks.end(it)
     for line in it.told:
         tell(line)

@@ -125,7 +125,7 @@ class Driver:
         self.ran: dict[Name, Command] = {}  # those whose end was recorded in this run
         self.is_stale = True
         self.lost = self.busy = 0
-        self.is_full = self.cannot_renew = self.is_open = False
+        self.is_full = self.cannot_renew = self.is_open = self.is_cut_off = False
         self.missing = ""  # why the store isn't in its place
         self.has_looked = False  # whether `facts` are those of the store
         self.is_fruitless = self.is_woken = self.has_mark = False
@@ -182,7 +182,7 @@ class Driver:
             self.lost = 0
         is_hopeless = ended.status >= 0 and not self.is_open and not self.files.is_marked()
         if is_hopeless or self.lost >= MOST_LOST:
-            raise Fault(str(ended))
+            raise ended
         self.lost += 1
         note(f"{ended}; another one is begun")
 
@@ -717,7 +717,7 @@ class Driver:
     def cut_off(self) -> None:
         """Stops what still runs as the driver ends by a fault; what an earlier one left, only where
         a signal asks for that."""
-        is_asked, self.signals.steps = self.asked_to_end > 1, max(self.asked_to_end, 2)
+        is_asked, self.is_cut_off = self.asked_to_end > 1, True
         self.left = self.left if is_asked else []
         while True:
             for it in [it for it in self.commands.values() if it.poll(self.grace)]:
@@ -739,7 +739,8 @@ class Driver:
 
     @property
     def asked_to_end(self) -> int:
-        return self.signals.steps
+        """How far it is asked to end: 1 is that nothing more begins, 2 that what runs is stopped."""
+        return max(self.signals.steps, 2) if self.is_cut_off else self.signals.steps
 
     def wait(self) -> None:
         """Sleeps until a command ends, a signal comes, the next thing is due, or a second."""

@@ -24,7 +24,7 @@ from .facts import Book, Facts, book_of, facts_of, groups_of, logged_groups, whe
 from .files import Files, become_owner
 from .jobs import Jobs
 from .keeping import Keeper
-from .leftovers import counted, end_night, left_commands
+from .leftovers import Leftover, counted, end_night, left_commands
 from .log import Log
 from .loop import Driver
 from .night import RENEWAL_SECONDS, NightEnded, program, ran
@@ -145,7 +145,7 @@ def read_words(given: list[str]) -> argparse.Namespace:
                       help="run again what failed or was canceled in this night, too")
     what.add_argument("--again", action="store_true", help="begin the next night: all runs anew")
     what.add_argument("--nightly", action="store_true",
-                      help="begin the next night where the last one has ended, else resume it")
+                      help="begin the next night; what the last one left is done before")
     what.add_argument("--resume", action="store_true",
                       help="run what is left of the night, and else nothing, as after a reboot")
     what.add_argument("--list", action="store_true", help="print what isn't ok, and change nothing")
@@ -283,6 +283,8 @@ class Run:
         self.words, self.signals, self.hooks = words, signals, hooks
         self.driver: Driver | None = None
         self.is_alone = False  # whether it has the locks
+        self.is_rest = False  # whether it does what the last night left
+        self.rest: Outcome | None = None  # what that came to
 
     def outcome(self) -> Outcome:
         """What the run came to. It has let its locks go then."""
@@ -318,16 +320,18 @@ class Run:
     def broken(self, error: BaseException) -> Outcome:
         """What it came to where this ended it, with what is known of the night."""
         it = outcome_of(error)
+        if isinstance(error, NightEnded) and error.is_in_use():
+            return self.with_rest(it)  # (nothing of this run is to be told)
         try:
             made = self.known() if self.is_alone else None
         except Exception as another:  # (that nobody foresaw either)
             return dataclasses.replace(it, told=(*it.told, exits.said_of(another)))
         if made is None:
-            return it
+            return self.with_rest(it)
         ran = len(self.driver.ran) if self.driver else 0
-        return dataclasses.replace(
+        return self.with_rest(dataclasses.replace(
             it, lines=(*failures(made), total(made, ran)), failed=failed_count(made),
-            left=left_count(made))
+            left=left_count(made)), made.night)
 
     def known(self) -> rows.Report | None:
         """The night after a fault: as the driver knows it, or as the store has it; else None."""
@@ -365,14 +369,39 @@ class Run:
         check(self.files, state, self.past.events)
         self.log = Log(self.files, logged_groups(state, self.past))
         self.keeper = Keeper(self.files, self.log, self.words.keep)
-        driver = Driver(self.files, self.jobs, self.log, self.past, tries, left, self.words.most,
-                        self.words.grace, self.signals, self.keeper)
-        self.driver = driver
+        driver = self.begin_driver(tries, left)
+        self.is_rest = self.words.nightly and is_left(state, self.past)
         if not self.prepare(driver, state):
             return self.idle()
         self.hooks.begin()
         driver.run()
+        if not self.is_rest or not self.is_over(driver):
+            return self.finish(driver)
+        self.rest, self.is_rest, self.past = self.finish(driver), False, driver.past
+        driver = self.begin_driver(tries, left_commands(self.files, tries, self.jobs))
+        self.prepare(driver, inspected(self.files))
+        driver.run()
         return self.finish(driver)
+
+    def begin_driver(self, tries: Tries, left: list[Leftover]) -> Driver:
+        self.driver = Driver(self.files, self.jobs, self.log, self.past, tries, left,
+                             self.words.most, self.words.grace, self.signals, self.keeper)
+        return self.driver
+
+    def is_over(self, driver: Driver) -> bool:
+        """Whether the rest of the last night is done, so that tonight's may begin."""
+        return not self.signals.steps and all(it.is_final for it in driver.known().values())
+
+    def with_rest(self, it: Outcome, night: int = 0) -> Outcome:
+        """What both nights came to, where this run did the rest of the last one, too."""
+        rest = self.rest
+        if rest is None:
+            return it
+        lines = (f"night {night - 1}, the rest of it:" if night else "the rest of the last night:",
+                 *rest.lines, *((f"night {night}:",) if night else ()), *it.lines)
+        return dataclasses.replace(
+            it, lines=lines, failed=rest.failed + it.failed, missed=rest.failed + rest.left,
+            is_silent=rest.is_silent and it.is_silent)
 
     def first_look(self) -> State:
         """The state of the store. One whose sync failed is mended by an opening first."""
@@ -393,7 +422,9 @@ class Run:
         has_mark = bool(book.top and role_name(book.top.name, Role.ENDED) in state.by_name)
         has_one = bool(state.scopes[1:] or self.past.round)
         driver.begins_night = has_one and (
-            self.words.again or self.words.nightly and (is_over or has_mark))
+            self.words.again or self.words.nightly and not self.is_rest)
+        if self.is_rest and not is_over:
+            note(f"night {night} wasn't done: the rest of it comes first")
         if self.words.failed:
             for name, it in found.items():
                 if it.phase in (FAILED, CANCELLED):
@@ -403,7 +434,7 @@ class Run:
         ours = set() if driver.begins_night else groups_of(state, self.past, night)
         driver.left = counted(driver.left, driver.tries, state, self.past, ours)
         self.tell_missing(facts.interrupted)
-        has_work = not is_over or driver.begins_night or bool(
+        has_work = not is_over or driver.begins_night or self.is_rest or bool(
             driver.forgiven or driver.left) or not has_mark and self.is_unsaid(book, facts)
         if has_work:
             driver.before = self.renewed(driver, state)
@@ -462,5 +493,15 @@ class Run:
         status = exits.WELL if is_well(made) else exits.NOT_WELL
         # (a cron job that silently runs nothing is the worst)
         is_silent = self.words.quiet and status == exits.WELL and (has_run or self.words.resume)
-        return Outcome(status, lines=lines, failed=failed_count(made), left=left_count(made),
-                       has_run=has_run, is_silent=is_silent)
+        return self.with_rest(Outcome(
+            status, lines=lines, failed=failed_count(made), left=left_count(made),
+            has_run=has_run, is_silent=is_silent), made.night)
+
+
+def is_left(state: State, past: Past) -> bool:
+    """Whether the last night hasn't been brought to its end: the store has no mark of that."""
+    if not state.scopes[1:] and not past.round:
+        return False
+    night = max(state.night(), past.night)
+    top = book_of(state, past, night).top
+    return top is None or role_name(top.name, Role.ENDED) not in state.by_name
