@@ -9,6 +9,7 @@ import re
 import signal
 import subprocess
 import termios
+import threading
 import time
 
 from driver_cases import small_store
@@ -290,13 +291,20 @@ def writers(tries: Shared) -> None:
     writer = terminal.Writer(its)
     tries.is_same(f"{kind}: nothing to wait for", "", writer.flush(0.1), True)
     lines = [f"line {it} {'x' * 1000}\n" for it in range(200)]
+    # (one that waits is let go)
+    guard = threading.Timer(10, lambda: [os.read(ours, 65536) for _ in range(100)])
+    guard.daemon = True
+    guard.start()
     began = time.monotonic()
     for it in lines:
         writer.write(it)
     for at in range(100):
         writer.show(f"progress {at}\n")
-    tries.is_same(f"{kind}: it doesn't wait", "", (time.monotonic() - began < 1,
-                                                   writer.flush(0.1)), (True, False))
+    guard.cancel()
+    took = time.monotonic() - began
+    tries.is_same(f"{kind}: it doesn't wait", "", (took < 5, writer.flush(0.1)), (True, False))
+    if took >= 5:
+        return
     found = b""
     while not found.endswith(b"progress 99\n"):
         found += os.read(ours, 65536)
