@@ -1,29 +1,29 @@
-"""Copies of the kit that lack something: names of `rt` and `rtlib.py`, words of `rattle`, files."""
+"""Copies of the kit that lack something: names of `rt` and `rtlib.py`, or words of `rattle`."""
 import os
 import shutil
 from collections.abc import Iterable
 
-# `rt` runs as a command as ever; read as a module it lacks these names.
+# `rt` runs as a command as ever; whoever reads it as a module doesn't find these names.
 LACKING = """
 if __name__ != "__main__":
     for _it in {names!r}:
         if _it.startswith("rtlib."):
-            if hasattr(rtlib, _it[6:]):
-                delattr(rtlib, _it[6:])
-        else:
-            globals().pop(_it, None)
+            rtlib.__dict__.pop(_it.removeprefix("rtlib."), None)
+    for _it in {names!r}:
+        globals().pop(_it, None)
 """
-# A command, and no module of Python.
+MAIN = '\nif __name__ == "__main__":'
+# An `rt` that is a command, and no module of Python.
 COMMAND = """\
 #!/bin/sh
 exec python3 "$(dirname "$(readlink -f "$0")")/rt-itself" "$@"
 """
-# A prover of which the help doesn't name a word.
+# A prover whose help doesn't name some words.
 WITHOUT = """\
 #!/bin/sh
 for it; do
     if [ "$it" = --help ]; then
-        {rattle} "$@" | sed 's/{word}\\>/--other/g'
+        {rattle} "$@" | sed -E 's/({words})\\>/--other/g'
         exit
     fi
 done
@@ -31,34 +31,36 @@ exec {rattle} "$@"
 """
 
 
-def lay(kit: str, folder: str, names: Iterable[str] = (), is_module: bool = True,
-        word: str = "", file: str = "") -> str:
-    """Lays a copy of a kit into a new folder, mostly as links: with an `rt` that lacks these names,
-    or can't be read as a module, with a `rattle` that lacks a word, and without a file. Returns the
-    folder of its `rt`."""
+def lay(kit: str, folder: str) -> str:
+    """Lays a copy of a kit into a new folder, mostly as links, and returns the folder of `rt`."""
     os.makedirs(f"{folder}/bin")
-    for it in os.listdir(kit):
-        if it != "bin":
-            os.symlink(f"{kit}/{it}", f"{folder}/{it}")
-    for it in os.listdir(f"{kit}/bin"):
-        if it not in ("rt", "rtlib.py", "rattle"):
-            os.symlink(f"{kit}/bin/{it}", f"{folder}/bin/{it}")
-    shutil.copy(f"{kit}/bin/rtlib.py", f"{folder}/bin/rtlib.py")  # (its folder is the kit's)
-    with open(f"{kit}/bin/rt", encoding="utf-8") as source:
-        text = source.read()
-    if is_module:
-        before, main, after = text.partition('\nif __name__ == "__main__":')
-        write(f"{folder}/bin/rt", before + LACKING.format(names=[*names]) + main + after)
-    else:
-        write(f"{folder}/bin/rt-itself", text)
-        write(f"{folder}/bin/rt", COMMAND)
-    if word:
-        write(f"{folder}/bin/rattle", WITHOUT.format(rattle=f"{kit}/bin/rattle", word=word))
-    else:
-        os.symlink(f"{kit}/bin/rattle", f"{folder}/bin/rattle")
-    if file:
-        os.remove(f"{folder}/{file}")  # (a link)
+    for below in ("", "bin/"):
+        for it in os.listdir(f"{kit}/{below}"):
+            if it not in ("bin", "rt", "rtlib.py"):
+                os.symlink(f"{kit}/{below}{it}", f"{folder}/{below}{it}")
+    for it in ("rt", "rtlib.py"):  # (these go by the folder that they are in)
+        shutil.copy(f"{kit}/bin/{it}", f"{folder}/bin/{it}")
     return f"{folder}/bin"
+
+
+def drop_names(tools: str, names: Iterable[str]) -> None:
+    """Has the `rt` of a folder lack these names."""
+    with open(f"{tools}/rt", encoding="utf-8") as file:
+        before, main, after = file.read().partition(MAIN)
+    write(f"{tools}/rt", before + LACKING.format(names=[*names]) + main + after)
+
+
+def hide_module(tools: str) -> None:
+    """Has the `rt` of a folder be no module."""
+    os.rename(f"{tools}/rt", f"{tools}/rt-itself")
+    write(f"{tools}/rt", COMMAND)
+
+
+def drop_words(tools: str, *words: str) -> None:
+    """Has the help of the `rattle` of a folder, which is a link as yet, not name some words."""
+    rattle = os.readlink(f"{tools}/rattle")
+    os.remove(f"{tools}/rattle")
+    write(f"{tools}/rattle", WITHOUT.format(rattle=rattle, words="|".join(words)))
 
 
 def write(path: str, text: str) -> None:
