@@ -35,6 +35,9 @@ from .lock import Lock
 SIZES = 1_572_864, 6_291_456
 # So many seconds a look at a store may take to sync it, and the sync of a folder.
 LOOK, OF_FOLDER = 0.3, 2.0
+# So often the system is advised to drop a store's pages, and so many seconds are between: what
+# something else of it holds for a moment stays.
+ADVISED, BETWEEN = 4, 0.005
 # Those that a night reads and writes. What an older driver let others read is theirs no more.
 KEPT = (Part.STORE, Part.LOG, Part.ENDED, Part.FAR, Part.NIGHTS)
 
@@ -188,7 +191,9 @@ class Files:
         with contextlib.suppress(OSError):
             file = self.open(Part.STORE)
             try:
-                os.posix_fadvise(file, 0, 0, os.POSIX_FADV_DONTNEED)
+                for _ in range(ADVISED):
+                    os.posix_fadvise(file, 0, 0, os.POSIX_FADV_DONTNEED)
+                    time.sleep(BETWEEN)
             finally:
                 os.close(file)
 
