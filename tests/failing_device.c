@@ -1,10 +1,11 @@
-/* A device that fails when it is told to, for tests/real_ext4: a file system (FUSE, without a
- * library) with one file, `img`, whose bytes are those of another file.
+/* A device that fails when it is told to, at once or after a while, for tests/real_ext4: a file
+ * system (FUSE, without a library) with one file, `img`, whose bytes are those of another file.
  *
  *     failing_device MOUNTPOINT BACKING RANGES
  *
  * While the file RANGES is there, a write of a byte in one of its ranges fails with EIO; each line
- * has a range, `FROM TO`. It ends when the file system is unmounted. It wants root and /dev/fuse.
+ * has a range, and after how many milliseconds that is, `FROM TO WHILE`: so long all of it hangs. It
+ * ends when the file system is unmounted. It wants root and /dev/fuse.
  */
 #include <errno.h>
 #include <fcntl.h>
@@ -43,15 +44,21 @@ static void describe(struct fuse_attr *it, number inode)
     }
 }
 
+/* Says whether a write of these bytes fails, once it has hung as long as it is to. */
 static int fails(number at, number count)
 {
-    number from, to;
+    number from, to, hangs, longest = 0;
     int found = 0;
     FILE *list = fopen(ranges, "r");
-    while (list && fscanf(list, "%llu %llu", &from, &to) == 2)
-        found |= at < to && from < at + count;
+    while (list && fscanf(list, "%llu %llu %llu", &from, &to, &hangs) == 3) {
+        if (at >= to || from >= at + count)
+            continue;
+        found = 1;
+        longest = hangs > longest ? hangs : longest;
+    }
     if (list)
         fclose(list);
+    usleep((useconds_t)(longest * 1000));
     return found;
 }
 
