@@ -23,7 +23,7 @@ from .files import Files
 from .jobs import Job
 from .mounts import Folders, NoAnswer
 from .processes import boot, group_exists, group_lives, signal_group
-from .telling import note_once
+from .telling import note_once, told_of
 from .tries import Named, Told, Tries, naming
 
 SHELL = "/bin/sh"
@@ -107,6 +107,7 @@ class Command(Running):
         self.is_gone = False
         self.left_since: float | None = None
         self.tries: Tries | None = None
+        self.is_noted = False  # whether it stands in STORE.far
         self.put_off = ""  # why its shell couldn't begin it
         self.misses = 0
 
@@ -141,7 +142,7 @@ class Command(Running):
                 if self.record is None:
                     tries.forget(it)
         except NotOurs as error:
-            note_once(f"{error.filename}: {error.strerror}")
+            note_once(told_of(error))
             self.failure = "its output isn't to be trusted"
         except OSError as error:
             if error.errno in LATER:
@@ -154,9 +155,16 @@ class Command(Running):
         """Notes that a try is about to begin; the file of it. NotNow where that can't be, whatever
         the reason: nothing begins without it."""
         try:
-            if self.elsewhere and self.job.way.ask:
-                far.note(it, BEGUN)
-            return tries.make(it, events, self.job.command)
+            file = tries.make(it, events, self.job.command)
+            try:
+                if self.elsewhere and self.job.way.ask and not self.is_noted:
+                    far.note(it, BEGUN)
+                self.is_noted = True
+                return file
+            except OSError:
+                os.close(file)
+                tries.forget(it)
+                raise
         except OSError as error:
             raise NotNow(told_of(error)) from None
 
@@ -317,7 +325,3 @@ def look_for(folder: str) -> None:
             raise OSError(errno.ENOENT, f"no folder {end_of_path(folder)}")
     except NoAnswer:
         raise OSError(errno.ETIMEDOUT, f"it hangs: {end_of_path(folder)}") from None
-
-
-def told_of(error: OSError) -> str:
-    return f"{error.filename}: {error.strerror}" if error.filename else str(error.strerror)

@@ -14,12 +14,13 @@ import os
 import re
 import signal
 import time
-from collections.abc import Container, Iterator, Sequence
+from collections.abc import Container, Iterator, Mapping
 
-from . import Fault
+from . import Fault, Name
 from .beside import Part
-from .commands import Running
-from .far import is_recorded
+from .commands import Command, Running
+from .ends import End, failed
+from .far import Elsewhere, Far, is_recorded, outstanding
 from .files import Files, leave_mark
 from .jobs import Job, Jobs
 from .lock import try_lock
@@ -120,23 +121,134 @@ class Leftover(Running):
         return self.told.ended is not None or bool(self.elsewhere and self.elsewhere.end())
 
 
+    def adopted(self, job: Job, output: str) -> Command:
+        """A command of this driver that has ended as this one did."""
+        made = Command(job, self.it.group, self.it.number, -1, "")
+        made.adopt(self.told, self.elsewhere, output)
+        made.record, made.stopped, made.why = self.record, self.stopped, self.why
+        return made
+
+
+class Leftovers:
+    """The tries that a driver has in sight and didn't begin, or doesn't run any more: those of
+    earlier drivers, and its own that were stopped and may still run elsewhere."""
+
+    def __init__(self, files: Files, jobs: Jobs, tries: Tries, its: list[Leftover]) -> None:
+        self.files, self.jobs, self.tries, self.its = files, jobs, tries, its
+
+    def __iter__(self) -> Iterator[Leftover]:
+        return iter(list(self.its))
+
+    def __len__(self) -> int:
+        return len(self.its)
+
+    def names(self) -> set[Name]:
+        return {it.name for it in self.its}
+
+    def groups(self) -> set[str]:
+        """The groups in which an end is to be recorded."""
+        return {it.name[0] for it in self.its if it.counts}
+
+    def there(self) -> list[Leftover]:
+        return [it for it in self.its if it.is_there()]
+
+    def settle(self, state: State, past: Past, ours: Container[str]) -> None:
+        """Drops those that are over and whose ends are recorded, or count for nothing. The end of
+        one counts where its group is one of these, of this night, and its store is this one."""
+        its, self.its = self.its, []
+        for it in its:
+            since = it.told.since
+            it.counts = it.record is not None and it.it.group in ours and since is not None \
+                and (since <= state.count or past.is_of_a_store_made_anew)
+            is_over = not it.is_here
+            if it.record and (not it.counts or is_recorded(it.it, state, past)):
+                if is_over:
+                    self.tries.forget(it.record)
+                    continue
+                it.counts = False
+                self.tries.disown(it.record)
+            # (a command that isn't in the file now may be there again)
+            if not is_over or it.job is not None:
+                self.its.append(it)
+
+    def take_up(self, far: Far, state: State, past: Past, ours: Container[str],
+                inherited: Mapping[str, str]) -> None:
+        """Takes up what earlier drivers began elsewhere: it is asked for before another try of it
+        begins, and how it ended is taken for its end, if its group is one of these, of this
+        night."""
+        its: dict[Name, tuple[Named, bool]] = outstanding(far, state, past)
+        for name, (it, counts) in its.items():
+            job = self.jobs.all.get(name)
+            if job is None or not job.way.ask:
+                note(f"{' '.join(name)} may still run elsewhere; there is no `ask` for it any more")
+                continue
+            left = next((one for one in self.its if one.it == it), None)
+            if left is None:
+                left = Leftover(it, self.files.path, job)
+                left.counts = counts and it.group in ours
+                self.its.append(left)
+                note(f"{' '.join(name)} may still run elsewhere: {it}")
+            given = Command(job, it.group, it.number, -1, "").environment(
+                self.files.path, inherited)
+            left.elsewhere = Elsewhere(far, job.way, it, job.folder or "", given)
+            if left.stopped is not None or not counts:
+                # (it is asked for during a while)
+                left.counts = left.counts and left.why is not None
+                left.stop_again(failed("it was stopped before"))
+        if not its:
+            far.clear()
+
+    def keep(self, command: Command) -> bool:
+        """Keeps in sight one that was stopped and may run elsewhere: no other try of it begins.
+        Whether there is such a thing."""
+        it = command.elsewhere
+        if it is None or command.stopped is None:
+            return False
+        if it.is_over():
+            it.over()
+            return False
+        note(f"{' '.join(command.name)} was stopped, and may still run elsewhere: {it.it}")
+        left = Leftover(it.it, self.files.path, command.job)
+        left.elsewhere, left.stopped, left.why = it, command.stopped, command.why
+        self.its.append(left)
+        return True
+
+    def take_over(self) -> list[Leftover]:
+        """Those that are over by now; they are dropped here."""
+        gone = [it for it in self.its if not it.is_there()]
+        self.its = [it for it in self.its if it not in gone]
+        for it in gone:
+            if it.elsewhere and it.stopped is not None:
+                it.elsewhere.over()
+        return gone
+
+    def forget(self, it: Leftover) -> None:
+        """One that is over and of which no end is known, or counts. (What isn't in the file of
+        commands may be there again.)"""
+        if it.record and it.job:
+            self.tries.forget(it.record)
+
+
 # --- those of the last driver
 
-def left_commands(files: Files, tries: Tries, jobs: Jobs) -> list[Leftover]:
+def left_commands(files: Files, tries: Tries, jobs: Jobs) -> Leftovers:
     """The tries of earlier drivers whose ends aren't known to be recorded."""
     found = [*(taken(tries, it, files.path, jobs) for it in tries.all()),
              *of_an_older_driver(files, jobs)]
     for it in found:
         if it.is_here:
             note(f"{' '.join(it.name)} still runs from the last run: process {it.pid}")
-    return found
+    return Leftovers(files, jobs, tries, found)
 
 
 def taken(tries: Tries, it: Named, store: str, jobs: Jobs) -> Leftover:
     """A try by its file, once its shell has written its line or has gone."""
-    file = tries.open(it)
-    end = time.monotonic() + PATIENCE
-    while (told := told_by(it, file)).process is None and not try_lock(file):
+    file, end = tries.open(it), time.monotonic() + PATIENCE
+    while True:
+        has_gone = try_lock(file)
+        told = told_by(it, file)
+        if has_gone or told.process:
+            break
         if time.monotonic() >= end:
             raise Fault(f"{tries.folder.shown_of(it.file)} is locked by another program")
         time.sleep(0.005)
@@ -144,28 +256,6 @@ def taken(tries: Tries, it: Named, store: str, jobs: Jobs) -> Leftover:
     if told.is_stopped:
         left.stop(told.why)
     return left
-
-
-def counted(left: Sequence[Leftover], tries: Tries, state: State, past: Past,
-            ours: Container[str]) -> list[Leftover]:
-    """Those that have yet to end, or to be recorded. The end of one counts where its group is one
-    of these, those of this night, and its store is this one."""
-    kept = []
-    for it in left:
-        since = it.told.since
-        it.counts = it.record is not None and it.it.group in ours and since is not None \
-            and (since <= state.count or past.is_of_a_store_made_anew)
-        is_over = not it.is_here
-        if it.record and (not it.counts or is_recorded(it.it, state, past)):
-            if is_over:
-                tries.forget(it.record)
-                continue
-            it.counts = False
-            tries.disown(it.record)
-        # (a command that isn't in the file now may be there again)
-        if not is_over or it.job is not None:
-            kept.append(it)
-    return kept
 
 
 def of_an_older_driver(files: Files, jobs: Jobs) -> Iterator[Leftover]:

@@ -41,11 +41,11 @@ from . import Fault, Name
 from .commands import Command, NotNow, Running
 from .ends import INTERRUPTED, End, canceled, failed
 from .facts import PASSED, Book, Facts, book_of, facts_of, groups_of, numbered
-from .far import Elsewhere, Far, outstanding
+from .far import Far
 from .files import Files
 from .jobs import Job, Jobs
 from .keeping import Keeper
-from .leftovers import Leftover
+from .leftovers import Leftover, Leftovers
 from .log import Line, Log, Tried, line_of
 from .night import (ALREADY_DONE, CLOCK_NOT_FORWARD, FULL, MOST_BUSY, NOTHING_READY, NightEnded,
                     Session, SessionFull, refusal)
@@ -105,7 +105,7 @@ class Driver:
     opened: float  # when that was
 
     def __init__(self, files: Files, jobs: Jobs, log: Log, past: Past, tries: Tries,
-                 left: list[Leftover], most: int, grace: float, signals: Signals,
+                 left: Leftovers, most: int, grace: float, signals: Signals,
                  keeper: Keeper) -> None:
         self.signals, self.keeper = signals, keeper
         self.files, self.jobs, self.log, self.past, self.tries = files, jobs, log, past, tries
@@ -244,38 +244,13 @@ class Driver:
         self.facts = facts_of(state, self.past, self.log.lines, self.book, time.time(),
                               self.forgiven)
         if not self.has_looked:
-            self.look_elsewhere(state)
-        self.facts.busy = {it.name for it in self.left} | set(self.commands)
+            ours = set() if self.begins_night else groups_of(state, self.past, self.book.night)
+            self.left.take_up(self.far, state, self.past, ours, self.inherited)
+        self.facts.busy = self.left.names() | set(self.commands)
         top = self.book.top
         self.has_mark = bool(top and role_name(top.name, Role.ENDED) in state.by_name)
         self.is_stale = self.has_looked = True
         self.ask_why()
-
-    def look_elsewhere(self, state: State) -> None:
-        """Takes up what earlier drivers began elsewhere: it is asked for before another try of it
-        begins, and how it ended is taken for its end, if it was begun in this night."""
-        ours = groups_of(state, self.past, self.book.night)
-        its: dict[Name, tuple[Named, bool]] = outstanding(self.far, state, self.past)
-        for name, (it, counts) in its.items():
-            job = self.jobs.all.get(name)
-            if job is None or not job.way.ask:
-                note(f"{' '.join(name)} may still run elsewhere; there is no `ask` for it any more")
-                continue
-            left = next((one for one in self.left if one.it == it), None)
-            if left is None:
-                left = Leftover(it, self.files.path, job)
-                left.counts = counts and it.group in ours and not self.begins_night
-                self.left.append(left)
-                note(f"{' '.join(name)} may still run elsewhere: {it}")
-            command = Command(job, it.group, it.number, -1, "")
-            left.elsewhere = Elsewhere(self.far, job.way, it, job.folder or "",
-                                       command.environment(self.files.path, self.inherited))
-            if left.stopped is not None or not counts:
-                # (it is asked for during a while)
-                left.counts = left.counts and left.why is not None
-                left.stop_again(failed("it was stopped before"))
-        if not its:
-            self.far.clear()
 
     def ask_why(self) -> None:
         """Asks why scopes are done whose deadline passed as the clock was moved."""
@@ -362,7 +337,7 @@ class Driver:
 
     def homeless(self) -> set[str]:
         """The groups that have no scope, and commands whose ends are to be recorded."""
-        its = {it[0] for it in self.commands} | {it.name[0] for it in self.left if it.counts}
+        its = {it[0] for it in self.commands} | self.left.groups()
         return its - set(self.book.scopes)
 
     def rebind(self) -> None:
@@ -432,23 +407,10 @@ class Driver:
                 continue
             batch.add(f"finish {command.number} {end.words}", partial(self.recorded, command))
             self.facts.busy.discard(command.name)
-            self.leave(command)
+            if self.left.keep(command):
+                self.facts.busy.add(command.name)
             self.facts.ended(command.name, end, now)
             self.reopen(command.name, end)
-
-    def leave(self, command: Command) -> None:
-        """Keeps in sight one that was stopped and may run elsewhere: no other try of it begins."""
-        it = command.elsewhere
-        if it is None or command.stopped is None:
-            return
-        if it.is_over():
-            it.over()
-            return
-        note(f"{' '.join(command.name)} was stopped, and may still run elsewhere: {it.it}")
-        left = Leftover(it.it, self.files.path, command.job)
-        left.elsewhere, left.stopped, left.why = it, command.stopped, command.why
-        self.left.append(left)
-        self.facts.busy.add(command.name)
 
     def recorded(self, command: Command, _: str = "ok") -> None:
         """The end of a command is durable."""
@@ -490,7 +452,8 @@ class Driver:
         if command.end() is None:
             self.put_aside(command)
         self.facts.busy.discard(command.name)
-        self.leave(command)
+        if self.left.keep(command):
+            self.facts.busy.add(command.name)
         self.facts.interrupted.add(command.name)
         tell(f"{command.name[0]} {command.name[1]}: interrupted")
 
@@ -640,7 +603,7 @@ class Driver:
                 if command.is_overdue():
                     self.stop(command, failed(f"timeout {command.job.timeout_said}"))
                 self.press_one(command)
-        for left in [it for it in self.left if it.is_there()]:
+        for left in self.left.there():
             if left.is_overdue() and left.job:
                 self.stop(left, failed(f"timeout {left.job.timeout_said}"))
             elif left.has_orphans():
@@ -670,26 +633,20 @@ class Driver:
     def look_for_leftovers(self, batch: Batch) -> None:
         """Takes the ends of tries of an earlier driver that are over. Of what is over without one
         another try begins."""
-        for it in [it for it in self.left if not it.is_there()]:
-            self.left.remove(it)
-            if not any(that.name == it.name for that in self.left):
+        for it in self.left.take_over():
+            if it.name not in self.left.names():
                 self.facts.busy.discard(it.name)
             self.is_stale = True
-            if it.elsewhere and it.stopped is not None:
-                it.elsewhere.over()
             is_open = it.name not in self.commands and it.name not in self.facts.ends
             if it.counts and it.job and it.is_known() and is_open:
                 self.adopt(it, it.job, batch)
-            elif it.record and it.job:
-                self.tries.forget(it.record)
+            else:
+                self.left.forget(it)
 
     def adopt(self, it: Leftover, job: Job, batch: Batch) -> None:
         """Takes the end of a try that an earlier driver began."""
-        command = Command(job, it.it.group, it.it.number, -1, "")
-        command.adopt(it.told, it.elsewhere, self.files.output(it.it.group, it.it.key,
-                                                               it.it.number))
-        command.record, command.stopped, command.why = it.record, it.stopped, it.why
-        self.commands[job.name] = command
+        output = self.files.output(it.it.group, it.it.key, it.it.number)
+        command = self.commands[job.name] = it.adopted(job, output)
         self.facts.busy.add(job.name)
         self.add_start(batch, command)
         self.is_woken = True
@@ -718,13 +675,13 @@ class Driver:
         """Stops what still runs as the driver ends by a fault; what an earlier one left, only where
         a signal asks for that."""
         is_asked, self.is_cut_off = self.asked_to_end > 1, True
-        self.left = self.left if is_asked else []
+        self.left.its = self.left.its if is_asked else []
         while True:
             for it in [it for it in self.commands.values() if it.poll(self.grace)]:
                 self.facts.ends.pop(it.name, None)  # (whose end isn't acked)
                 self.forget(it)
             self.commands = {name: it for name, it in self.commands.items() if it.has_begun}
-            self.left = [it for it in self.left if it.is_there() and not it.is_late(self.grace)]
+            self.left.its = [it for it in self.left.there() if not it.is_late(self.grace)]
             if not self.commands and not self.left:
                 return
             self.press()

@@ -20,13 +20,13 @@ from .beside import Part
 from .files import Files
 from .jobs import Jobs
 from .log import Log, line_of
-from .night import MOST_KILLED, RENEWAL_SECONDS, NightEnded, ran
+from .night import MOST_KILLED, RENEWAL_SECONDS, NightEnded, Session, ran
 from .opening import advance, give_back, inspected, now_of, opened
 from .past import Past, write_past
 from .plan import standings
 from .rounds import base_of, named
 from .state import ENDED, State
-from .telling import note, tell
+from .telling import note, tell, told_of
 
 
 def renew(files: Files, log: Log, past: Past, jobs: Jobs, wake: int,
@@ -43,7 +43,8 @@ def renew(files: Files, log: Log, past: Past, jobs: Jobs, wake: int,
         note(f"{files.shown}: {said}")
         return past, True
     except (Fault, NightEnded, OSError) as fault:
-        tell(f"{files.shown} is nearly full, and can't be renewed; it is used as it is: {fault}")
+        why = told_of(fault) if isinstance(fault, OSError) else fault
+        tell(f"{files.shown} is nearly full, and can't be renewed; it is used as it is: {why}")
         return past, False
 
 

@@ -45,6 +45,11 @@ def note_once(text: str) -> None:
         note(text)
 
 
+def told_of(error: OSError) -> str:
+    """An error of the system, with the file that it is about."""
+    return f"{error.filename}: {error.strerror}" if error.filename else str(error.strerror)
+
+
 def flush() -> None:
     """Waits a while until all that was told is written."""
     _writer.flush()

@@ -32,7 +32,7 @@ from .files import Files
 from .lock import try_lock
 from .processes import PID, START, Process, lives
 from .rounds import base_of
-from .telling import note_once
+from .telling import note_once, told_of
 
 # How many bytes the lines of the driver and of the shell have.
 HALF = 512
@@ -186,7 +186,7 @@ class Tries:
         try:
             file = self.open(it)
         except OSError as error:
-            note_once(f"{error.filename}: {error.strerror}")
+            note_once(told_of(error))
             return None
         try:
             return told_by(it, file)
@@ -212,7 +212,7 @@ class Tries:
             finally:
                 os.close(file)
         except OSError as error:
-            note_once(f"{error.filename}: {error.strerror}")
+            note_once(told_of(error))
 
     def forget(self, it: Named) -> None:
         """Takes away the file of a try whose end is recorded, or counts for nothing."""
@@ -242,7 +242,7 @@ class Tries:
         except OSError as error:
             if process is None:
                 raise
-            note_once(f"{error.filename}: {error.strerror}")
+            note_once(told_of(error))
 
 
 def told_by(it: Named, file: int) -> Told:

@@ -24,7 +24,7 @@ from .facts import Book, Facts, book_of, facts_of, groups_of, logged_groups, whe
 from .files import Files, become_owner
 from .jobs import Jobs
 from .keeping import Keeper
-from .leftovers import Leftover, counted, end_night, left_commands
+from .leftovers import Leftovers, end_night, left_commands
 from .log import Log
 from .loop import Driver
 from .night import RENEWAL_SECONDS, NightEnded, program, ran
@@ -383,7 +383,7 @@ class Run:
         driver.run()
         return self.finish(driver)
 
-    def begin_driver(self, tries: Tries, left: list[Leftover]) -> Driver:
+    def begin_driver(self, tries: Tries, left: Leftovers) -> Driver:
         self.driver = Driver(self.files, self.jobs, self.log, self.past, tries, left,
                              self.words.most, self.words.grace, self.signals, self.keeper)
         return self.driver
@@ -432,7 +432,7 @@ class Run:
                     if name[0] in facts.done:
                         driver.anew.add(name[0])
         ours = set() if driver.begins_night else groups_of(state, self.past, night)
-        driver.left = counted(driver.left, driver.tries, state, self.past, ours)
+        driver.left.settle(state, self.past, ours)
         self.tell_missing(facts.interrupted)
         has_work = not is_over or driver.begins_night or self.is_rest or bool(
             driver.forgiven or driver.left) or not has_mark and self.is_unsaid(book, facts)
