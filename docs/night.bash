@@ -67,7 +67,7 @@ _night_run() {
             # the groups of the file of commands, if it stands before
             [[ -f ${COMP_WORDS[2]} ]] || return
             mapfile -t COMPREPLY < <(
-                compgen -W "night $(_night_run_groups "${COMP_WORDS[2]}")" -- "$current")
+                compgen -W "night $(_night_run_groups "${COMP_WORDS[2]}" "$current")" -- "$current")
             return ;;
     esac
     if [[ $current == -* ]]; then
@@ -81,8 +81,11 @@ _night_run() {
     fi
 }
 
+# The groups of a file of commands, or its commands once there is a slash.
 _night_run_groups() {
-    awk '$1 ~ /^[a-z0-9_-]+$/ && NF > 2 { print $1 }' "$1" | sort -u
+    local what='$1'
+    [[ ${2-} != */* ]] || what='$1 "/" $2'
+    awk "\$1 ~ /^[a-z0-9_-]+\$/ && \$2 ~ /^[a-z0-9_-]+\$/ && NF > 2 { print $what }" "$1" | sort -u
 }
 
 complete -F _night night

@@ -30,6 +30,7 @@ LEFT = "night-run: night 1 wasn't done: the rest of it comes first\n"
 # Words that are told with the usage.
 UNUSABLE = [("s",), ("s", "JOBS", "-j", "0"), ("s", "JOBS", "-j", "x"), ("s", "JOBS", "--json"),
             ("s", "JOBS", "--failed", "--again"), ("s", "JOBS", "--report", "pdf"),
+            ("s", "JOBS", "--dry-run", "--list"), ("s", "JOBS", "--list", "--again"),
             ("s", "JOBS", "--unknown")]
 
 
@@ -317,6 +318,49 @@ def views(tries: Shared) -> None:
         r"night-run \d+\.\d+\.\d+\n", room.run("--version")[1]))
 
 
+def looks(tries: Shared) -> None:
+    """What is printed of a retry that is due, of what runs, and of what other words would do."""
+    kind = "a look at a night that runs"
+    room = Room(tries, ["g: retries 1 wait 50s", "g a [ -e fine ] || exit 7", "g b until [ -e go ];"
+                        " do sleep 0.1; done", "g c true", "g c: after a", "h d false"])
+    run = room.start()
+    room.until(lambda: len(room.lines("s.log")) == 3 and room.has("s.out/g.b.0"))
+    tries.is_same(f"{kind}: a list", room.path, room.run("s", "JOBS", "--list", errors="errors2"), (
+        0, "g a: waiting: a retry after exit 7\ng b: running\ng c: waiting\nh d: exit 1\n"))
+    tries.is_same(f"{kind}: a dry run", room.path,
+                  room.run("s", "JOBS", "--dry-run", errors="errors2"), (
+                      0, "later g a: a retry after exit 7\nrunning g b\nlater g c\n"
+                      "failed h d: exit 1\n"))
+    kill([run.pid], which=signal.SIGTERM)
+    room.ended(run)
+    room.write("go", "")
+    fresh = ["begin g a: [ -e fine ] || exit 7", "begin g b: until [ -e go ]; do sleep 0.1; done",
+             "begin h d: false", "later g c"]
+    rest = ["begin g b: until [ -e go ]; do sleep 0.1; done",
+            "later g a: a retry after exit 7", "later g c", "failed h d: exit 1"]
+    both = ["night 1, the rest of it:", *rest, "night 2:", "later g a", "later g b", "later g c",
+            "later h d"]
+    retried = ["begin g b: until [ -e go ]; do sleep 0.1; done", "begin h d: false",
+               "later g a: a retry after exit 7", "later g c"]
+    for words, wanted in ((), rest), (("--nightly",), both), (("--again",), fresh), (
+            ("--failed",), retried):
+        status, output = room.run("s", "JOBS", "--dry-run", *words)
+        tries.is_same(f"{kind}: a dry run {' '.join(words)}", room.path,
+                      (status, output.splitlines()), (0, wanted))
+    room.set(["g a true", "g b true"])
+    tries.is_same(f"{kind}: its end", room.path, room.run("s", "JOBS")[0], 1)
+    status, output = room.run("s", "JOBS", "--dry-run", "--nightly")
+    tries.is_same(f"{kind}: a night that has ended", room.path, output,
+                  "begin g a: true\nbegin g b: true\n")
+    kind = "when commands began"
+    room = Room(tries, ["g: limit 1", *(f"g k{it} sleep 0.3" for it in range(5))])
+    tries.is_same(kind, room.path, room.run()[0], 0)
+    its = [it["tries"][0] for it in json.loads(room.run("s", "JOBS", "--list", "--json")[1])]
+    beside = [(one, other) for one, other in zip(its, its[1:])
+              if one["began"] + one["took"] > other["began"] + 0.002]
+    tries.holds(f"{kind}: no two at a time", room.path, not beside and len(its) == 5, beside)
+
+
 def failed(tries: Shared) -> None:
     """--failed, --again and --nightly after failures, cancels and stops."""
     kind = "what failed, again"
@@ -490,5 +534,5 @@ def on_a_terminal(room: Room) -> str:
 
 
 SETTINGS = [retries, timeout, places, shells, cancels, cancels_alone, after, stop_on_failure,
-            limits, summaries, views, failed, missed,
+            limits, summaries, views, looks, failed, missed,
             nightly, astray, keys, terminals]

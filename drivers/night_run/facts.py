@@ -167,8 +167,8 @@ def read_past_ends(facts: Facts, past: Past, lines: Mapping[Tried, Line], now: f
 def read_task(facts: Facts, task: Task, line: Line | None, now: float) -> None:
     if task.end and task.phase in ENDED:
         when = line.ended_at() if line and task.error else None
-        # (the log's moments are whole seconds)
-        facts.ended(task.name, task.end, now if when is None else min(now, when + 1))
+        late = 0 if line and line.is_exact else 1
+        facts.ended(task.name, task.end, now if when is None else min(now, when + late))
     else:
         facts.ends.pop(task.name, None)
         facts.interrupted.add(task.name)

@@ -47,6 +47,11 @@ class Line:
     end: End
     command: str
 
+    @property
+    def is_exact(self) -> bool:
+        """Whether its moments are more than whole seconds, which an older driver wrote."""
+        return "." in self.began
+
     def began_at(self) -> float | None:
         try:
             when = datetime.datetime.fromisoformat(self.began)
@@ -220,6 +225,12 @@ class Log:
         self.write("".join(made))
 
 
+def moment(when: float) -> str:
+    """A moment in this machine's zone, with its milliseconds."""
+    whole = int(when)
+    return time.strftime(f"%Y-%m-%dT%H:%M:%S.{int(when % 1 * 1000):03}%z", time.localtime(whole))
+
+
 def line_of(began: float | None, took: float | None, end: End, command: str) -> Line:
-    when = "-" if began is None else time.strftime("%Y-%m-%dT%H:%M:%S%z", time.localtime(began))
+    when = "-" if began is None else moment(began)
     return Line(when, "-" if took is None else f"{took:.3f}", end, text_of_line(command))

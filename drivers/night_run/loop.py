@@ -696,7 +696,7 @@ class Driver:
 
     @property
     def asked_to_end(self) -> int:
-        """How far it is asked to end: 1 is that nothing more begins, 2 that what runs is stopped."""
+        """How far it is asked to end: 1 is that nothing more begins, 2 that all is stopped."""
         return max(self.signals.steps, 2) if self.is_cut_off else self.signals.steps
 
     def wait(self) -> None:

@@ -9,7 +9,7 @@ from . import Name, rows
 from .escapes import plain
 from .jobs import Jobs
 from .log import Line, Tried, text_of_line
-from .plan import CANCELLED, FAILED, NEVER, NOT_KNOWN, OK
+from .plan import CANCELLED, FAILED, NEVER, NOT_KNOWN, OK, WAITING
 from .report_words import commands
 from .rounds import base_of
 
@@ -25,7 +25,14 @@ def said(row: rows.Row) -> str:
     """How a command stands, in a line."""
     if row.phase in (NEVER, NOT_KNOWN):
         return f"{row.phase}: {row.end}"
+    if row.phase == WAITING and row.end:
+        return f"{row.phase}: {retry(row.end)}"
     return row.end or row.phase
+
+
+def retry(end: str) -> str:
+    """How one that failed is told while a retry is left."""
+    return f"a retry after {end}"
 
 
 def list_lines(report: rows.Report) -> list[str]:

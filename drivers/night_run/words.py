@@ -30,7 +30,8 @@ from .loop import Driver
 from .night import RENEWAL_SECONDS, NightEnded, program, ran
 from .opening import check, inspected
 from .past import Past, Unreadable, read_past
-from .plan import CANCELLED, FAILED, may_begin, standings
+from .plan import standings
+from .plans import Wish, forgiven, is_left, planned
 from .renewal import make, make_anew, renew
 from .report_words import last_end
 from .rounds import Role, role_name
@@ -116,7 +117,8 @@ def read_words(given: list[str]) -> argparse.Namespace:
               "                       [--failed | --again | --nightly | --resume]\n"
               "                       [--on-begin COMMAND] [--on-success COMMAND]\n"
               "                       [--on-failure COMMAND]\n"
-              "       night-run STORE JOBS --list [--json] | --dry-run | --report html|text|prom\n"
+              "       night-run STORE JOBS --list [--json] | --report html|text|prom\n"
+              "       night-run STORE JOBS --dry-run [--failed | --again | --nightly]\n"
               "       night-run STORE [JOBS] --cancel GROUP[/KEY] [WHY..]\n"
               "       night-run --version | --help",
         formatter_class=argparse.RawDescriptionHelpFormatter)
@@ -149,13 +151,14 @@ def read_words(given: list[str]) -> argparse.Namespace:
     what.add_argument("--resume", action="store_true",
                       help="run what is left of the night, and else nothing, as after a reboot")
     what.add_argument("--list", action="store_true", help="print what isn't ok, and change nothing")
-    what.add_argument("--dry-run", action="store_true",
-                      help="print what would be begun, and change nothing")
     what.add_argument("--report", choices=FORMS, metavar="html|text|prom",
                       help="print the night as a page, a text for a mail, or metrics")
     what.add_argument("--cancel", nargs="+", metavar=("GROUP", "WHY"),
                       help="cancel a group, a command (GROUP/KEY), or `night`, which is all of"
                       " them, also while another night-run runs it")
+    reader.add_argument("--dry-run", action="store_true",
+                        help="print what would be begun, also with --failed, --again or --nightly,"
+                        " and change nothing")
     reader.add_argument("--json", action="store_true", help="with --list: every command, as JSON")
     reader.add_argument("--version", action="version", version=f"night-run {version()}")
     found = reader.parse_args(given)
@@ -163,6 +166,8 @@ def read_words(given: list[str]) -> argparse.Namespace:
         reader.error("the file JOBS is missing")
     if found.json and not found.list:
         reader.error("--json goes with --list")
+    if found.dry_run and (found.list or found.report or found.cancel):
+        reader.error("--dry-run goes with none of --list, --report and --cancel")
     return found
 
 
@@ -245,30 +250,21 @@ def shown(files: Files, jobs: Jobs, words: argparse.Namespace) -> list[str]:
         form = {"html": forms.html, "text": forms.text, "prom": forms.prom}[words.report]
         return [form(made).rstrip("\n")]
     if words.dry_run:
-        return planned(jobs, view, words.most)
+        return planned(jobs, view, words.most, wish_of(words))
     if words.json:
         return [json.dumps([as_json(it) for it in made.rows], indent=1)]
     return list_lines(made)
+
+
+def wish_of(words: argparse.Namespace) -> Wish:
+    its = {Wish.FAILED: words.failed, Wish.AGAIN: words.again, Wish.NIGHTLY: words.nightly}
+    return next((wish for wish, is_said in its.items() if is_said), Wish.REST)
 
 
 def as_json(row: rows.Row) -> dict[str, object]:
     made = dataclasses.asdict(row)
     made["tail"] = list(row.tail)
     return made
-
-
-def planned(jobs: Jobs, view: View, most: int) -> list[str]:
-    """What a run would do with each command, those first that it would begin at once."""
-    left = [name for name, it in view.standings.items() if not it.is_final]
-    at_once = may_begin(jobs, view.facts, left, max(0, most - len(view.facts.busy)), time.time())
-    lines = [f"begin {' '.join(it)}: {jobs.all[it].command}" for it in at_once.names]
-    for name, it in view.standings.items():
-        if name in at_once.names:
-            continue
-        what = "later" if not it.is_final else it.phase
-        why = f": {it.why}" if it.why else ""
-        lines.append(f"{what} {' '.join(name)}{why}")
-    return lines
 
 
 # --- a night
@@ -426,11 +422,8 @@ class Run:
         if self.is_rest and not is_over:
             note(f"night {night} wasn't done: the rest of it comes first")
         if self.words.failed:
-            for name, it in found.items():
-                if it.phase in (FAILED, CANCELLED):
-                    driver.forgiven[name] = facts.failures.get(name, 0)
-                    if name[0] in facts.done:
-                        driver.anew.add(name[0])
+            driver.forgiven = forgiven(found, facts)
+            driver.anew = {group for group, _ in driver.forgiven if group in facts.done}
         ours = set() if driver.begins_night else groups_of(state, self.past, night)
         driver.left.settle(state, self.past, ours)
         self.tell_missing(facts.interrupted)
@@ -496,12 +489,3 @@ class Run:
         return self.with_rest(Outcome(
             status, lines=lines, failed=failed_count(made), left=left_count(made),
             has_run=has_run, is_silent=is_silent), made.night)
-
-
-def is_left(state: State, past: Past) -> bool:
-    """Whether the last night hasn't been brought to its end: the store has no mark of that."""
-    if not state.scopes[1:] and not past.round:
-        return False
-    night = max(state.night(), past.night)
-    top = book_of(state, past, night).top
-    return top is None or role_name(top.name, Role.ENDED) not in state.by_name

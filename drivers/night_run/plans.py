@@ -1,0 +1,81 @@
+"""What a run would do, by its words: which night it is of, what runs again, and what `--dry-run`
+prints of that."""
+
+from __future__ import annotations
+
+import enum
+import time
+from collections.abc import Mapping
+
+from . import Name
+from .facts import Facts, book_of, facts_of
+from .jobs import Jobs
+from .past import Past
+from .plan import CANCELLED, FAILED, RUNNING, WAITING, Standing, may_begin, standings
+from .rounds import Role, role_name
+from .state import State
+from .summary import retry
+from .views import View
+
+
+class Wish(enum.Enum):
+    """What a run is to do besides what is left."""
+
+    REST = "rest"
+    FAILED = "failed"
+    AGAIN = "again"
+    NIGHTLY = "nightly"
+
+
+def is_left(state: State, past: Past) -> bool:
+    """Whether the last night hasn't been brought to its end: the store has no mark of that."""
+    if not state.scopes[1:] and not past.round:
+        return False
+    night = max(state.night(), past.night)
+    top = book_of(state, past, night).top
+    return top is None or role_name(top.name, Role.ENDED) not in state.by_name
+
+
+def forgiven(found: Mapping[Name, Standing], facts: Facts) -> dict[Name, int]:
+    """The commands that `--failed` runs again, with how often each had failed."""
+    return {name: facts.failures.get(name, 0) for name, it in found.items()
+            if it.phase in (FAILED, CANCELLED)}
+
+
+def planned(jobs: Jobs, view: View, most: int, wish: Wish) -> list[str]:
+    """What a run would do with each command, those first that it would begin at once."""
+    is_rest = wish is Wish.NIGHTLY and is_left(view.state, view.past)
+    if wish is Wish.FAILED:
+        return lines(jobs, again(view), most)
+    if wish is Wish.REST or not view.state.scopes[1:] and not view.past.round:
+        return lines(jobs, view.facts, most)
+    anew = Facts(busy=set(view.facts.busy))
+    if not is_rest:
+        return lines(jobs, anew, most)
+    night = view.book.night
+    return [f"night {night}, the rest of it:", *lines(jobs, view.facts, most),
+            f"night {night + 1}:", *(f"later {' '.join(it)}" for it in jobs.all)]
+
+
+def again(view: View) -> Facts:
+    """The facts once failures are forgiven, and the groups of what is forgiven made anew."""
+    its = forgiven(view.standings, view.facts)
+    facts = facts_of(view.state, view.past, view.lines, view.book, time.time(), its)
+    facts.busy = set(view.facts.busy)
+    for group, _ in its:
+        facts.done.pop(group, None)
+    return facts
+
+
+def lines(jobs: Jobs, facts: Facts, most: int) -> list[str]:
+    found = standings(jobs, facts)
+    left = [name for name, it in found.items() if not it.is_final]
+    at_once = may_begin(jobs, facts, left, max(0, most - len(facts.busy)), time.time())
+    made = [f"begin {' '.join(it)}: {jobs.all[it].command}" for it in at_once.names]
+    return made + [line(name, it) for name, it in found.items() if name not in at_once.names]
+
+
+def line(name: Name, it: Standing) -> str:
+    what = it.phase if it.is_final or it.phase == RUNNING else "later"
+    why = retry(it.why) if it.phase == WAITING and it.why else it.why
+    return f"{what} {' '.join(name)}" + (f": {why}" if why else "")
