@@ -52,7 +52,7 @@ def strange_numbers(tries: Shared) -> None:
         os.makedirs(os.path.dirname(f"{room.path}/{name}"), 0o700, exist_ok=True)
         room.write(name, f"{line}\n")
         what = line.replace(LONG, "9..").replace(boot, "BOOT")
-        found = room.run(seconds=20)
+        found = room.run(seconds=90)
         tries.is_same(kind, what, (found, "Traceback" in room.errors),
                       ((0, "1 command: 1 ok; 1 run now\n"), False))
         room.write(name, f"{line}\n")
@@ -120,7 +120,7 @@ def not_printed(tries: Shared) -> None:
                   ("0\n", room.text("out")))
 
 
-def left(tries: Shared) -> None:
+def commands_left(tries: Shared) -> None:
     """Commands that are left are told, too: by a store that is full, and after a signal."""
     kind = "an alarm where commands are left"
     room = Room(tries, [f"g k{it} true" for it in range(8)])
@@ -146,14 +146,22 @@ def left(tries: Shared) -> None:
     room = Room(tries, [job("g", "a")])
     with locked(f"{room.path}/s.lock"):
         run = room.start("s", "JOBS", "--on-failure", ALARM)
-        room.until(lambda: room.has("s.lock"))
-        time.sleep(1)
+        room.until(lambda: hears_term(run.pid))
         began = time.monotonic()
         kill([run.pid], which=signal.SIGTERM)
         found = room.ended(run)
     tries.is_same(f"{kind}: before it began", room.path, (found, room.errors, alarmed(room)), (
         (3, ""), "night-run: ended before it began\n", [["3", "0", "0"]]))
-    tries.holds(f"{kind}: at once", room.path, time.monotonic() < began + 2)
+    took = time.monotonic() - began
+    tries.holds(f"{kind}: the lock isn't waited for", room.path, took < 30, took)
+
+
+def hears_term(pid: int) -> bool:
+    """Whether a process has a handler of SIGTERM."""
+    with contextlib.suppress(OSError), open(f"/proc/{pid}/status", encoding="ascii") as file:
+        caught = re.search(r"^SigCgt:\s*(\w+)$", file.read(), re.M)
+        return caught is not None and bool(int(caught[1], 16) >> (signal.SIGTERM - 1) & 1)
+    return False
 
 
 def hung_alarm(tries: Shared) -> None:
@@ -168,7 +176,7 @@ def hung_alarm(tries: Shared) -> None:
     began = time.monotonic()
     kill([run.pid], which=signal.SIGTERM)
     found, took = room.ended(run)[0], time.monotonic() - began
-    tries.is_same(f"{kind}: a signal ends it", room.path, (found, took < 10, room.errors), (
+    tries.is_same(f"{kind}: a signal ends it", room.path, (found, took < 40, room.errors), (
         1, True, "night-run: --on-failure: it was ended, as a signal asked for\n"))
     tries.is_same(f"{kind}: nothing is left of it", room.path,
                   [it for it in environments(room.path) if "sleep\x007" in it], [])
@@ -179,7 +187,7 @@ def hung_alarm(tries: Shared) -> None:
     began = time.monotonic()
     made.run("x" * 100_000, {})
     took = time.monotonic() - began
-    tries.is_same(f"{kind}: its time", room.path, (took < 5, told, len(room.text("input"))),
+    tries.is_same(f"{kind}: its time", room.path, (took < 40, told, len(room.text("input"))),
                   (True, ["--on-failure: it was ended, since it took 0 s"], 100_000))
     for command, why in (("exit 7", "it ended with status 7"), ("kill -9 $$", "signal 9 ended it"),
                          ("true < /dev/null", "")):
@@ -210,7 +218,7 @@ def stalled_output(tries: Shared) -> None:
             "s", "JOBS", "--nightly", errors="errors2"), (0, "1 command: 1 ok; 1 run now"))
         tries.is_same(f"{kind}: it does", room.path, run.poll(), None)
         kill([run.pid], which=signal.SIGTERM)
-        tries.is_same(f"{kind}: a signal", room.path, (room.ended(run, 20)[0], room.errors), (
+        tries.is_same(f"{kind}: a signal", room.path, (room.ended(run, 90)[0], room.errors), (
             3, "night-run: standard output: a signal came\n"))
     os.close(ours)
 
@@ -274,8 +282,8 @@ def stalled_terminal(tries: Shared) -> None:
                           start_new_session=True, env={**os.environ, "NIGHT": room.night}) as run:
         room.until(lambda: room.lines("begun"))
         termios.tcflow(its, termios.TCOOFF)
-        done = room.until(lambda: len(room.lines("done")) == 30, 20)
-        ended = room.until(lambda: run.poll() is not None, 20)
+        done = room.until(lambda: len(room.lines("done")) == 30, 60)
+        ended = room.until(lambda: run.poll() is not None, 60)
         termios.tcflow(its, termios.TCOON)
         os.close(its)
         os.close(ours)
@@ -362,5 +370,6 @@ def heard_signals(tries: Shared) -> None:
                                                    signals.drain()), (True, True, False))
 
 
-EXITS = [outcomes, heard_signals, white_lines, strange_numbers, nothing_runs, not_printed, left,
-         hung_alarm, stalled_output, begin_and_success, unforeseen, stalled_terminal, writers]
+EXITS = [outcomes, heard_signals, white_lines, strange_numbers, nothing_runs, not_printed,
+         commands_left, hung_alarm, stalled_output, begin_and_success, unforeseen,
+         stalled_terminal, writers]
