@@ -422,6 +422,23 @@ def never_began(tries: Shared) -> None:
     on_full_disk(tries, kind, part)
 
 
+def full_at_first(tries: Shared) -> None:
+    """A night that begins while the disk is full waits for room."""
+    kind = "a disk that is full from the first moment"
+
+    def part(room: Room) -> None:
+        room.set([job("g", "first"), job("g", "a")])
+        fill(f"{room.path}/m")
+        run = room.start("m/s", "JOBS")
+        told = "/s.tries: No space left on device: commands are begun later\n"
+        tries.holds(f"{kind}: it waits", room.path,
+                    room.until(lambda: told in room.text("errors"), 30), room.text("errors"))
+        os.remove(f"{room.path}/m/hog")
+        tries.is_same(kind, room.path, room.ended(run), (0, "2 commands: 2 ok; 1 run now\n"))
+
+    on_full_disk(tries, kind, part)
+
+
 def ends_on_full_disk(tries: Shared) -> None:
     """A full disk takes neither the end of a command that outlives its driver, nor a command from a
     driver whose `night` dies."""
@@ -502,4 +519,5 @@ def renewed_badly(tries: Shared) -> None:
 
 
 TRIES = [outlived, outlived_twice, of_its_shell, passed_meanwhile, keeps, cut_off, of_others,
-         forged, another_process, given, never_began, ends_on_full_disk, torn_far, renewed_badly]
+         forged, another_process, given, full_at_first, never_began,
+         ends_on_full_disk, torn_far, renewed_badly]

@@ -95,7 +95,11 @@ class Far:
             os.close(self.files.open(Part.FAR, os.O_WRONLY | os.O_TRUNC))
 
     def note(self, it: Named, how: str) -> None:
-        """Adds a line, durably; OSError where that can't be."""
+        """Adds a line, durably; OSError, which names the file, where that can't be."""
+        with naming(self.shown):
+            self.add(f"{it} {how}\n")
+
+    def add(self, line: str) -> None:
         if self.file < 0:
             self.file = self.files.open(Part.FAR, os.O_RDWR | os.O_APPEND | os.O_CREAT)
             size = os.fstat(self.file).st_size
@@ -103,14 +107,13 @@ class Far:
             os.ftruncate(self.file, size - len(end))
             self.files.folder.sync()
         size = os.fstat(self.file).st_size
-        with naming(self.shown):
-            try:
-                write_all(self.file, f"{it} {how}\n".encode())
-                os.fsync(self.file)
-            except OSError:
-                # (a line that a full disk has cut off would be glued to the next one)
-                os.ftruncate(self.file, size)
-                raise
+        try:
+            write_all(self.file, line.encode())
+            os.fsync(self.file)
+        except OSError:
+            # (a line that a full disk has cut off would be glued to the next one)
+            os.ftruncate(self.file, size)
+            raise
 
 
 def store_name(path: str) -> str:

@@ -229,19 +229,18 @@ class Tries:
             return None
         return Process(found[1], int(found[2]), int(found[3])) if found else None
 
-    def sign_night(self, process: Process | None) -> None:
-        """Writes which process the `night` of this driver is; None before there is one, where the
-        file is made."""
-        text = f"process {process.boot} {process.pid} {process.start}\n" if process else ""
+    def sign_night(self, process: Process) -> None:
+        """Writes which process the `night` of this driver is, over what the last one wrote: a disk
+        that is full keeps no night from beginning."""
+        text = f"process {process.boot} {process.pid} {process.start}\n"
         try:
             with self.folder.named(NIGHT):
                 if self.night < 0:
-                    self.night = self.made(NIGHT)
-                    write_all(self.night, b"\n" * HALF)
+                    self.night = self.folder.open(NIGHT, os.O_RDWR | os.O_CREAT)
                 os.pwrite(self.night, text.encode("ascii").ljust(HALF, b"\n"), 0)
+        except NotOurs:
+            raise
         except OSError as error:
-            if process is None:
-                raise
             note_once(told_of(error))
 
 

@@ -353,7 +353,6 @@ class Run:
     def run_alone(self) -> Outcome:
         tries = Tries(self.files)
         end_night(self.files, tries)
-        tries.sign_night(None)
         left = left_commands(self.files, tries, self.jobs)
         self.files.keep_others_out()
         if not self.files.exists():
