@@ -9,7 +9,7 @@
     cancels    what another terminal asks for      renewal     of a store that is nearly full
     files      what lies beside the store          past, log   two of these files
     views      rows for a list and a report        summary     what is printed at the end
-    exits      the one way out of a run            alarms      --on-begin, --on-success, --on-failure
+    exits      the one way out of a run            alarms      what is run as a night ends
     signals    what asks for the end               terminal    standard error, never waited for
     keeping    what is kept of earlier nights      nights      when these began: STORE.nights
     mounts     looks that may never end            clock       whether the machine's is set
