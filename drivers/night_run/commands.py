@@ -76,13 +76,16 @@ class Running:
                 self.elsewhere.stop()
             self.stopped, self.why = time.monotonic(), why
             if self.is_here:
-                signal_group(self.pid, signal.SIGTERM)
+                self.signal(signal.SIGTERM)
 
     def press(self, grace: float) -> None:
         if self.stopped is not None and not self.is_killed and self.is_here \
                 and time.monotonic() >= self.stopped + grace:
             self.is_killed = True
-            signal_group(self.pid, signal.SIGKILL)
+            self.signal(signal.SIGKILL)
+
+    def signal(self, which: signal.Signals) -> None:
+        signal_group(self.pid, which)
 
     def is_late(self, grace: float) -> bool:
         """Whether one that was stopped is asked for no more, wherever it may run."""

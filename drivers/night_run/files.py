@@ -18,6 +18,7 @@
 
 from __future__ import annotations
 
+import codecs
 import contextlib
 import functools
 import os
@@ -223,6 +224,8 @@ def become_owner(given: str) -> None:
 
 
 def go_on_as(uid: int) -> None:
+    for it in ("ascii", "utf-8", "latin-1"):
+        codecs.lookup(it)  # (Python reads it from where that user may not be able to)
     try:
         found = pwd.getpwuid(uid)
         group, name = found.pw_gid, found.pw_name

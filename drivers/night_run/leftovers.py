@@ -24,10 +24,10 @@ from .far import Elsewhere, Far, is_recorded, outstanding
 from .files import Files, leave_mark
 from .jobs import Job, Jobs
 from .lock import try_lock
-from .night import WHOLE_SECONDS
+from .night import WHOLE_SECONDS, of_session
 from .past import Past
 from .processes import (NO_COMMAND, PID, START, Process, Tried, age, boot, group_exists, is_held,
-                        lives, ours_in, signal_group, stat_of)
+                        kill_ours, lives, ours_in, signal_group, signal_ours, stat_of)
 from .rounds import base_of
 from .settings import OF_ALL
 from .state import State
@@ -90,6 +90,15 @@ class Leftover(Running):
         return self.is_here or self.elsewhere is not None and not is_ok \
             and not self.elsewhere.is_over()
 
+    def signal(self, which: signal.Signals) -> None:
+        """Signals its process group: its shell holds the lock of its file, or a process of the
+        group is known for the try's. Its number alone may be somebody else's by now."""
+        if self.file >= 0 and self.has_shell():
+            signal_group(self.pid, which)
+        elif not signal_ours(self.pid, self.tried, which):
+            note_once(f"{' '.join(self.name)}: process {self.pid} isn't known for its own, and is"
+                      " left alone")
+
     # --- its end
 
     def is_overdue(self) -> bool:
@@ -110,9 +119,9 @@ class Leftover(Running):
         now = time.monotonic()
         if self.cleared is None:
             self.cleared = now
-            signal_group(self.pid, signal.SIGTERM)
+            self.signal(signal.SIGTERM)
         elif now >= self.cleared + grace:
-            signal_group(self.pid, signal.SIGKILL)
+            self.signal(signal.SIGKILL)
 
     def is_known(self) -> bool:
         """Whether it is known how it ended, once nothing of it is there."""
@@ -308,8 +317,8 @@ def end_night(files: Files, tries: Tries) -> None:
                       f" a sync of {files.shown}")
         if waited >= (WHOLE_SECONDS if held else PATIENCE):
             leave_mark(files.path)
-            note(f"the `night` of the last run didn't end: process {it.pid} is killed")
-            with contextlib.suppress(ProcessLookupError, PermissionError):
-                os.kill(it.pid, signal.SIGKILL)
+            is_killed = kill_ours(it, of_session(files.path))
+            note(f"the `night` of the last run didn't end: process {it.pid} " + (
+                "is killed" if is_killed else "isn't known for it, and is left alone"))
             return
         time.sleep(0.01)

@@ -19,7 +19,8 @@ from typing import Any
 
 from . import Fault
 from .files import leave_mark
-from .processes import is_held
+from .processes import Tried, is_held
+from .settings import OF_ALL
 from .telling import note
 
 # So many lines are sent before their replies are read. They have 256 bytes at most, and replies
@@ -129,6 +130,11 @@ def refusal(reply: str) -> int | None:
     return int(found[1]) if found else None
 
 
+def of_session(store: str) -> Tried:
+    """What the environment of a `night script` says, as that of a try does."""
+    return Tried(store, OF_ALL, "script", 0)
+
+
 class Session:
     """A run of `night script` over a store. While a reply is waited for, what comes by `wake` is
     served by `meanwhile`, which says how many seconds may still pass, if fewer than usual; `asked`
@@ -139,7 +145,8 @@ class Session:
         self.store, self.meanwhile, self.asked = store, meanwhile, asked
         self.it = subprocess.Popen(
             [program(), "script", store], stdin=subprocess.PIPE, stdout=subprocess.PIPE,
-            stderr=subprocess.PIPE, bufsize=0, start_new_session=True)
+            stderr=subprocess.PIPE, bufsize=0, start_new_session=True,
+            env={**os.environ, **of_session(store).environment()})
         assert self.it.stdin and self.it.stdout and self.it.stderr
         self.lines, self.replies, self.told = self.it.stdin, self.it.stdout, self.it.stderr
         os.set_blocking(self.replies.fileno(), False)

@@ -164,21 +164,34 @@ def ours_in(group: int, tried: Tried) -> int | None:
     return next((it.pid for it in members(group) if not it.is_dead and is_of(it.pid, tried)), None)
 
 
-def signal_ours(group: int, tried: Tried, which: signal.Signals) -> bool:
-    """Signals a group of a try, whoever began it; whether one of its processes is known for the
-    try's. Its descriptor is held meanwhile, so that the number is nobody else's."""
-    found = ours_in(group, tried)
-    if found is None:
-        return False
+@contextlib.contextmanager
+def pinned(pid: int) -> Iterator[int]:
+    """A descriptor of a process, whose number nobody else gets while it is looked at."""
+    file = os.pidfd_open(pid)
     try:
-        held = os.pidfd_open(found)
-    except OSError:
-        return False
-    try:
-        now = stat_of(found)
-        if now is None or now.group != group or not is_of(found, tried):
-            return False
-        signal_group(group, which)
-        return True
+        yield file
     finally:
-        os.close(held)
+        os.close(file)
+
+
+def signal_ours(group: int, tried: Tried, which: signal.Signals) -> bool:
+    """Signals a group of a try, whoever began it, and says whether one of its processes is known
+    for the try's. No other group is signaled, whatever a list says."""
+    pid = ours_in(group, tried)
+    if pid is None:
+        return False
+    with contextlib.suppress(OSError), pinned(pid):
+        found = stat_of(pid)
+        if found and found.group == group and is_of(pid, tried):
+            signal_group(group, which)
+            return True
+    return False
+
+
+def kill_ours(it: Process, tried: Tried) -> bool:
+    """Kills a process that somebody else began, and says whether it is known for this."""
+    with contextlib.suppress(OSError), pinned(it.pid) as file:
+        if lives(it) and is_of(it.pid, tried):
+            signal.pidfd_send_signal(file, signal.SIGKILL)
+            return True
+    return False

@@ -7,6 +7,7 @@ done; 1 where a command isn't; 2 where the words or the file have to be changed;
 from __future__ import annotations
 
 import argparse
+import contextlib
 import dataclasses
 import json
 import os
@@ -220,6 +221,8 @@ def word_after(flag: str, given: list[str]) -> str | None:
 def looked(words: argparse.Namespace) -> Outcome:
     """What is asked for besides a night: a list, a report, a cancel."""
     try:
+        if words.report:
+            from . import report as _  # (which its owner may not be able to read)
         become_owner(words.store)
         files = Files(words.store)
         files.look()
@@ -231,13 +234,18 @@ def looked(words: argparse.Namespace) -> Outcome:
 
 
 def keep_streams_open() -> None:
-    """Opens /dev/null in the place of streams that are closed, so that no file gets there."""
+    """Opens /dev/null in the place of streams that are closed, so that no file gets there. What
+    else the caller has open isn't for commands."""
     while True:
         file = os.open(os.devnull, os.O_RDWR)
         if file > 2:
             os.close(file)
-            return
+            break
         os.set_inheritable(file, True)
+    for it in map(int, os.listdir("/proc/self/fd")):
+        if it > 2:
+            with contextlib.suppress(OSError):  # (that of the list itself)
+                os.set_inheritable(it, False)
 
 
 # --- what only reads
