@@ -286,7 +286,7 @@ class Folder:
             if found and error.errno == errno.ELOOP:
                 raise NotOurs(shown, f"it is a link of {name_of(found.st_uid)}'s: nothing beside a"
                                      " store is one; remove it") from None
-            if found and error.errno == errno.ENXIO:
+            if found and (error.errno == errno.ENXIO or not is_trusted(found.st_uid)):
                 judge_file(found, shown, self.file)
             if found and error.errno in (errno.EACCES, errno.EPERM):
                 why += f"; it belongs to {name_of(found.st_uid)}, mode {mode_of(found)}"

@@ -22,7 +22,7 @@ import stat
 from collections.abc import Iterator, Mapping
 from dataclasses import dataclass
 
-from .beside import Folder, Part
+from .beside import Folder, Part, is_trusted
 from .files import Files
 from .processes import PID, START, Process, lives, this_process
 from .rounds import base_of
@@ -61,7 +61,7 @@ def process_of(name: str) -> Process | None:
 def opened(files: Files) -> Iterator[Folder]:
     """The folder, which is made where it isn't there, or where an older driver's file is."""
     found = files.stat(Part.CANCEL)
-    if found and stat.S_ISREG(found.st_mode):
+    if found and stat.S_ISREG(found.st_mode) and is_trusted(found.st_uid):
         files.remove(Part.CANCEL)
     with contextlib.closing(files.below(Part.CANCEL, make=True)) as folder:
         yield folder

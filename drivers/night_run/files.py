@@ -28,7 +28,7 @@ import subprocess
 import time
 
 from . import Fault, Mistake
-from .beside import Folder, NotOurs, Part, name_of, way_to
+from .beside import Folder, NotOurs, Part, is_trusted, name_of, way_to
 from .escapes import plain
 from .lock import Lock
 
@@ -39,8 +39,6 @@ LOOK, OF_FOLDER = 0.3, 2.0
 # So often the system is advised to drop a store's pages, and so many seconds are between: what
 # something else of it holds for a moment stays.
 ADVISED, BETWEEN = 4, 0.005
-# Those that a night reads and writes. What an older driver let others read is theirs no more.
-KEPT = (Part.STORE, Part.LOG, Part.ENDED, Part.FAR, Part.NIGHTS)
 
 
 def leave_mark(store: str) -> None:
@@ -162,20 +160,21 @@ class Files:
             return
         if not stat.S_ISREG(found.st_mode):
             raise Mistake(f"{self.shown}: it is no regular file, and so no store")
+        os.close(self.open(Part.STORE))
         had = self.lock.size()
         if had and found.st_size < had:
             raise Fault(f"{self.shown} has {found.st_size} bytes, and had {had}: it was cut off;"
                         " bring back a whole copy of it")
         if found.st_size not in SIZES:
             raise Mistake(f"{self.shown}: it has {found.st_size} bytes, and so is no store")
-        os.close(self.open(Part.STORE))
 
     def keep_others_out(self) -> None:
-        """Takes from others what an older driver let them read. (What is neither a file nor a link
-        ends no night here: who needs it says so.)"""
-        for part in KEPT:
+        """Takes from others what an older driver let them read; what is theirs is a fault. (What is
+        ours, and no file, ends no night here: who needs it says so.)"""
+        for part in Part:
             found = self.stat(part)
-            if found and (stat.S_ISREG(found.st_mode) or stat.S_ISLNK(found.st_mode)):
+            is_file = found and (stat.S_ISREG(found.st_mode) or stat.S_ISLNK(found.st_mode))
+            if found and (is_file or not is_trusted(found.st_uid)):
                 self.folder.tighten(self.name(part))
         self.below(Part.OUT, make=True).close()
 

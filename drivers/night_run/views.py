@@ -115,8 +115,8 @@ def without_past(files: Files, jobs: Jobs, why: str) -> rows.Report:
 def row(files: Files, view: View, command: str, name: Name,
         tries: list[tuple[str, rows.Try]]) -> rows.Row:
     standing = view.standings[name]
-    output = next((path for path in (files.output(group, name[1], it.number)
-                                     for group, it in reversed(tries)) if files.has_output(path)), "")
+    named = (files.output(group, name[1], it.number) for group, it in reversed(tries))
+    output = next(filter(files.has_output, named), "")
     return rows.Row(*name, command, standing.phase, standing.why, tuple(it for _, it in tries),
                     files.shown_output(output), tail(files, output))
 
