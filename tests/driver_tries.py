@@ -161,6 +161,17 @@ def passed_meanwhile(tries: Shared) -> None:
     room.agrees(kind)
 
 
+def limited(tries: Shared) -> None:
+    """More ends come at a time than the file of commands lets run at a time now."""
+    kind = "a limit that is less than what has ended"
+    jobs = [waiting("g", f"k{it}", "exit 3" if it == 1 else "") for it in range(4)]
+    room = left(tries, kind, ["g: limit 4", *jobs], count=4)
+    has_settled(room, kind)
+    room.set(["g: limit 1", *jobs])
+    tries.is_same(kind, room.path, (room.last(), room.errors, room.begun()), (
+        (1, "4 commands: 3 ok, 1 failed; 4 run now"), "", {f"g.k{it}": 1 for it in range(4)}))
+
+
 def keeps(tries: Shared) -> None:
     """`background keep`: its end is taken, and what it left lives on; else that goes."""
     for setting, kept in (("", False), ("g: background keep", True)):
@@ -428,6 +439,8 @@ def full_at_first(tries: Shared) -> None:
 
     def part(room: Room) -> None:
         room.set([job("g", "first"), job("g", "a")])
+        # (what is written over in place there needs no room)
+        shutil.rmtree(f"{room.path}/m/s.tries", ignore_errors=True)
         fill(f"{room.path}/m")
         run = room.start("m/s", "JOBS")
         told = "/s.tries: No space left on device: commands are begun later\n"
@@ -518,6 +531,6 @@ def renewed_badly(tries: Shared) -> None:
         " directory\n"))
 
 
-TRIES = [outlived, outlived_twice, of_its_shell, passed_meanwhile, keeps, cut_off, of_others,
-         forged, another_process, given, full_at_first, never_began,
+TRIES = [outlived, outlived_twice, of_its_shell, passed_meanwhile, limited, keeps, cut_off,
+         of_others, forged, another_process, given, full_at_first, never_began,
          ends_on_full_disk, torn_far, renewed_badly]

@@ -222,14 +222,15 @@ class Leftovers:
         self.its.append(left)
         return True
 
-    def take_over(self) -> list[Leftover]:
-        """Those that are over by now; they are dropped here."""
-        gone = [it for it in self.its if not it.is_there()]
-        self.its = [it for it in self.its if it not in gone]
-        for it in gone:
-            if it.elsewhere and it.stopped is not None:
-                it.elsewhere.over()
-        return gone
+    def over(self) -> list[Leftover]:
+        """Those that are over by now."""
+        return [it for it in self.its if not it.is_there()]
+
+    def drop(self, it: Leftover) -> None:
+        """Loses sight of one that is over."""
+        self.its.remove(it)
+        if it.elsewhere and it.stopped is not None:
+            it.elsewhere.over()
 
     def forget(self, it: Leftover) -> None:
         """One that is over and of which no end is known, or counts. (What isn't in the file of

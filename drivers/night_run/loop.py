@@ -633,7 +633,12 @@ class Driver:
     def look_for_leftovers(self, batch: Batch) -> None:
         """Takes the ends of tries of an earlier driver that are over. Of what is over without one
         another try begins."""
-        for it in self.left.take_over():
+        for it in self.left.over():
+            # (a limit may be less than what runs, where the file has another one now)
+            limit = self.jobs.limit(it.name[0]) if it.counts and it.job else None
+            if limit is not None and sum(name[0] == it.name[0] for name in self.commands) >= limit:
+                continue
+            self.left.drop(it)
             if it.name not in self.left.names():
                 self.facts.busy.discard(it.name)
             self.is_stale = True
