@@ -354,7 +354,7 @@ def faults(tries: Shared) -> None:
     tries.is_same("a second driver", room.path,
                   (room.run(errors="errors2"), room.text("errors2")),
                   ((3, ""), "night-run: s: in use by another night-run\n"))
-    room.write("go", "")
+    kill([run.pid], which=signal.SIGTERM)
     room.ended(run)
     found = room.run("s", "--cancel", "g", "too", "late"), room.run("s", "--cancel", "h")
     tries.is_same("a cancel without a driver", room.path, found, (

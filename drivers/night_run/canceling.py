@@ -115,24 +115,25 @@ class Alone:
 
     def cancel(self, target: Target, why: str) -> str:
         top = self.book.top
+        scope = top if target.group == OF_ALL else self.book.scopes.get(target.group)
+        if scope is None:
+            raise Mistake(f"{self.files.shown} has no group {target.group}")
         if top and role_name(top.name, Role.ENDED) in self.state.by_name:
             raise Mistake(f"{self.files.shown}: night {self.night} has ended, and nothing of it is"
                           " left to cancel")
-        found = self.command(target, why) if target.key else self.group(target.group, why)
+        found = self.command(target, why, scope.name) if target.key else \
+            self.group(target.group, why, scope.name)
         for name in sorted(running_now(self.files)):
             if name == target.name or not target.key and target.group in (OF_ALL, name[0]):
                 note(f"{' '.join(name)} still runs from the last run; the next one stops it")
         return found
 
-    def group(self, group: str, why: str) -> str:
-        scope = self.book.top if group == OF_ALL else self.book.scopes.get(group)
-        if scope is None:
-            raise Mistake(f"{self.files.shown} has no group {group}")
+    def group(self, group: str, why: str, scope: str) -> str:
         key = why.partition(" ")[0]
         if key in self.keys(group):
             raise Mistake(cancels.is_key(group, key))
         with self.opened() as session:
-            _, look, _ = session.ask([f"cancel {scope.name} {why}", f"scope {scope.name}", "flush"],
+            _, look, _ = session.ask([f"cancel {scope} {why}", f"scope {scope}", "flush"],
                                      may=[ALREADY_DONE])
         return look
 
@@ -146,7 +147,7 @@ class Alone:
                 found |= {key for it, key in Jobs(self.jobs).all if it == group}
         return found
 
-    def command(self, target: Target, why: str) -> str:
+    def command(self, target: Target, why: str, scope: str) -> str:
         if self.jobs is None:
             raise Mistake(f"no night-run runs: night-run {self.files.shown} JOBS --cancel {target}"
                           " cancels this command, by its file of commands")
@@ -159,10 +160,7 @@ class Alone:
             return found.why
         if found.is_final:
             raise Mistake(cancels.has_ended(target.group, target.key, found.why or found.phase))
-        if target.group not in self.book.scopes:
-            raise Mistake(f"{self.files.shown} has no group {target.group} in this night")
-        end = canceled(why)
-        scope, group = self.book.scopes[target.group].name, self.book.next_name(target.group)
+        end, group = canceled(why), self.book.next_name(target.group)
         with self.opened() as session:
             withdraw(session, self.state)
             replies = session.ask([f"bare {group} {scope}", f"go {group} {JOB} {target.key}",
