@@ -198,7 +198,7 @@ def cancels(tries: Shared) -> None:
 def cancels_alone(tries: Shared) -> None:
     """Likewise, where no driver runs."""
     kind = "a cancel of one command where nothing runs"
-    room = Room(tries, ["db: limit 1", job("db", "a"), "db b echo b >> begun; exec sleep 60",
+    room = Room(tries, ["db: limit 1", job("db", "a"), "db b echo b >> begun; exec sleep 900",
                         job("db", "crm"), job("www", "x")])
     run = room.start("s", "JOBS", "-j", "1", "--grace", "1")
     room.until(lambda: "b" in room.lines("begun"))
