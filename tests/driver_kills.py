@@ -281,7 +281,8 @@ def left_behind(tries: Shared) -> None:
     ends of the others, and what can begin doesn't wait for them."""
     jobs = ["soon: within 9s", job("soon", "a", 60), "hard: within 9s",
             "hard b echo hard.b >> begun; trap '' TERM; while :; do sleep 0.1; done",
-            job("late", "c", 60), job("free", "d", 6), job("more", "e")]
+            job("late", "c", 60), "free d echo free.d >> begun; until [ -e go ]; do sleep 0.1; done;"
+            " echo free.d >> done", job("more", "e")]
     kind = "commands are left"
     room = Room(tries, jobs)
     run = room.start("s", "JOBS", "-j", "4")
@@ -295,6 +296,7 @@ def left_behind(tries: Shared) -> None:
     cancelled = room.run("s", "--cancel", "late", "not", "now", errors="errors2")
     tries.is_same(f"{kind}: one is cancelled", room.path, cancelled,
                   (0, "late: done; deadline none; err context canceled; cause not now\n"))
+    room.write("go", "")
     status, output = room.ended(run, 60)
     shown = [it.split("; s.out")[0] for it in output.splitlines() if not it.startswith(" ")]
     tries.is_same(f"{kind}: its end", room.path, (status, shown), (1, [
