@@ -125,7 +125,7 @@ static CASES: [Case; 40] = [
     (
         &["migrate", "--help"],
         0,
-        "one that is there is emptied",
+        "if it exists, it is erased",
         "",
     ),
 ];
