@@ -122,12 +122,7 @@ static CASES: [Case; 40] = [
         "Example: night migrate --new small.store large.store",
         "",
     ),
-    (
-        &["migrate", "--help"],
-        0,
-        "if it exists, it is erased",
-        "",
-    ),
+    (&["migrate", "--help"], 0, "if it exists, it is erased", ""),
 ];
 
 /// A file of no bytes, which is no store.
