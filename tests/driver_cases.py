@@ -2,6 +2,7 @@
 
 from __future__ import annotations
 
+import functools
 import os
 import re
 import shutil
@@ -619,7 +620,7 @@ def names_of_rounds(tries: Shared) -> None:
         for word in "--again", "--failed":
             run = room.start("s", "JOBS", word)
             output = f"s.out/{its[-2 if word == '--again' else -1]}"
-            room.until(lambda output=output: room.has(output))
+            room.until(functools.partial(room.has, output))
             room.run("s", "--cancel", "h", errors="errors2")
             room.ended(run)
         tries.is_same(kind, night, sorted(it for it in os.listdir(f"{room.path}/s.out")

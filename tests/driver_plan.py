@@ -7,7 +7,6 @@ import os
 import subprocess
 import sys
 import tempfile
-from types import ModuleType
 from typing import Any
 
 from driver_room import Shared
@@ -227,8 +226,8 @@ MOMENTS = [
 ]
 
 
-def driver_module(tries: Shared, name: str) -> ModuleType:
-    """A module of the driver that is tried."""
+def driver_module(tries: Shared, name: str) -> Any:
+    """A module of the driver that is tried, whose names may be replaced."""
     folder = os.path.dirname(os.path.realpath(tries.driver))
     if folder not in sys.path:
         sys.path.insert(0, folder)

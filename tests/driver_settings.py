@@ -2,6 +2,7 @@
 
 from __future__ import annotations
 
+import functools
 import json
 import os
 import re
@@ -181,8 +182,8 @@ def cancels(tries: Shared) -> None:
     tries.is_same(f"{kind}: the others run on", room.path,
                   (run.poll(), sorted(room.lines("begun"))), (None, ["a", "x", "y"]))
     room.write("go", "")
-    status, output = room.ended(run)
-    tries.is_same(kind, room.path, (status, output.splitlines()), (1, [
+    ended, output = room.ended(run)
+    tries.is_same(kind, room.path, (ended, output.splitlines()), (1, [
         "db crm: canceled: too slow", "www x: canceled: canceled by hand; s.out/www.x.0",
         "rest z: not begun: after db/crm, which was canceled",
         "6 commands: 3 ok, 2 canceled, 1 not begun; 4 run now"]))
@@ -361,6 +362,11 @@ def looks(tries: Shared) -> None:
     tries.holds(f"{kind}: no two at a time", room.path, not beside and len(its) == 5, beside)
 
 
+def has_begun(room: Room, name: str, count: int) -> bool:
+    """Whether a command has begun so often."""
+    return room.begun()[name] == count
+
+
 def failed(tries: Shared) -> None:
     """--failed, --again and --nightly after failures, cancels and stops."""
     kind = "what failed, again"
@@ -390,7 +396,7 @@ def failed(tries: Shared) -> None:
                   {"g.k0": 2, "g.k1": 3, "g.k2": 2, "g.k3": 2})
     for word, count in ("--nightly", 4), ("--again", 6):
         run = room.start("s", "JOBS", word, "-j", "1")
-        room.until(lambda count=count: room.begun()["g.k1"] == count)
+        room.until(functools.partial(has_begun, room, "g.k1", count))
         kill([run.pid], which=signal.SIGTERM)
         room.ended(run)
         if word == "--nightly":

@@ -284,7 +284,7 @@ def stores():
         yield f"a used {size} store", used, SECOND
 
 
-def own_name():
+def own_name() -> str:
     """The name of this process among those that ask for a cancel: BOOT.PID.START."""
     with open("/proc/self/stat", encoding="utf-8", errors="replace") as file:
         start = file.read().rpartition(")")[2].split()[19]

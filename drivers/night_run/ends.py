@@ -52,7 +52,7 @@ class End:
         if self.kind is Kind.CANCELED:
             return f"{CANCELED}{self.why}"
         if self.kind is not Kind.FAILED:
-            return self.kind.value
+            return str(self.kind.value)
         return self.why if read_end(self.why) == self else f"{ERROR}{self.why}"
 
     @property
