@@ -45,49 +45,57 @@ from .tries import Tries
 from .version import version
 from .views import View, look, remembered, report, without_past
 
-HELP = """Runs the shell commands of the file JOBS as tasks of STORE, which it makes where there is
-none. Run again after a stop, of whatever kind, it does what is left of the night; once all has
-ended it has nothing to do, until --again or --nightly begins the next night over the same file."""
+HELP = """Runs the shell commands of the file JOBS, and records in the file STORE how each of them
+ended. STORE is created if it doesn't exist. After a crash, a kill or a power failure, run the same
+line again: it does what is left of the night. A night that has ended runs nothing more, until
+--again or --nightly starts the next night with the same file."""
 
-FILE = """A line of JOBS is one of
+FILE = """Each line of JOBS is one of
 
-  GROUP KEY COMMAND..       a command for /bin/sh; a key stands once in its group
+  GROUP KEY COMMAND..       a command for /bin/sh; its key is unique in its group
   GROUP: SETTING..          settings of a group
-  GROUP KEY: SETTING..      settings of one command; they win over its group's
-  night: SETTING..          of all groups together: until 05:30, within 8h, shell bash
-  # ..
+  GROUP KEY: SETTING..      settings of one command; they win over those of its group
+  night: SETTING..          settings of all groups: until 05:30, within 8h, shell bash
+  # ..                      a comment
 
-All mistakes of the file are told at a time, and nothing begins.
+If the file has mistakes, all of them are printed with their lines, and no command is started.
 
-Settings, several in a line or in several lines:
+Settings, one or more in a line:
 
-  limit N                   (a group) so many of its commands at a time, 1 to 64
-  until 05:30, within 2h    (a group, night) a deadline; then it is stopped, and nothing begun
-  after X..                 begun once these are ok: keys of the group, GROUP/KEY, or groups
-  retries N [wait 30s]      so many more tries after a failure
-  timeout 10m               a try that takes longer is stopped, and has failed
-  in FOLDER                 where it runs
-  env NAME=VALUE            a variable of its environment
-  stop on failure           (a group) after a failure nothing more of it is begun
-  background keep           processes that a command leaves may live on; else they end with it
-  via WORDS..               (a group) each command is handed to these words, as one argument more,
-                            and so runs elsewhere; this takes the rest of its line
-  ask WORDS.., stop WORDS.. (a group) how to ask how a try ended there, and for its end
-  shell bash -o pipefail    these words run it by -c, in place of /bin/sh; the rest of its line
+  limit N                   (a group) run at most N of its commands at a time, 1 to 64
+  until 05:30, within 2h    (a group, night) a deadline: running commands are stopped then, and
+                            no more are started
+  after X..                 start only when all of X are ok: keys of the same group, GROUP/KEY,
+                            or whole groups
+  retries N [wait 30s]      after a failure, try up to N more times
+  timeout 10m               stop a try that takes longer; it counts as failed
+  in FOLDER                 the working directory
+  env NAME=VALUE            a variable of the environment
+  stop on failure           (a group) when a command has failed for good, start no more of the
+                            group
+  background keep           don't end the processes that a command leaves in the background
+  via WORDS..               (a group) run WORDS with the command as one more argument, for example
+                            to run it on another machine; WORDS takes the rest of the line
+  ask WORDS.., stop WORDS.. (a group) learn how such a try ended, and end it
+  shell bash -o pipefail    run the command by these words and -c, and not by /bin/sh; they take
+                            the rest of the line
 
-Each command has the environment of night-run, with NIGHT_STORE, NIGHT_GROUP, NIGHT_KEY and
-NIGHT_TRY, an empty standard input, and its output in STORE.out/GROUP.KEY.TRY. STORE.log says what
-ran when, how long, and how it ended. Ctrl-C once lets the commands that run end, twice stops them;
-so does SIGTERM.
+A command inherits the environment of night-run, and finds NIGHT_STORE, NIGHT_GROUP, NIGHT_KEY and
+NIGHT_TRY there. Its standard input is empty, and its output goes to STORE.out/GROUP.KEY.TRY.
+STORE.log lists each try: when it ran, for how long, and how it ended. Press Ctrl-C once to let the
+running commands finish, and twice to stop them. SIGTERM stops them at once.
 
-The status is 0 where every command of the file is ok (or what was asked for is printed or done),
-1 where one isn't, 2 where the words or the file have to be changed, 3 after a fault. With
-NIGHT_DEBUG=1 in its environment the place of an error that nobody foresaw is shown.
+The exit status is 0 if every command is ok (or what you asked for was printed or done), 1 if one
+isn't, 2 if the options or the file have a mistake, and 3 after a fault or if another night-run has
+the store open. With NIGHT_DEBUG=1 in its environment, night-run prints where an error arose that
+nobody foresaw.
+
+For example, this line of a crontab runs a night every evening:
 
   0 22 * * *  night-run /var/backup/store /etc/backup.jobs --nightly --quiet
 
-is a line of a crontab. The manual page night-run(1) describes all of it, and its limits: a command
-may run twice."""
+A command may run twice, if the machine crashes while it runs. The manual page night-run(1) says
+more."""
 
 # A clock of a store that is ahead by more seconds than this is not waited for.
 MOST_AHEAD = 60
@@ -126,41 +134,45 @@ def read_words(given: list[str]) -> argparse.Namespace:
     reader.add_argument("store", metavar="STORE")
     reader.add_argument("jobs", metavar="JOBS", nargs="?", help="the file of commands")
     reader.add_argument("-j", type=number, default=4, metavar="N", dest="most",
-                        help="run so many commands at a time, 4 where it is left out")
+                        help="run at most N commands at a time, 4 if not given")
     reader.add_argument("--grace", type=number, default=10, metavar="SECONDS",
-                        help="kill what was asked to end after so many, 10 where it is left out")
+                        help="wait this long between SIGTERM and SIGKILL when a command is"
+                        " stopped, 10 if not given")
     reader.add_argument("--keep", type=number, default=30, metavar="N",
-                        help="keep the logs and outputs of so many earlier nights, 30 where it is"
-                        " left out")
+                        help="keep the logs and outputs of N earlier nights, 30 if not given")
     reader.add_argument("--quiet", action="store_true",
-                        help="print nothing where all is well; a night that has ended and so runs"
-                        " nothing is said, but for --resume")
+                        help="print nothing if all is well. If the night has ended before and so"
+                        " nothing runs, that is still said, unless --resume is given")
     reader.add_argument("--on-begin", metavar="COMMAND", dest="begin",
-                        help="run this before the commands of the night")
+                        help="run COMMAND before the commands of the night")
     reader.add_argument("--on-success", metavar="COMMAND", dest="success",
-                        help="run this at the end of a night in which every command is ok")
+                        help="run COMMAND after a night in which every command is ok")
     reader.add_argument("--on-failure", metavar="COMMAND", dest="failure",
-                        help="run this once at an end that is any other, also where nothing ran,"
-                        " with the summary on its standard input and NIGHT_STATUS, NIGHT_FAILED"
-                        " and NIGHT_LEFT (two counts) in its environment, as NIGHT_STORE is")
+                        help="run COMMAND once if the run ends in any other way, even if nothing"
+                        " could run. Its standard input is the summary. NIGHT_STATUS, and the"
+                        " counts NIGHT_FAILED and NIGHT_LEFT, are in its environment")
     what = reader.add_mutually_exclusive_group()
     what.add_argument("--failed", action="store_true",
-                      help="run again what failed or was canceled in this night, too")
-    what.add_argument("--again", action="store_true", help="begin the next night: all runs anew")
+                      help="also run again the commands that failed or were canceled")
+    what.add_argument("--again", action="store_true",
+                      help="start the next night: every command runs again")
     what.add_argument("--nightly", action="store_true",
-                      help="begin the next night; what the last one left is done before")
+                      help="start the next night. If the last one was left, its rest is done first")
     what.add_argument("--resume", action="store_true",
-                      help="run what is left of the night, and else nothing, as after a reboot")
-    what.add_argument("--list", action="store_true", help="print what isn't ok, and change nothing")
+                      help="run what is left of the night, and else nothing. This is for the time"
+                      " after a reboot")
+    what.add_argument("--list", action="store_true",
+                      help="print the commands that aren't ok, and change nothing")
     what.add_argument("--report", choices=FORMS, metavar="html|text|prom",
-                      help="print the night as a page, a text for a mail, or metrics")
+                      help="print the night as a web page, as text for a mail, or as metrics")
     what.add_argument("--cancel", nargs="+", metavar=("GROUP", "WHY"),
-                      help="cancel a group, a command (GROUP/KEY), or `night`, which is all of"
-                      " them, also while another night-run runs it")
+                      help="cancel a group, one command (GROUP/KEY), or all groups (`night`), also"
+                      " while another night-run runs them")
     reader.add_argument("--dry-run", action="store_true",
-                        help="print what would be begun, also with --failed, --again or --nightly,"
-                        " and change nothing")
-    reader.add_argument("--json", action="store_true", help="with --list: every command, as JSON")
+                        help="print what would be started, also with --failed, --again or"
+                        " --nightly, and change nothing")
+    reader.add_argument("--json", action="store_true",
+                        help="with --list: print every command, as JSON")
     reader.add_argument("--version", action="version", version=f"night-run {version()}")
     found = reader.parse_args(given)
     if not found.cancel and found.jobs is None:
