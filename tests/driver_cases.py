@@ -114,7 +114,7 @@ def full_store(tries: Shared) -> None:
         *(f"finish {it} ok" for it in range(SMALL - 4))])
     tries.is_same(f"{kind}: it is made", room.path, refused, "")
     tries.is_same(f"{kind}: they run", room.path, room.last(), (0, f"{SMALL} commands: {SMALL} ok;"
-                                                                 " 4 run now"))
+                                                                 " 4 run this time"))
     tries.is_same(f"{kind}: nothing else does", room.path, sorted(room.begun()),
                   [f"g.k{it}" for it in range(SMALL - 4, SMALL)])
 
@@ -127,7 +127,7 @@ def read_meanwhile(tries: Shared) -> None:
     small_store(room)
     room.night = room.program("between", READING.format(night=tries.program, at=1))
     tries.is_same(f"{kind}: at a renewal", room.path, room.last("s", "JOBS", "-j", "8"),
-                  (0, f"{SMALL + 100} commands: {SMALL + 100} ok; {SMALL + 100} run now"))
+                  (0, f"{SMALL + 100} commands: {SMALL + 100} ok; {SMALL + 100} run this time"))
     tries.holds(f"{kind}: at a renewal: it was renewed", room.path, "renewed" in room.errors,
                 room.errors)
     room = Room(tries, [job("g", "a", 30)])
@@ -225,7 +225,7 @@ def held_cancels(tries: Shared) -> None:
     with locked(f"{room.path}/s.cancel"):
         status, output = room.run("s", "JOBS", "--grace", "1", seconds=60)
     tries.is_same(kind, room.path, (status, output.splitlines()[-1]),
-                  (1, "41 commands: 40 ok, 1 canceled; 41 run now"))
+                  (1, "41 commands: 40 ok, 1 canceled; 41 run this time"))
     tries.holds(f"{kind}: a folder is in its place", room.path,
                 os.path.isdir(f"{room.path}/s.cancel"))
 
@@ -303,7 +303,7 @@ def stopped_ok(tries: Shared) -> None:
     kill([run.pid], which=signal.SIGTERM)
     status, output = room.ended(run)
     tries.is_same(f"{kind}: by a signal", room.path, (status, output.splitlines()[-1]),
-                  (1, "1 command: 1 left; 0 run now"))
+                  (1, "1 command: 1 left; 0 run this time"))
     room = Room(tries, ["g: within 2s", f"g a {trap}"])
     status, output = room.run()
     tries.is_same(f"{kind}: by a deadline", room.path,
@@ -326,11 +326,12 @@ def no_room(tries: Shared) -> None:
     if "Permission denied" in room.errors and not room.begun():
         tries.skip(kind, "another user can't run the programs")
         return
-    tries.is_same(f"{kind}: all end", room.path, found, (0, "10 commands: 10 ok; 10 run now"))
+    tries.is_same(f"{kind}: all end", room.path, found,
+                  (0, "10 commands: 10 ok; 10 run this time"))
     tries.is_same(f"{kind}: each began once", room.path, set(room.begun().values()), {1})
     told = room.errors.splitlines()
     tries.holds(f"{kind}: told, each reason once", room.path, told and len(told) == len(set(told))
-                and all(it.endswith("commands are begun later") for it in told), room.errors)
+                and all(it.endswith("commands are started later") for it in told), room.errors)
 
 
 def clock_ahead(tries: Shared) -> None:
@@ -340,7 +341,7 @@ def clock_ahead(tries: Shared) -> None:
                            "go h sh b", "start", "finish 0 ok", "advance 4000000000"])
     tries.is_same(f"{kind}: made", room.path, refused, "")
     tries.is_same(f"{kind}: the night", room.path, room.last(),
-                  (0, "2 commands: 2 ok; 1 run now"))
+                  (0, "2 commands: 2 ok; 1 run this time"))
     clock = re.search("clock (.*)", room.shown())
     tries.holds(f"{kind}: it is right again", room.path,
                 clock and abs(int(clock[1]) - time.time()) < 60, clock)
@@ -362,7 +363,7 @@ def clock_ahead_again(tries: Shared) -> None:
     room.write("go", "")
     os.remove(f"{room.path}/s.log")
     tries.is_same(kind, room.path, (room.last(), room.begun()),
-                  ((1, "1 command: 1 failed; 1 run now"), {"g.a": 3}))
+                  ((1, "1 command: 1 failed; 1 run this time"), {"g.a": 3}))
 
 
 def cancel_beside(tries: Shared) -> None:
@@ -379,7 +380,8 @@ def cancel_beside(tries: Shared) -> None:
     slow = room.program("between", SLOW.format(night=tries.program).replace("sleep 2", "sleep 5"))
     asking = room.start("s", "--cancel", "g", "why", night=slow, errors="errors2")
     room.until(lambda: f" {asking.pid} " in room.text("s.lock"))
-    tries.is_same(f"{kind}: the night", room.path, room.last(), (0, "3 commands: 3 ok; 1 run now"))
+    tries.is_same(f"{kind}: the night", room.path, room.last(),
+                  (0, "3 commands: 3 ok; 1 run this time"))
     tries.is_same(f"{kind}: it is done", room.path, room.ended(asking, errors="errors2")[0], 0)
 
 
@@ -407,7 +409,7 @@ def many_groups(tries: Shared) -> None:
     kind = "more groups than a store has"
     room = Room(tries, [job(f"g{it}", "a") for it in range(150)])
     tries.is_same(kind, room.path, room.last("s", "JOBS", "-j", "8"),
-                  (0, "150 commands: 150 ok; 150 run now"))
+                  (0, "150 commands: 150 ok; 150 run this time"))
     tries.is_same(f"{kind}: each began once", room.path, set(room.begun().values()), {1})
     tries.is_same(f"{kind}: run again", room.path, room.run()[0], 0)
     tries.is_same(f"{kind}: nothing runs again", room.path, set(room.begun().values()), {1})
@@ -575,14 +577,15 @@ def second_evening(tries: Shared) -> None:
     kind = "a second evening"
     room = Room(tries, [job("g", "a"), job("h", "b")])
     tries.is_same(f"{kind}: the first", room.path, room.run(),
-                  (0, "2 commands: 2 ok; 2 run now\n"))
+                  (0, "2 commands: 2 ok; 2 run this time\n"))
     status, output = room.run()
     tries.holds(f"{kind}: nothing to do", room.path, status == 0 and re.fullmatch(
-        r"nothing to do: 2 ended before \(\d{4}-\d\d-\d\d \d\d:\d\d\); --again runs them anew\n",
+        r"nothing to do: 2 commands ended by \d{4}-\d\d-\d\d \d\d:\d\d; --again starts the next"
+        r" night\n",
         output), (status, output))
     for word, count in (("--nightly", 2), ("--nightly", 3), ("--again", 4)):
         tries.is_same(f"{kind}: {word}", room.path, room.run("s", "JOBS", word),
-                      (0, "2 commands: 2 ok; 2 run now\n"))
+                      (0, "2 commands: 2 ok; 2 run this time\n"))
         tries.is_same(f"{kind}: {word} runs all", room.path, room.begun(),
                       {"g.a": count, "h.b": count})
     scopes = re.findall(r"^scope \d+ (night--2|g--2|h--4) ", room.shown(), re.M)
@@ -599,7 +602,7 @@ def names_of_rounds(tries: Shared) -> None:
                         job("-", "c")])
     for night in 1, 2, 3:
         tries.is_same(f"{kind}: its nights", night, room.run("s", "JOBS", "--nightly"),
-                      (0, "3 commands: 3 ok; 3 run now\n"))
+                      (0, "3 commands: 3 ok; 3 run this time\n"))
         tries.is_same(f"{kind}: each once", night, room.begun(),
                       {"disks-.a": night, "disks.b": night, "-.c": night})
         tries.holds(f"{kind}: run again", night, room.run()[1].startswith("nothing to do: 3"))
@@ -611,7 +614,7 @@ def names_of_rounds(tries: Shared) -> None:
     tries.is_same(f"{kind}: the rest of one", room.path, room.run()[0], 0)
     for night in range(999, 1003):
         tries.is_same(kind, night, room.run("s", "JOBS", "--nightly"),
-                      (0, "1 command: 1 ok; 1 run now\n"))
+                      (0, "1 command: 1 ok; 1 run this time\n"))
         tries.holds(f"{kind}: its output", night, room.has(f"s.out/{name}--{night}.a.0"))
     kind = "outputs after --failed"
     room = Room(tries, [job("g", "a", end="; exit 3"), job("h", "b", 30)])
@@ -642,8 +645,8 @@ def order(tries: Shared) -> None:
     room = Room(tries, [job("g", "a", end="; exit 3"), job("g", "b"), "g b: after a"])
     status, output = room.run()
     tries.is_same(kind, room.path, (status, output.splitlines()[1:]), (1, [
-        "g b: not begun: after g/a, which failed",
-        "2 commands: 1 failed, 1 not begun; 1 run now"]))
+        "g b: not started, because g/a failed",
+        "2 commands: 1 failed, 1 not started; 1 run this time"]))
     tries.is_same(f"{kind}: it isn't begun", room.path, room.begun(), {"g.a": 1})
 
 

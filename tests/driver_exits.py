@@ -54,7 +54,7 @@ def strange_numbers(tries: Shared) -> None:
         what = line.replace(LONG, "9..").replace(boot, "BOOT")
         found = room.run(seconds=90)
         tries.is_same(kind, what, (found, "Traceback" in room.errors),
-                      ((0, "1 command: 1 ok; 1 run now\n"), False))
+                      ((0, "1 command: 1 ok; 1 run this time\n"), False))
         room.write(name, f"{line}\n")
         tries.is_same(f"{kind}: listed", what, room.run("s", "JOBS", "--list"), (0, ""))
 
@@ -131,7 +131,7 @@ def commands_left(tries: Shared) -> None:
         *(f"finish {it} ok" for it in range(2044))]), "")
     room.night = room.program("between", RENEWING.format(night=tries.program, what="fails", at=0))
     status, last = room.last("s", "JOBS", "--on-failure", ALARM)
-    said = re.fullmatch(r"8 commands: \d ok, (\d) left; \d run now", last)
+    said = re.fullmatch(r"8 commands: \d ok, (\d) left; \d run this time", last)
     tries.is_same(f"{kind}: a full store", room.path, (status, alarmed(room)),
                   (1, [["1", "0", said[1] if said else last]]))
     for what, which, counts in (("SIGTERM", signal.SIGTERM, ["1", "0", "2"]),
@@ -172,7 +172,7 @@ def hung_alarm(tries: Shared) -> None:
     tries.holds(f"{kind}: it does", room.path, room.until(lambda: room.has("hangs")))
     room.write("well", "")
     tries.is_same(f"{kind}: the next night", room.path, room.last(
-        "s", "JOBS", "--nightly", errors="errors2"), (0, "1 command: 1 ok; 1 run now"))
+        "s", "JOBS", "--nightly", errors="errors2"), (0, "1 command: 1 ok; 1 run this time"))
     began = time.monotonic()
     kill([run.pid], which=signal.SIGTERM)
     found, took = room.ended(run)[0], time.monotonic() - began
@@ -215,7 +215,7 @@ def stalled_output(tries: Shared) -> None:
         tries.is_same(f"{kind}: the alarm", room.path, room.until(lambda: room.has("told")), True)
         room.write("well", "")
         tries.is_same(f"{kind}: the next night", room.path, room.last(
-            "s", "JOBS", "--nightly", errors="errors2"), (0, "1 command: 1 ok; 1 run now"))
+            "s", "JOBS", "--nightly", errors="errors2"), (0, "1 command: 1 ok; 1 run this time"))
         tries.is_same(f"{kind}: it does", room.path, run.poll(), None)
         kill([run.pid], which=signal.SIGTERM)
         tries.is_same(f"{kind}: a signal", room.path, (room.ended(run, 90)[0], room.errors), (
@@ -237,7 +237,7 @@ def begin_and_success(tries: Shared) -> None:
     os.remove(f"{room.path}/hooks")
     found = room.run("s", "JOBS", "--nightly", "--quiet", *hooks)
     tries.is_same(kind, room.path, (found, room.lines("hooks"), room.errors), (
-        (0, ""), ["begin", "command", "0 0 0", "1 command: 1 ok; 1 run now"],
+        (0, ""), ["begin", "command", "0 0 0", "1 command: 1 ok; 1 run this time"],
         "night-run: --on-success: it ended with status 5\n"))
     os.remove(f"{room.path}/hooks")
     for words in ((), ("--resume",), ("--quiet",), ("--quiet", "--resume")):

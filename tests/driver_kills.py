@@ -151,7 +151,7 @@ def whole(room: Room, kind: str, ended: Begun, failing: list[str]) -> None:
     begun = room.begun()
     status, output = room.last()
     tries.holds(f"{kind}: run again", room.path, status == (1 if failing else 0)
-                and output.startswith(f"nothing to do: {len(every)} ended before"),
+                and output.startswith(f"nothing to do: {len(every)} commands ended by"),
                 (status, output))
     tries.is_same(f"{kind}: and nothing is begun", room.path, room.begun(), begun)
 
@@ -219,8 +219,8 @@ def night_is_killed(tries: Shared) -> None:
         hits += not killed.issuperset(nights)
         killed.update(nights)
     tries.is_same(f"{kind}: its driver goes on", room.path, (*room.ended(run), hits),
-                  (0, "12 commands: 12 ok; 12 run now\n", 3))
-    told = "night-run: `night` ended with status -9; another one is begun\n"
+                  (0, "12 commands: 12 ok; 12 run this time\n", 3))
+    told = "night-run: `night` ended with status -9; it is started again\n"
     tries.is_same(f"{kind}: told", room.path, room.errors, told * 3)
     tries.is_same(f"{kind}: each began once", room.path, set(room.begun().values()), {1})
     tries.is_same(f"{kind}: the limit holds", room.path, most_at_once(room, "g"), 2)
@@ -234,7 +234,7 @@ def full_session(tries: Shared) -> None:
     kind = "the session's log is full"
     room, ended = between(tries, jobs, "fill"), dict[str, int]()
     tries.is_same(f"{kind}: it goes on", room.path, room.run("s", "JOBS", "-j", "8"),
-                  (0, "12 commands: 12 ok; 12 run now\n"))
+                  (0, "12 commands: 12 ok; 12 run this time\n"))
     tries.is_same(f"{kind}: it was", room.path, (room.has("was_here"), room.errors), (True, ""))
     tries.is_same(f"{kind}: each began once", room.path, set(room.begun().values()), {1})
     tries.is_same(f"{kind}: the limit holds", room.path, most_at_once(room, "g"), 2)
@@ -301,7 +301,7 @@ def left_behind(tries: Shared) -> None:
     shown = [it.split("; s.out")[0] for it in output.splitlines() if not it.startswith(" ")]
     tries.is_same(f"{kind}: its end", room.path, (status, shown), (1, [
         "soon a: canceled: within 9s", "hard b: canceled: within 9s", "late c: canceled: not now",
-        "5 commands: 2 ok, 3 canceled; 5 run now"]))
+        "5 commands: 2 ok, 3 canceled; 5 run this time"]))
     tries.is_same(f"{kind}: told", room.path, len(re.findall(
         r"^night-run: \S+ \S still runs from the last run: process \d+$", room.errors, re.M)), 4)
     tries.is_same(f"{kind}: each began once", room.path, set(room.begun().values()), {1})
@@ -367,7 +367,7 @@ def faults(tries: Shared) -> None:
     os.makedirs(f"{room.path}/s.out/g.a.0")
     tries.is_same("a command that can't be started", room.path, room.run(), (
         1, "g a: can't be started: Is a directory; s.out/g.a.0\n2 commands: 1 ok, 1 failed;"
-           " 2 run now\n"))
+           " 2 run this time\n"))
     room.agrees("a command that can't be started")
 
     room = Room(tries, ["g a true"])
@@ -382,7 +382,7 @@ def faults(tries: Shared) -> None:
     group = "group-of-many-tasks"
     room = between(tries, [f"{group} key-{it:028} true" for it in range(300)], "page")
     tries.is_same("pipes of one page", room.path, room.last("s", "JOBS", "-j", "32"),
-                  (0, "300 commands: 300 ok; 300 run now"))
+                  (0, "300 commands: 300 ok; 300 run this time"))
 
 
 def damaged(tries: Shared) -> None:
@@ -417,14 +417,14 @@ def damaged(tries: Shared) -> None:
         found = room.run(seconds=40)
         tries.is_same(f"{kind}: what is known is said", make.__name__, found, (3, (
             "g b: interrupted\nh c: not known: s.ended can't be read\n"
-            "3 commands: 1 ok, 1 left, 1 not known; 0 run now\n")))
+            "3 commands: 1 ok, 1 left, 1 not known; 0 run this time\n")))
         tries.holds(f"{kind}: it is named, and why", make.__name__,
                     room.errors.startswith(f"night-run: s.ended: {why}"), room.errors)
         tries.is_same(f"{kind}: nothing is begun", make.__name__, room.begun(), before)
     room.write("s.ended", "events 1\nh c ok\n")
     room.set(["g a true", "g b true", "h c true"])
     tries.is_same(f"{kind}: a whole one again", room.path, room.last(),
-                  (0, "3 commands: 3 ok; 1 run now"))
+                  (0, "3 commands: 3 ok; 1 run this time"))
     room.write("s.ended", "events 99999\n")
     tries.is_same(f"{kind}: that of another store", room.path, (room.run(), room.errors),
                   ((3, ""), "night-run: s.ended is of another store: put it aside\n"))
@@ -476,15 +476,15 @@ def taken_away(tries: Shared) -> None:
             os.rename(f"{room.path}/m", f"{room.path}/n")
             status, output = room.ended(run)
             tries.is_same(f"{kind}: it goes on", room.path, (status, output.splitlines()[-1]),
-                          (1, "11 commands: 10 ok, 1 failed; 11 run now"))
+                          (1, "11 commands: 10 ok, 1 failed; 11 run this time"))
             continue
         status, output = room.ended(run)
         shown = [it for it in output.splitlines() if not it.startswith(" ")]
         tries.is_same(f"{kind}: what is known", room.path, (status, shown), (3, [
             "g a: exit 3", *(f"g k{it}: waiting" for it in range(9)),
-            "11 commands: 1 ok, 1 failed, 9 left; 2 run now"]))
+            "11 commands: 1 ok, 1 failed, 9 left; 2 run this time"]))
         tries.holds(f"{kind}: it is named, and why", room.path, room.errors.splitlines()[-1] == (
-            "night-run: n/s: No such file or directory: it was taken away in the midst of the"
+            "night-run: n/s: No such file or directory: it was taken away during the"
             " night"), room.errors)
         tries.is_same(f"{kind}: nothing more is begun", room.path, room.begun(),
                       {"g.a": 1, "g.b": 1})
@@ -492,7 +492,7 @@ def taken_away(tries: Shared) -> None:
         if what == "moved":
             os.rename(f"{room.path}/m", f"{room.path}/n")
             tries.is_same(f"{kind}: it has lost nothing", room.path, room.last("n/s", "JOBS"),
-                          (1, "11 commands: 10 ok, 1 failed; 9 run now"))
+                          (1, "11 commands: 10 ok, 1 failed; 9 run this time"))
             tries.is_same(f"{kind}: each began once", room.path, set(room.begun().values()), {1})
 
 
@@ -513,9 +513,9 @@ def all_canceled(tries: Shared) -> None:
     tries.is_same(f"{kind}: a new group is none of them", room.path,
                   (status, output.splitlines()), (1, [
         "g a: exit 1; s.out/g.a.0", "g z: canceled: why; s.out/g.z.0", "g d: canceled: why",
-            "5 commands: 2 ok, 1 failed, 2 canceled; 1 run now"]))
+            "5 commands: 2 ok, 1 failed, 2 canceled; 1 run this time"]))
     tries.is_same(f"{kind}: failed ones run again", room.path, room.last("s", "JOBS", "--failed"), (
-        0, "5 commands: 5 ok; 3 run now"))
+        0, "5 commands: 5 ok; 3 run this time"))
     tries.is_same(f"{kind}: nothing else does", room.path, room.begun(),
                   {"g.a": 2, "g.c": 1, "g.z": 2, "g.d": 1, "h.b": 1})
     room.agrees(kind)
@@ -538,7 +538,7 @@ def old_night(tries: Shared) -> None:
     room.write("s.pids", "1 g k2\n99999999 g k3\n")
     status, output = room.run("s", "JOBS", "-j", "4", seconds=60)
     tries.is_same(kind, room.path, (status, output.splitlines()[-1]),
-                  (1, "9 commands: 8 ok, 1 failed; 7 run now"))
+                  (1, "9 commands: 8 ok, 1 failed; 7 run this time"))
     tries.is_same(f"{kind}: what had ended isn't begun", room.path, room.begun(),
                   {**{f"g.k{it}": 1 for it in range(2, 8)}, "h.x": 1})
     tries.holds(f"{kind}: the limit holds", room.path, most_at_once(room, "g") <= 2)
@@ -589,7 +589,7 @@ class Full:
         tries = self.tries
         status, output = room.last()
         tries.is_same(f"{kind}: its end", room.path, (status, output),
-                      (1, "13 commands: 12 ok, 1 failed; 4 run now"))
+                      (1, "13 commands: 12 ok, 1 failed; 4 run this time"))
         told = room.errors
         tries.is_same(f"{kind}: it is renewed", told, len(re.findall(
             r"^night-run: s: renewed; events \d+; scopes \d+ of \d+; groups \d+ of \d+;"
@@ -608,7 +608,7 @@ class Full:
                       (0, "b bad: exit 3\n"))
         room.write("JOBS", "".join(f"{it}\n" for it in room.jobs).replace("; exit 3", ""))
         tries.is_same(f"{kind}: what failed, again", room.path, room.last("s", "JOBS", "--failed"),
-                      (0, "13 commands: 13 ok; 1 run now"))
+                      (0, "13 commands: 13 ok; 1 run this time"))
         tries.is_same(f"{kind}: and nothing else", room.path, room.begun(), {**every, "b.bad": 2})
 
     def looks(self, room: Room, kind: str) -> None:
@@ -646,7 +646,7 @@ def renewals(tries: Shared, dice: random.Random, rounds: int) -> None:
     tries.is_same(f"{kind}: told", room.path, told, "night-run: s is nearly full, and can't be"
                   " renewed; it is used as it is: s: it fails; `night` ended with status 1\n")
     tries.is_same(f"{kind}: its end", room.path, found,
-                  (1, "13 commands: 12 ok, 1 failed; 4 run now"))
+                  (1, "13 commands: 12 ok, 1 failed; 4 run this time"))
     stopped_renewals(tries, groups if tries.is_short else tasks)
     killed_renewals(tries, groups, dice, rounds)
 
@@ -684,7 +684,8 @@ def killed_renewals(tries: Shared, full: Full, dice: random.Random, rounds: int)
                     all(begun[f"a.k{it}"] == 1 for it in range(6))
                     and begun["b.good"] == begun["b.bad"] == 1 and not begun["u.k0"], begun)
         tries.holds(f"{kind}: every one ends", at, status == 1 and (
-            "12 ok, 1 failed" in output or "nothing to do: 13 ended" in output), (status, output))
+            "12 ok, 1 failed" in output or "nothing to do: 13 commands ended" in output),
+            (status, output))
     print(f"killed at random, over stores to be renewed: {dict(hits)}")
 
 
@@ -700,7 +701,7 @@ def full_in_the_midst(tries: Shared) -> None:
         lines += [f"go f sh k{it}", "start", f"finish {it} ok"]
     tries.is_same(f"{kind}: made", room.path, room.script(lines), "")
     tries.is_same(kind, room.path, room.last("s", "JOBS", "-j", "8"),
-                  (0, "641 commands: 641 ok; 641 run now"))
+                  (0, "641 commands: 641 ok; 641 run this time"))
     tries.is_same(f"{kind}: it is renewed", room.path, room.errors.count("renewed; events"), 1)
     tries.is_same(f"{kind}: each began once", room.path, set(room.begun().values()), {1})
     tries.is_same(f"{kind}: run again", room.path, (room.run()[0], len(room.lines("begun"))),
@@ -711,7 +712,7 @@ def format_is_killed(tries: Shared) -> None:
     """A signal ends the format of a new store, twice: it is made all the same."""
     kind = "a format is killed"
     room = Room(tries, [job("g", "a")], KILLED_FORMAT.format(night=tries.program))
-    tries.is_same(kind, room.path, room.run(), (0, "1 command: 1 ok; 1 run now\n"))
+    tries.is_same(kind, room.path, room.run(), (0, "1 command: 1 ok; 1 run this time\n"))
     tries.is_same(f"{kind}: so often", room.path, room.lines("formats"), ["format"] * 3)
     tries.is_same(f"{kind}: what it left", room.path, room.has("s.making"), False)
 

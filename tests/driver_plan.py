@@ -25,19 +25,19 @@ STANDINGS: list[tuple[str, str, dict[str, str], dict[str, str]]] = [
     ("an interruption", "g a x", {"g a": "interrupted"}, {"g a": "interrupted"}),
     ("it runs", "g a x", {"g a": "running"}, {"g a": "running"}),
     ("after one that is left", "g a x\ng b x\ng b: after a", {}, {"g b": "waiting"}),
-    ("after a failure", "g a x\ng b x\ng b: after a", {"g a": "exit 1"}, {"g b": "not begun"}),
+    ("after a failure", "g a x\ng b x\ng b: after a", {"g a": "exit 1"}, {"g b": "not started"}),
     ("after a failure that is tried again", "g a x\ng a: retries 1\ng b x\ng b: after a",
      {"g a": "exit 1"}, {"g a": "waiting", "g b": "waiting"}),
     ("after what isn't begun", "g a x\ng b x\ng b: after a\nh c x\nh c: after g/b",
-     {"g a": "exit 1"}, {"g b": "not begun", "h c": "not begun"}),
+     {"g a": "exit 1"}, {"g b": "not started", "h c": "not started"}),
     ("after a group with a failure", "g a x\ng b x\nh: after g\nh c x", {"g a": "exit 1"},
-     {"g b": "waiting", "h c": "not begun"}),
+     {"g b": "waiting", "h c": "not started"}),
     ("after a canceled one", "g a x\ng b x\ng b: after a", {"g a": "canceled: why"},
-     {"g a": "canceled", "g b": "not begun"}),
+     {"g a": "canceled", "g b": "not started"}),
     ("a canceled one isn't tried again", "g: retries 9\ng a x", {"g a": "canceled: why"},
      {"g a": "canceled"}),
     ("stop on failure", "g: stop on failure\ng a x\ng b x\nh c x", {"g b": "exit 1"},
-     {"g a": "not begun", "g b": "failed", "h c": "waiting"}),
+     {"g a": "not started", "g b": "failed", "h c": "waiting"}),
     ("stop on failure: retries first", "g: stop on failure retries 1\ng a x\ng b x",
      {"g b": "exit 1"}, {"g a": "waiting", "g b": "waiting"}),
     ("a done group", "g a x\ng b x\nh c x", {"g a": "ok", "g": "why"},
@@ -169,7 +169,7 @@ MISTAKES = [
     ("g: env 'A=b", 1, "a quotation: No closing quotation"),
     ("g: stop on success", 1, "the setting is stop on failure, or stop WORDS.."),
     ("g: stop failure", 1, "the setting is stop on failure, or stop WORDS.."),
-    ("g: stop kill", 1, "g has `stop`, and no `via`; after a failure nothing more of it is begun by"
+    ("g: stop kill", 1, "g has `stop`, and no `via`; to start no more of it after a failure, write"
      " `stop on failure`"),
     ("g: via x\ng: shell bash", 1, "g has `via`, whose words run its commands, and `shell`"),
     ("g: via x\ng one: shell bash", 2, "g has `via`, whose words run its commands, and `shell`"),
@@ -347,7 +347,7 @@ def cycles_are_long(tries: Shared) -> None:
     lines += [f"g k{it}: after k{it - 1}" for it in range(1, count)]
     jobs = jobs_of(tries, "\n".join(reversed(lines)))
     found = plan.standings(jobs, facts_of(tries, {"g k0": "exit 1"}))
-    tries.is_same("a long chain", count, found["g", f"k{count - 1}"].phase, "not begun")
+    tries.is_same("a long chain", count, found["g", f"k{count - 1}"].phase, "not started")
 
 
 def ends(tries: Shared) -> None:

@@ -27,7 +27,7 @@ ASTRAY = [
 KEY = ("crm is a key of db: --cancel db/crm cancels that command alone; a reason for all of the"
        " group has to begin with another word")
 ENDED = "night-run: s: night 1 has ended, and nothing of it is left to cancel\n"
-LEFT = "night-run: night 1 wasn't done: the rest of it comes first\n"
+LEFT = "night-run: night 1 wasn't finished: the rest of it comes first\n"
 # Words that are told with the usage.
 UNUSABLE = [("s",), ("s", "JOBS", "-j", "0"), ("s", "JOBS", "-j", "x"), ("s", "JOBS", "--json"),
             ("s", "JOBS", "--failed", "--again"), ("s", "JOBS", "--report", "pdf"),
@@ -44,7 +44,7 @@ def retries(tries: Shared) -> None:
     shown = [it for it in output.splitlines() if not it.startswith(" ")]
     tries.is_same(kind, room.path, (status, shown), (1, [
         "g a: exit 3; s.out/g.a.2", "h c: exit 1; s.out/h.c.0",
-        "3 commands: 1 ok, 2 failed; 3 run now"]))
+        "3 commands: 1 ok, 2 failed; 3 run this time"]))
     tries.is_same(f"{kind}: so often", room.path, room.begun(),
                   {"g.a": 3, "0": 1, "1": 1, "h.c": 1})
     moments = [float(it) for it in room.lines("moments")]
@@ -71,7 +71,7 @@ def timeout(tries: Shared) -> None:
     shown = [it for it in output.splitlines() if not it.startswith(" ")]
     tries.is_same(kind, room.path, (status, shown), (1, [
         f"g {it}: timeout 1s; s.out/g.{it}.0" for it in "abc"] + [
-        "4 commands: 1 ok, 3 failed; 4 run now"]))
+        "4 commands: 1 ok, 3 failed; 4 run this time"]))
     took = time.monotonic() - began
     tries.holds(f"{kind}: they are stopped", room.path, took < 40, took)
     tries.is_same(f"{kind}: no process is left", room.path,
@@ -127,7 +127,7 @@ def shells(tries: Shared) -> None:
     room.program("say", '#!/bin/sh\nprintf "%s|" "$@"\n')
     status, output = room.run()
     tries.is_same(kind, room.path, (status, output.splitlines()), (1, [
-        "j e: exit 1; s.out/j.e.0", "5 commands: 4 ok, 1 failed; 5 run now"]))
+        "j e: exit 1; s.out/j.e.0", "5 commands: 4 ok, 1 failed; 5 run this time"]))
     tries.is_same(f"{kind}: what it is given", room.path,
                   [room.text(f"s.out/{it}.0") for it in ("g.a", "g.b", "h.c", "i.d")],
                   ["-c|echo 'a b'|", "own|-o|-c|echo x|", "echo y|", "night|-c|echo z|"])
@@ -155,7 +155,7 @@ def after(tries: Shared) -> None:
     tries.is_same(f"{kind}: before", room.path, room.run()[0], 1)
     room.write("fine", "")
     tries.is_same(kind, room.path, (room.last("s", "JOBS", "--failed"), room.begun()),
-                  ((0, "2 commands: 2 ok; 2 run now"), {"g.a": 2, "g.b": 1}))
+                  ((0, "2 commands: 2 ok; 2 run this time"), {"g.a": 2, "g.b": 1}))
 
 
 def cancels(tries: Shared) -> None:
@@ -185,15 +185,15 @@ def cancels(tries: Shared) -> None:
     ended, output = room.ended(run)
     tries.is_same(kind, room.path, (ended, output.splitlines()), (1, [
         "db crm: canceled: too slow", "www x: canceled: canceled by hand; s.out/www.x.0",
-        "rest z: not begun: after db/crm, which was canceled",
-        "6 commands: 3 ok, 2 canceled, 1 not begun; 4 run now"]))
+        "rest z: not started, because db/crm was canceled",
+        "6 commands: 3 ok, 2 canceled, 1 not started; 4 run this time"]))
     tries.is_same(f"{kind}: one that has ended", room.path, (
         room.run("s", "JOBS", "--cancel", "db/a"), room.errors), ((2, ""), ENDED))
     tries.is_same(f"{kind}: run again", room.path, room.run()[0], 1)
     room.agrees(kind)
     tries.is_same(f"{kind}: --failed", room.path, (room.last("s", "JOBS", "--failed"),
                                                    "db.crm" in room.lines("done")),
-                  ((0, "6 commands: 6 ok; 3 run now"), True))
+                  ((0, "6 commands: 6 ok; 3 run this time"), True))
 
 
 def cancels_alone(tries: Shared) -> None:
@@ -232,7 +232,7 @@ def cancels_alone(tries: Shared) -> None:
     status, output = room.run("s", "JOBS", "--grace", "1", seconds=40)
     tries.is_same(kind, room.path, (status, output.splitlines()), (1, [
         "db b: canceled: not now; s.out/db.b.0", "db crm: canceled: not now",
-        "4 commands: 2 ok, 2 canceled; 1 run now"]))
+        "4 commands: 2 ok, 2 canceled; 1 run this time"]))
     tries.is_same(f"{kind}: what has run", room.path, room.begun(), {"db.a": 1, "b": 1, "www.x": 1})
     room.agrees(kind)
     kind = "a cancel of a night that has ended"
@@ -249,8 +249,8 @@ def stop_on_failure(tries: Shared) -> None:
     shown = [it for it in output.splitlines() if not it.startswith(" ")]
     tries.is_same(kind, room.path, (status, shown), (0, [
         "g b: exit 3; s.out/g.b.0",
-        "g c: not begun: g b failed, and the group stops on failure",
-        "4 commands: 2 ok, 1 failed, 1 not begun; 3 run now"]))
+        "g c: not started, because g/b failed, and the group stops on failure",
+        "4 commands: 2 ok, 1 failed, 1 not started; 3 run this time"]))
     tries.is_same(f"{kind}: run again", room.path, (room.run()[0], room.begun()),
                   (1, {"g.a": 1, "g.b": 1, "h.d": 1}))
 
@@ -270,13 +270,13 @@ def summaries(tries: Shared) -> None:
     alarm = "{ echo $NIGHT_STATUS $NIGHT_FAILED $NIGHT_LEFT $NIGHT_STORE; cat; } > alarm"
     room = Room(tries, ["g a for i in 1 2 3 4 5; do echo line $i; done; exit 3", "g b true"])
     wanted = ("g a: exit 3; s.out/g.a.0\n    line 3\n    line 4\n    line 5\n"
-              "2 commands: 1 ok, 1 failed; 2 run now\n")
+              "2 commands: 1 ok, 1 failed; 2 run this time\n")
     tries.is_same(kind, room.path, room.run("s", "JOBS", "--on-failure", alarm), (1, wanted))
     tries.is_same(f"{kind}: the alarm", room.path, room.text("alarm"),
                   f"1 1 0 {os.path.realpath(room.path)}/s\n{wanted}")
     status, output = room.run("s", "JOBS", "--quiet", "--on-failure", alarm)
     tries.holds(f"{kind}: nothing to do after a failure", room.path, status == 1
-                and "nothing to do: 2 ended before" in output and "--failed" in output,
+                and "nothing to do: 2 commands ended by" in output and "--failed" in output,
                 (status, output))
     tries.is_same(f"{kind}: nothing to do after a failure: the alarm", room.path,
                   room.text("alarm"), f"1 1 0 {os.path.realpath(room.path)}/s\n{output}")
@@ -303,14 +303,14 @@ def views(tries: Shared) -> None:
                   (["begin g a", "begin g b", "begin g d", "later g c"], False, False))
     room.run()
     tries.is_same(f"{kind}: a list", room.path, room.run("s", "JOBS", "--list"), (
-        0, "g b: exit 3\ng c: not begun: after g/b, which failed\n"))
+        0, "g b: exit 3\ng c: not started, because g/b failed\n"))
     status, output = room.run("s", "JOBS", "--list", "--json")
     found = {it["key"]: (it["phase"], it["end"], [one["end"] for one in it["tries"]], it["output"],
                          it["tail"]) for it in json.loads(output)}
     tries.is_same(f"{kind}: as JSON", room.path, (status, found), (0, {
         "a": ("ok", "", ["ok"], "s.out/g.a.0", []),
         "b": ("failed", "exit 3", ["exit 3"], "s.out/g.b.0", ["oh"]),
-        "c": ("not begun", "after g/b, which failed", [], "", []),
+        "c": ("not started", "g/b failed", [], "", []),
         "d": ("ok", "", ["ok"], "s.out/g.d.0", [])}))
     for form, word in (("text", "exit 3"), ("html", "<html"), ("prom", "# TYPE")):
         status, output = room.run("s", "JOBS", "--report", form)
@@ -376,11 +376,11 @@ def failed(tries: Shared) -> None:
     room.until(lambda: len(room.lines("s.log")) == 3)
     room.run("s", "--cancel", "h", "not", "now", errors="errors2")
     tries.is_same(f"{kind}: before", room.path, room.ended(run)[1].splitlines()[-1],
-                  "3 commands: 1 ok, 1 failed, 1 canceled; 3 run now")
+                  "3 commands: 1 ok, 1 failed, 1 canceled; 3 run this time")
     room.write("fine", "")
     room.set([job("g", "a", end="; test -e fine"), job("h", "b"), job("g", "c")])
     tries.is_same(kind, room.path, (room.last("s", "JOBS", "--failed"), room.begun()), (
-        (0, "3 commands: 3 ok; 2 run now"), {"g.a": 2, "h.b": 2, "g.c": 1}))
+        (0, "3 commands: 3 ok; 2 run this time"), {"g.a": 2, "h.b": 2, "g.c": 1}))
     room.agrees(kind)
     kind = "a night that is left"
     room = Room(tries, [job("g", f"k{it}", 0.3) for it in range(4)])
@@ -390,8 +390,8 @@ def failed(tries: Shared) -> None:
     room.ended(run)
     tries.is_same(f"{kind}: --nightly does the rest, and tonight's", room.path,
                   (room.run("s", "JOBS", "--nightly"), room.errors), ((0, (
-                      "night 1, the rest of it:\n4 commands: 4 ok; 3 run now\nnight 2:\n"
-                      "4 commands: 4 ok; 4 run now\n")), LEFT))
+                      "night 1, the rest of it:\n4 commands: 4 ok; 3 run this time\nnight 2:\n"
+                      "4 commands: 4 ok; 4 run this time\n")), LEFT))
     tries.is_same(f"{kind}: how often each began", room.path, room.begun(),
                   {"g.k0": 2, "g.k1": 3, "g.k2": 2, "g.k3": 2})
     for word, count in ("--nightly", 4), ("--again", 6):
@@ -408,7 +408,7 @@ def failed(tries: Shared) -> None:
     status, output = room.ended(run)
     tries.is_same(f"{kind}: a stop in the rest", room.path, (
         status, output.splitlines()[-1], room.begun()["g.k0"]), (
-            1, "4 commands: 1 ok, 3 left; 0 run now", 4))
+            1, "4 commands: 1 ok, 3 left; 0 run this time", 4))
     tries.is_same(f"{kind}: --quiet", room.path,
                   (room.run("s", "JOBS", "--nightly", "--quiet"), room.errors,
                    room.begun()["g.k0"]), ((0, ""), "", 5))
@@ -430,13 +430,13 @@ def missed(tries: Shared) -> None:
                      seconds=40)
     tries.is_same(kind, room.path, found, (0, (
         "night 1, the rest of it:\ng b: canceled: within 4s; s.out/g.b.1\n"
-        "g c: canceled: within 4s\n3 commands: 1 ok, 2 canceled; 1 run now\nnight 2:\n"
-        "3 commands: 3 ok; 3 run now\n")))
+        "g c: canceled: within 4s\n3 commands: 1 ok, 2 canceled; 1 run this time\nnight 2:\n"
+        "3 commands: 3 ok; 3 run this time\n")))
     tries.is_same(f"{kind}: the alarm", room.path, room.text("alarm"), f"0 2\n{found[1]}")
     tries.is_same(f"{kind}: its command is stopped", room.path,
                   [it for it in environments(room.path) if "sleep\x0061" in it], [])
     tries.is_same(f"{kind}: once", room.path, room.run("s", "JOBS", "--nightly"),
-                  (0, "3 commands: 3 ok; 3 run now\n"))
+                  (0, "3 commands: 3 ok; 3 run this time\n"))
     kind = "a store that another program has"
     with locked(f"{room.path}/s"):
         status, output = room.run("s", "JOBS", "--nightly", seconds=90)
@@ -488,15 +488,16 @@ def keys(tries: Shared) -> None:
     """Ctrl-C once, twice, and SIGTERM."""
     jobs = [job("g", f"k{it}", 0.8) for it in range(4)]
     left = ["g k2: waiting", "g k3: waiting"]
-    soon = "night-run: no command is begun any more; once more stops those that run\n"
+    soon = "night-run: no more commands are started; Ctrl-C again stops those that run\n"
     cut = [f"night-run: g k{it}: interrupted\n" for it in range(2)]
     both = ["g k0: interrupted", "g k1: interrupted"]
     for kind, signals, told, wanted in (
-            ("Ctrl-C", [signal.SIGINT], soon, [*left, "4 commands: 2 ok, 2 left; 2 run now"]),
+            ("Ctrl-C", [signal.SIGINT], soon,
+             [*left, "4 commands: 2 ok, 2 left; 2 run this time"]),
             ("Ctrl-C twice", [signal.SIGINT] * 2, soon + "".join(cut),
-             [*both, *left, "4 commands: 4 left; 0 run now"]),
+             [*both, *left, "4 commands: 4 left; 0 run this time"]),
             ("SIGTERM", [signal.SIGTERM], "".join(cut),
-             [*both, *left, "4 commands: 4 left; 0 run now"])):
+             [*both, *left, "4 commands: 4 left; 0 run this time"])):
         room = Room(tries, jobs)
         run = room.start("s", "JOBS", "-j", "2")
         room.until(lambda: len(room.lines("begun")) == 2)

@@ -97,8 +97,8 @@ def outlived_twice(tries: Shared) -> None:
         room.ended(run)
     has_settled(room, kind)
     tries.is_same(kind, room.path, room.run(), (1, (
-        "g b: exit 3; s.out/g.b.2\nh c: not begun: after g, which failed by g/b\n"
-        "3 commands: 1 ok, 1 failed, 1 not begun; 2 run now\n")))
+        "g b: exit 3; s.out/g.b.2\nh c: not started, because g/b failed\n"
+        "3 commands: 1 ok, 1 failed, 1 not started; 2 run this time\n")))
     tries.is_same(f"{kind}: a retry is a try of its own", room.path, room.begun(),
                   {"g.a": 1, "g.b": 2})
 
@@ -122,7 +122,7 @@ def of_its_shell(tries: Shared) -> None:
                 room.until(lambda: len(room.lines("begun")) == 2, 20))
     room.write("go", "")
     tries.is_same(kind, room.path, (room.ended(run), room.begun(), room.lines("beside")),
-                  ((0, "1 command: 1 ok; 1 run now\n"), {"g.a": 2}, []))
+                  ((0, "1 command: 1 ok; 1 run this time\n"), {"g.a": 2}, []))
 
 
 def shells(room: Room) -> Iterator[int]:
@@ -148,7 +148,7 @@ def passed_meanwhile(tries: Shared) -> None:
     time.sleep(10)
     has_settled(room, kind)
     tries.is_same(f"{kind}: what has ended", room.path, room.run(),
-                  (0, "3 commands: 3 ok; 3 run now\n"))
+                  (0, "3 commands: 3 ok; 3 run this time\n"))
     room = left(tries, kind, ["g: timeout 9s", "d: within 10s", waiting("g", "a"),
                               waiting("d", "a"), waiting("c", "a")])
     room.run("s", "--cancel", "c", "not", "now", errors="errors2")
@@ -169,7 +169,8 @@ def limited(tries: Shared) -> None:
     has_settled(room, kind)
     room.set(["g: limit 1", *jobs])
     tries.is_same(kind, room.path, (room.last(), room.errors, room.begun()), (
-        (1, "4 commands: 3 ok, 1 failed; 4 run now"), "", {f"g.k{it}": 1 for it in range(4)}))
+        (1, "4 commands: 3 ok, 1 failed; 4 run this time"), "",
+        {f"g.k{it}": 1 for it in range(4)}))
 
 
 def keeps(tries: Shared) -> None:
@@ -182,7 +183,7 @@ def keeps(tries: Shared) -> None:
         room.write("go", "")
         room.until(lambda room=room: not list(shells(room)))
         tries.is_same(kind, room.path, (room.last("s", "JOBS", "--grace", "1"), room.begun()),
-                      ((1, "1 command: 1 failed; 1 run now"), {"g.a": 1}))
+                      ((1, "1 command: 1 failed; 1 run this time"), {"g.a": 1}))
         there = any("sleep\x0067" in it for it in environments(room.path))
         tries.is_same(f"{kind}: it is there", room.path, there, kept)
         kill([int(it) for it in filter(str.isdigit, os.listdir("/proc")) if is_in(it, room.path)])
@@ -209,7 +210,7 @@ def cut_off(tries: Shared) -> None:
     room.ended(run)
     has_settled(room, kind)
     tries.is_same(kind, room.path, (room.run(), room.begun()),
-                  ((0, "1 command: 1 ok; 1 run now\n"), {"g.a": 2}))
+                  ((0, "1 command: 1 ok; 1 run this time\n"), {"g.a": 2}))
 
 
 # --- whom a file is of
@@ -220,7 +221,8 @@ def of_others(tries: Shared) -> None:
     room = left(tries, kind, [waiting("g", "a", "[ -e fine ]")])
     has_settled(room, kind)
     shutil.copytree(f"{room.path}/s.tries", f"{room.path}/copy")
-    tries.is_same(f"{kind}: it is", room.path, room.last(), (1, "1 command: 1 failed; 1 run now"))
+    tries.is_same(f"{kind}: it is", room.path, room.last(),
+                  (1, "1 command: 1 failed; 1 run this time"))
     shutil.copy(f"{room.path}/copy/g.a.0", f"{room.path}/s.tries/g.a.0")
     log = room.lines("s.log")
     tries.is_same(kind, room.path, (room.last()[1][:14], room.lines("s.log"), tries_in(room)),
@@ -229,13 +231,13 @@ def of_others(tries: Shared) -> None:
     room.write("fine", "")
     tries.is_same(f"{kind}: before another one", room.path, (
         room.last("s", "JOBS", "--failed"), room.begun()),
-        ((0, "1 command: 1 ok; 1 run now"), {"g.a": 2}))
+        ((0, "1 command: 1 ok; 1 run this time"), {"g.a": 2}))
 
     kind = "the file of a try of another night"
     room = left(tries, kind, [waiting("g", "a")])
     has_settled(room, kind)
     tries.is_same(kind, room.path, (room.last("s", "JOBS", "--again"), room.begun()),
-                  ((0, "1 command: 1 ok; 1 run now"), {"g.a": 2}))
+                  ((0, "1 command: 1 ok; 1 run this time"), {"g.a": 2}))
 
     for what in ("a store that is gone", "an older copy"):
         kind = f"the file of a try of another store: {what}"
@@ -290,7 +292,7 @@ def forged(tries: Shared) -> None:
             file.write(data)
         found = other.last()
         tries.is_same(kind, what, (found, other.begun(), tries_in(other)),
-                      ((0, "1 command: 1 ok; 1 run now"),
+                      ((0, "1 command: 1 ok; 1 run this time"),
                        {"g.a": 1 if what in ("much", "of the boot before") else 2}, []))
 
 
@@ -412,7 +414,7 @@ def never_began(tries: Shared) -> None:
                   "g z " + once.format("z", "until [ -e go ]; do sleep 0.1; done")])
         fill(f"{room.path}/m")
         run = room.start("m/s", "JOBS", "-j", "4", "--grace", "2")
-        told = "/s.tries: No space left on device: commands are begun later\n"
+        told = "/s.tries: No space left on device: commands are started later\n"
         tries.holds(f"{kind}: the file is named", room.path,
                     room.until(lambda: told in room.text("errors"), 30), room.text("errors"))
         time.sleep(2)
@@ -443,11 +445,11 @@ def full_at_first(tries: Shared) -> None:
         shutil.rmtree(f"{room.path}/m/s.tries", ignore_errors=True)
         fill(f"{room.path}/m")
         run = room.start("m/s", "JOBS")
-        told = "/s.tries: No space left on device: commands are begun later\n"
+        told = "/s.tries: No space left on device: commands are started later\n"
         tries.holds(f"{kind}: it waits", room.path,
                     room.until(lambda: told in room.text("errors"), 30), room.text("errors"))
         os.remove(f"{room.path}/m/hog")
-        tries.is_same(kind, room.path, room.ended(run), (0, "2 commands: 2 ok; 1 run now\n"))
+        tries.is_same(kind, room.path, room.ended(run), (0, "2 commands: 2 ok; 1 run this time\n"))
 
     on_full_disk(tries, kind, part)
 
@@ -463,7 +465,7 @@ def ends_on_full_disk(tries: Shared) -> None:
         room.until(lambda: len(room.lines("begun")) == 3)
         fill(f"{room.path}/m")
         kill([it for it in nights(run)])
-        room.until(lambda: "another one is begun" in room.text("errors"))
+        room.until(lambda: "it is started again" in room.text("errors"))
         time.sleep(0.5)
         tries.is_same(f"{kind}: `night` dies", room.path, (run.poll(), room.begun()["g.a"]),
                       (None, 1))
@@ -473,7 +475,7 @@ def ends_on_full_disk(tries: Shared) -> None:
         os.remove(f"{room.path}/m/hog")
         status, output = room.run("m/s", "JOBS")
         tries.is_same(kind, room.path, (status, output.splitlines()[-1], room.begun()), (
-            1, "3 commands: 2 ok, 1 failed; 2 run now", {"g.first": 1, "g.a": 1, "g.b": 1}))
+            1, "3 commands: 2 ok, 1 failed; 2 run this time", {"g.first": 1, "g.a": 1, "g.b": 1}))
 
     on_full_disk(tries, kind, part)
 
@@ -525,7 +527,7 @@ def renewed_badly(tries: Shared) -> None:
     open(f"{room.path}/s.ended.new/x", "w", encoding="ascii").close()
     status, output = room.last()
     tries.is_same(f"{kind}: the night goes on", room.path, (status, output),
-                  (1, "13 commands: 12 ok, 1 failed; 4 run now"))
+                  (1, "13 commands: 12 ok, 1 failed; 4 run this time"))
     tries.is_same(f"{kind}: the file is named", room.path, room.errors, (
         "night-run: s is nearly full, and can't be renewed; it is used as it is: s.ended.new: Is a"
         " directory\n"))

@@ -58,7 +58,7 @@ def pipes(tries: Shared) -> None:
     os.mkfifo(f"{room.path}/s.out/g.a.0")
     status, output = room.run(seconds=90)
     tries.is_same(f"{kind}: before it begins", room.path, (status, output.splitlines()[-1]),
-                  (1, "2 commands: 1 ok, 1 failed; 2 run now"))
+                  (1, "2 commands: 1 ok, 1 failed; 2 run this time"))
     room = Room(tries, ['g a rm -f "$NIGHT_STORE.out/g.a.0"; mkfifo "$NIGHT_STORE.out/g.a.0"'])
     for words in ((), ("--list",), ("--report", "text"), ("--report", "html")):
         tries.is_same(f"{kind}: as it runs", words, room.run("s", "JOBS", *words, seconds=90)[0],

@@ -20,7 +20,7 @@ from running import own_name
 KILLS = {"driver": 6, "both": 4, "night": 3, "rest": 2, "all": 2}
 ASKED = {"int": 2, "term": 2, "int twice": 1, "hup": 1}
 OTHERS = {"cancel": 3, "second": 1, "halt": 1}
-ENDED = ("ok", "failed", "canceled", "not begun")
+ENDED = ("ok", "failed", "canceled", "not started")
 # A moment that is long past the end of any night here.
 YEARS = 3 * 365 * 86400
 
@@ -412,10 +412,10 @@ class Night:
         if not may and phase != "ok" and last:
             timeout = self.plan.timeout_of(key)
             # (one whose end a kill took isn't begun again where its group has stopped since)
-            is_lost = end is None and phase == "not begun"
+            is_lost = end is None and phase == "not started"
             holds(not last.is_whole() or timeout is not None or is_lost,
                   f"10: {key} is {phase}, and its last try was {last}")
-        if phase == "not begun" or not last and phase == "canceled":
+        if phase == "not started" or not last and phase == "canceled":
             holds(may or self.has_reason(key, phases), f"10: {key} is {phase}, without a reason")
 
     def may_be_canceled(self, seen: Seen, key: str, since: float) -> bool:

@@ -180,8 +180,8 @@ class Jobs:
 
     def check_way(self, group: str, its: Settings) -> None:
         if its.way.stop and not its.way.via:
-            self.mistake(its.line, f"{group} has `stop`, and no `via`; after a failure nothing more"
-                                   " of it is begun by `stop on failure`")
+            self.mistake(its.line, f"{group} has `stop`, and no `via`; to start no more of it"
+                                   " after a failure, write `stop on failure`")
         elif its.way.ask and not its.way.via:
             self.mistake(its.line, f"{group} has `ask`, and no `via`")
         shells = [it for it in (its, *(one for (other, _), one in self.own.items()

@@ -96,8 +96,8 @@ class Leftover(Running):
         if self.file >= 0 and self.has_shell():
             signal_group(self.pid, which)
         elif not signal_ours(self.pid, self.tried, which):
-            note_once(f"{' '.join(self.name)}: process {self.pid} isn't known for its own, and is"
-                      " left alone")
+            note_once(f"{' '.join(self.name)}: process {self.pid} can't be shown to be its own, so"
+                      " it is left running")
 
     # --- its end
 

@@ -19,7 +19,7 @@
     and passed over, or the night doesn't begin.
  9. `--list`, `--report` and `--dry-run` write nothing, lock nothing, and tell what is so at one
     moment.
-10. What a night did is said at its end, an end by a fault too: ran now, ended before, not begun
+10. What a night did is said at its end, an end by a fault too: ran now, ended before, not started
     and why. The status is 0 only where every command of the file is ok.
 11. While the store isn't in its place nothing more is begun, and nothing is made there anew.
 
@@ -184,7 +184,7 @@ class Driver:
         if is_hopeless or self.lost >= MOST_LOST:
             raise ended
         self.lost += 1
-        note(f"{ended}; another one is begun")
+        note(f"{ended}; it is started again")
 
     def open_session(self) -> None:
         """Opens a session, and brings the store to what the file of commands asks for."""
@@ -227,7 +227,7 @@ class Driver:
             if is_renewed:
                 return
         if not self.cannot_renew:
-            tell(f"{self.files.shown} is full: nothing more is begun in it; run this again")
+            tell(f"{self.files.shown} is full: no more commands are started; run this again")
         self.is_full = self.cannot_renew = True
 
     # --- the opening
@@ -387,12 +387,12 @@ class Driver:
         """Sees whether the store is in its place; what is open of it takes ends meanwhile."""
         why = self.files.missing()
         if why and not self.missing:
-            tell(f"{self.files.shown}: {why}: it was taken away in the midst of the night; nothing"
-                 " more is begun until it is back")
+            tell(f"{self.files.shown}: {why}: it was taken away during the night; no more"
+                 " commands are started until it is back")
         elif self.missing and not why:
             note(f"{self.files.shown}: it is back")
             self.is_stale = True
-        self.missing = f"{self.files.shown}: {why}: it was taken away in the midst of the night" \
+        self.missing = f"{self.files.shown}: {why}: it was taken away during the night" \
             if why else ""
 
     def add_ends(self, batch: Batch) -> None:
@@ -571,7 +571,7 @@ class Driver:
 
     def begin_later(self, why: str) -> None:
         self.try_again = time.monotonic() + IDLE
-        note_once(f"{why}: commands are begun later")
+        note_once(f"{why}: commands are started later")
 
     def stop_those_due(self) -> None:
         """Stops the commands of groups that are done and those whose time is over, and begins those

@@ -64,7 +64,7 @@ class Unreadable(Fault):
     would run again."""
 
     def __init__(self, path: str, why: str) -> None:
-        super().__init__(f"{path}: {why}; nothing is begun: bring back a whole copy of it, or put"
+        super().__init__(f"{path}: {why}; nothing is started: bring back a whole copy of it, or put"
                          " it aside, and what it alone knows of runs again")
         self.path = path
 

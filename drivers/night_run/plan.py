@@ -11,7 +11,7 @@ from .facts import Facts
 from .jobs import Job, Jobs
 
 # How a command stands. The last two are for now.
-OK, FAILED, CANCELLED, NEVER = "ok", "failed", "canceled", "not begun"
+OK, FAILED, CANCELLED, NEVER = "ok", "failed", "canceled", "not started"
 INTERRUPTED, RUNNING, WAITING = "interrupted", "running", "waiting"
 # Where what says it can't be read; in a summary alone.
 NOT_KNOWN = "not known"
@@ -83,13 +83,11 @@ def standing(job: Job, facts: Facts, failed: dict[str, Name], found: dict[Name, 
     if job.group in facts.done:
         return Standing(CANCELLED, canceled(facts.done[job.group]).text)
     if stopped:
-        return Standing(NEVER, f"{stopped[0]} {stopped[1]} failed, and the group stops on failure")
+        return Standing(NEVER, f"{'/'.join(stopped)} failed, and the group stops on failure")
     for it in job.after:
         other = of_groups[it] if isinstance(it, str) else dead(found[it], it)
         if other:
-            said = it if isinstance(it, str) else "/".join(it)
-            whose = "" if isinstance(it, tuple) else f" by {'/'.join(other[1])}"
-            return Standing(NEVER, f"after {said}, which {other[0]}{whose}")
+            return Standing(NEVER, f"{'/'.join(other[1])} {other[0]}")
     if end is not None:
         return Standing(WAITING, end.text)
     return Standing(INTERRUPTED if name in facts.interrupted else WAITING)
@@ -97,7 +95,7 @@ def standing(job: Job, facts: Facts, failed: dict[str, Name], found: dict[Name, 
 
 def dead(it: Standing, name: Name) -> tuple[str, Name] | None:
     """Why nothing that comes after a command begins any more, if it is so."""
-    why = {FAILED: "failed", CANCELLED: "was canceled", NEVER: "is not begun"}.get(it.phase)
+    why = {FAILED: "failed", CANCELLED: "was canceled", NEVER: "was not started"}.get(it.phase)
     return (why, name) if why else None
 
 

@@ -19,7 +19,7 @@ from .rows import Group, Report, Row, Try
 
 SIGNS = {"good": "\u2713", "bad": "\u2717", "open": "\u25d1", "busy": "\u25b6"}
 # What didn't end well, besides failures.
-OTHERS = ("canceled", "not begun", "interrupted")
+OTHERS = ("canceled", "not started", "interrupted")
 # A group of more commands shows its lines in time once they are asked for.
 MOST_OPEN = 60
 # So many failures stand there; those after them once they are asked for.

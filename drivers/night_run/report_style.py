@@ -4,11 +4,11 @@
 STYLE = """
 :root { color-scheme: light dark;
   --paper: #f6f7f9; --card: #ffffff; --ink: #1c2430; --soft: #5b6675; --line: #dde2e8;
-  --on: #ffffff; --ok: #2b7a4b; --failed: #c0282d; --canceled: #a65a00; --not-begun: #7b5e96;
+  --on: #ffffff; --ok: #2b7a4b; --failed: #c0282d; --canceled: #a65a00; --not-started: #7b5e96;
   --interrupted: #56606e; --running: #1f66b5; --waiting: #76828f; --track: #eef1f4; }
 @media (prefers-color-scheme: dark) { :root {
   --paper: #12161c; --card: #1b212a; --ink: #e6eaf0; --soft: #9aa6b5; --line: #303947;
-  --on: #0c1016; --ok: #5cc283; --failed: #ff7b76; --canceled: #eba04b; --not-begun: #b79ad3;
+  --on: #0c1016; --ok: #5cc283; --failed: #ff7b76; --canceled: #eba04b; --not-started: #b79ad3;
   --interrupted: #aab4c2; --running: #6fb0f5; --waiting: #8491a1; --track: #262e39; } }
 * { box-sizing: border-box; }
 body { margin: 0; background: var(--paper); color: var(--ink);
@@ -42,7 +42,7 @@ pre { white-space: pre-wrap; margin: 8px 0; padding: 8px 10px; background: var(-
 .legend i { display: inline-block; width: 10px; height: 10px; border-radius: 2px;
   margin-right: 6px; }
 .ok { background: var(--ok); } .failed { background: var(--failed); }
-.canceled { background: var(--canceled); } .not-begun { background: var(--not-begun); }
+.canceled { background: var(--canceled); } .not-started { background: var(--not-started); }
 .interrupted { background: repeating-linear-gradient(135deg, var(--interrupted) 0 4px,
   var(--track) 4px 7px); } .running { background: var(--running); }
 .waiting { background: var(--waiting); }

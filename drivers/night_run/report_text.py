@@ -18,7 +18,7 @@ COLUMNS = 72
 # So many failures are told with their last lines, and so many names of what shares a reason.
 MOST_TOLD, MOST_NAMED = 20, 12
 # What didn't end well, besides failures.
-OTHERS = ("canceled", "not begun", "interrupted")
+OTHERS = ("canceled", "not started", "interrupted")
 
 
 def text(report: Report) -> str:

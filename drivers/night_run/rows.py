@@ -9,9 +9,9 @@ from __future__ import annotations
 
 from dataclasses import dataclass
 
-# How a command stands, in the order in which a report shows it. `waiting` is not begun yet,
-# `not begun` never will be, and `interrupted` was cut off and runs again in the next run.
-PHASES = ("ok", "failed", "canceled", "not begun", "interrupted", "running", "waiting")
+# How a command stands, in the order in which a report shows it. `waiting` has yet to be started,
+# `not started` never will be, and `interrupted` was cut off and runs again in the next run.
+PHASES = ("ok", "failed", "canceled", "not started", "interrupted", "running", "waiting")
 # The name of all groups together.
 OF_ALL = "night"
 

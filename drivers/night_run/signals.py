@@ -45,7 +45,7 @@ class Signals:
             self.raises = False  # (what follows is the end, which another one doesn't end)
             raise KeyboardInterrupt
         if self.steps == 1:
-            tell("no command is begun any more; once more stops those that run")
+            tell("no more commands are started; Ctrl-C again stops those that run")
 
     @contextlib.contextmanager
     def raising(self) -> Iterator[None]:

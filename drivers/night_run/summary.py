@@ -14,7 +14,7 @@ from .report_words import commands
 from .rounds import base_of
 
 # The counts of the last line, in order.
-KINDS = ("ok", "failed", "canceled", "not begun", "left", "not known")
+KINDS = ("ok", "failed", "canceled", "not started", "left", "not known")
 
 
 def kind_of(phase: str) -> str:
@@ -23,7 +23,9 @@ def kind_of(phase: str) -> str:
 
 def said(row: rows.Row) -> str:
     """How a command stands, in a line."""
-    if row.phase in (NEVER, NOT_KNOWN):
+    if row.phase == NEVER:
+        return f"{row.phase}, because {row.end}"
+    if row.phase == NOT_KNOWN:
         return f"{row.phase}: {row.end}"
     if row.phase == WAITING and row.end:
         return f"{row.phase}: {retry(row.end)}"
@@ -63,16 +65,16 @@ def changed(jobs: Jobs, report: rows.Report, lines: Mapping[Tried, Line]) -> lis
 def total(report: rows.Report, ran_now: int) -> str:
     found = collections.Counter(kind_of(it.phase) for it in report.rows)
     told = ", ".join(f"{found[it]} {it}" for it in KINDS if found[it])
-    return f"{commands(len(report.rows))}: {told or 'none'}; {ran_now} run now"
+    return f"{commands(len(report.rows))}: {told or 'none'}; {ran_now} run this time"
 
 
 def nothing_to_do(report: rows.Report, when: str) -> str:
     found = collections.Counter(kind_of(it.phase) for it in report.rows)
     ended = sum(count for kind, count in found.items() if kind != "left")
     bad = [f"{found[it]} {it}" for it in KINDS[1:] if found[it]]
-    failed = f"; --failed runs those again that are not ok ({', '.join(bad)})" if bad else ""
-    moment = f" ({when})" if when else ""
-    return f"nothing to do: {ended} ended before{moment}; --again runs them anew{failed}"
+    failed = f"; --failed repeats only those that are not ok ({', '.join(bad)})" if bad else ""
+    moment = f" by {when}" if when else ""
+    return f"nothing to do: {commands(ended)} ended{moment}; --again starts the next night{failed}"
 
 
 def is_well(report: rows.Report) -> bool:

@@ -422,7 +422,8 @@ class Run:
         """The state of the store. One whose sync failed is mended by an opening first."""
         self.files.forget_pages()
         if self.files.is_marked():
-            note(f"{self.files.shown}.failed is there, as after a failed sync; `night` sees to it")
+            note(f"{self.files.shown}.failed is there, because a sync failed; `night` copies the"
+                 " store first")
             ran("script", self.files.path, seconds=RENEWAL_SECONDS)
         return inspected(self.files)
 
@@ -439,7 +440,7 @@ class Run:
         driver.begins_night = has_one and (
             self.words.again or self.words.nightly and not self.is_rest)
         if self.is_rest and not is_over:
-            note(f"night {night} wasn't done: the rest of it comes first")
+            note(f"night {night} wasn't finished: the rest of it comes first")
         if self.words.failed:
             driver.forgiven = forgiven(found, facts)
             driver.anew = {group for group, _ in driver.forgiven if group in facts.done}
@@ -480,8 +481,8 @@ class Run:
         its = names_not_there(self.jobs, left)
         if its:
             shown = ", ".join(" ".join(it) for it in its[:5]) + (", .." if its[5:] else "")
-            note(f"{self.jobs.path} lacks {len(its)} commands that are left in"
-                 f" {self.files.shown}: {shown}")
+            note(f"{self.jobs.path}: no longer has commands that {self.files.shown} has yet to"
+                 f" finish ({len(its)}): {shown}")
 
     def idle(self) -> Outcome:
         """Nothing is left to do in this night."""
