@@ -360,8 +360,17 @@ def given(tries: Shared) -> None:
                   {it for it in files if int(it) < 10} - {"3"}, {"0", "1", "2"})
     tries.holds(f"{kind}: of its try", room.path, "s.tries" not in room.text("s.out/g.a.0"))
     tries.is_same(f"{kind}: its output", room.path, room.text("s.out/g.c.0"), "")
-    tries.is_same(f"{kind}: what it ignores", room.path,
-                  int(room.text("s.out/g.d.0").split()[1], 16) & (1 << 1 | 1 << 2 | 1 << 12), 0)
+    # (a shell that begins this test beside others has it ignore SIGINT and SIGQUIT)
+    without = subprocess.run(["grep", "SigIgn", "/proc/self/status"], stdout=subprocess.PIPE,
+                             text=True, check=True).stdout
+    tries.is_same(f"{kind}: what it ignores", room.path, ignored(room.text("s.out/g.d.0")),
+                  ignored(without) - {signal.SIGINT})
+
+
+def ignored(status: str) -> set[signal.Signals]:
+    """Which of three signals a process ignores, by the line of its status."""
+    mask = int(status.split()[1], 16)
+    return {it for it in (signal.SIGINT, signal.SIGQUIT, signal.SIGPIPE) if mask >> it - 1 & 1}
 
 
 # --- full disks
