@@ -421,7 +421,8 @@ def missed(tries: Shared) -> None:
     room = Room(tries, ["g: within 4s", job("g", "a"), "g b [ -e second ] || { touch second;"
                         " exec sleep 61; }; echo b >> done", job("g", "c"), "g c: after b"])
     run = room.start("s", "JOBS", "--grace", "1")
-    room.until(lambda: room.has("second"))
+    # (the end of `a` is logged once it is recorded, and so isn't one that the next run takes)
+    room.until(lambda: room.has("second") and room.has("s.log") and "\tok\t" in room.text("s.log"))
     hit(run, "driver")
     room.ended(run)
     time.sleep(5)
