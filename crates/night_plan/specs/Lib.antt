@@ -1,0 +1,14 @@
+pub mod Plans
+pub mod Nights
+pub mod Standings
+pub mod Choices
+pub mod Hopes
+pub mod Links
+pub mod Queues
+pub mod Ranks
+pub mod Turns
+pub mod Stops
+pub mod Growth
+pub mod Sessions
+pub mod Steps
+pub mod Examples

@@ -1,0 +1,10 @@
+pub mod Answered
+pub mod Digits
+pub mod Parsing
+pub mod Reading
+pub mod Rows
+pub mod Running
+pub mod Spelling
+pub mod Standing
+pub mod Steps
+pub mod Writing

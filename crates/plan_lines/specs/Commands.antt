@@ -1,0 +1,27 @@
+-- A command, as its lines make it.
+use Rattle.std.specs.Prelude.{◌≡◌, ◌++◌, ◌∷◌, []}
+use Rattle.night_plan.specs.declared.commands.Command.{Command}
+use Rattle.night_plan.specs.declared.commands.Need.{Need}
+use Rattle.night_plan.specs.declared.commands.Take.{Take}
+use Rattle.plan_lines.specs.declared.lines.Outline.{Outline}
+
+-- A command is as its first line says, and needs and takes nothing yet.
+pub record IsOutlined (line : Outline) (command : Command) : Type 0 where
+  pub group : command.group ≡ line.group
+  pub priority : command.priority ≡ line.priority
+  pub retries : command.retries ≡ line.retries
+  pub wait : command.wait ≡ line.wait
+  pub factor : command.factor ≡ line.factor
+  pub cap : command.cap ≡ line.cap
+  pub needs : command.needs.items ≡ []
+  pub takes : command.takes.items ≡ []
+
+-- A command has one more need, and is else the same.
+pub record HasNewNeed (old : Command) (need : Need) (new : Command) : Type 0 where
+  pub needs : new.needs.items ≡ old.needs.items ++ need ∷ []
+  pub same : new ≡ record old { needs = new.needs }
+
+-- A command takes one thing more, and is else the same.
+pub record HasNewTake (old : Command) (take : Take) (new : Command) : Type 0 where
+  pub takes : new.takes.items ≡ old.takes.items ++ take ∷ []
+  pub same : new ≡ record old { takes = new.takes }

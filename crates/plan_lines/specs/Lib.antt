@@ -1,0 +1,13 @@
+pub mod Tokens
+pub mod Lines
+pub mod Reading
+pub mod Commands
+pub mod Facts
+pub mod Answers
+pub mod Rounds
+pub mod Kinds
+pub mod Sessions
+pub mod Hearing
+pub mod Drafts
+pub mod Writing
+pub mod Runs

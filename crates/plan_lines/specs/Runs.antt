@@ -1,0 +1,181 @@
+-- What a line makes of a run, and what is written of it.
+use Rattle.std.specs.Prelude.{◌≡◌, ◌≤◌, ◌+◌, ◌-◌, ◌^◌, ◌++◌, ◌∷◌, ◌⊎◌, ℕ, false, List, []}
+use Rattle.std.specs.Prelude.{Option, Some, None, Result, Ok, Err, length}
+use Rattle.std.specs.Io.KnownBytes.{Appends, Consumes, IsAtEnd}
+use Rattle.console_lines.specs.declared.faults.RunFault.{RunFault}
+use Rattle.console_lines.specs.declared.faults.RunFault.TheVariants as fault
+use Rattle.console_lines.specs.Lines.{whole_lines}
+use Rattle.console_lines.specs.Progress.{IsFront}
+use Rattle.night_plan.specs.declared.commands.Plan.{Plan}
+use Rattle.night_plan.specs.declared.plans.PlanFault.{PlanFault}
+use Rattle.plan_lines.specs.declared.answers.AnswerLine.{AnswerLine}
+use Rattle.plan_lines.specs.declared.answers.AnswerLine.TheVariants as answer
+use Rattle.plan_lines.specs.declared.drafts.Draft.{Draft}
+use Rattle.plan_lines.specs.declared.hearing.Round.{Round}
+use Rattle.plan_lines.specs.declared.hearing.Heard.TheVariants as heard
+use Rattle.plan_lines.specs.declared.hearing.Grown.TheVariants as grown
+use Rattle.plan_lines.specs.declared.lines.PlanLine.{PlanLine}
+use Rattle.plan_lines.specs.declared.runs.Next.{Next}
+use Rattle.plan_lines.specs.declared.runs.Next.TheVariants as next
+use Rattle.plan_lines.specs.declared.runs.RunEnd.{RunEnd}
+use Rattle.plan_lines.specs.declared.runs.RunEnd.TheVariants as end
+use Rattle.plan_lines.specs.declared.runs.Stage.{Stage}
+use Rattle.plan_lines.specs.declared.runs.Stage.TheVariants as stage
+use Rattle.plan_lines.specs.declared.sessions.Session.{Session}
+use Rattle.plan_lines.specs.Answers.{answer_lines}
+use Rattle.plan_lines.specs.Drafts.{Adds, Finishes, IsNew}
+use Rattle.plan_lines.specs.Hearing.{Grows, Hears}
+use Rattle.plan_lines.specs.Lines.{Means}
+use Rattle.plan_lines.specs.Rounds.{IsAnswer, refusal_lines}
+use Rattle.plan_lines.specs.Sessions.{HasQuestion, IsBegun}
+
+-- ---- what a line makes of a run, and the lines of its answer
+
+abbrev pub bad_lines : ℕ → List AnswerLine
+bad_lines number = answer.Bad number ∷ answer.End ∷ []
+
+-- The run ends, because the line of this number is bad.
+abbrev pub Rejects : ℕ → Next → List AnswerLine → Type 0
+Rejects number (next.End (end.Bad n)) lines = (n ≡ number) × (lines ≡ bad_lines number)
+Rejects number _ lines = ⊥
+
+-- Rounds of a plan follow.
+abbrev pub BeginsRounds : Plan → Next → List AnswerLine → Type 0
+BeginsRounds plan (next.Stage (stage.Round r)) lines = IsBegun plan r.session × (r.growth ≡ None)
+    × (lines ≡ answer.Plan (length plan.commands.items) ∷ answer.End ∷ [])
+BeginsRounds plan _ lines = ⊥
+
+-- The run ends, because the plan is refused.
+abbrev pub Refuses : PlanFault → Next → List AnswerLine → Type 0
+Refuses why (next.End (end.Refused fault)) lines = (fault ≡ why) × (lines ≡ refusal_lines why)
+Refuses why _ lines = ⊥
+
+-- A plan is taken, and rounds follow; or it is refused.
+abbrev pub EndsPlan : Draft → Next → List AnswerLine → Type 0
+EndsPlan d after lines =
+    ((plan : Plan) × Finishes d (Ok plan) × BeginsRounds plan after lines)
+    ⊎ ((why : PlanFault) × Finishes d (Err why) × Refuses why after lines)
+
+-- A round is answered, and the next one follows.
+abbrev pub AnswersRound : Session → Next → List AnswerLine → Type 0
+AnswersRound s (next.Stage (stage.Round t)) lines =
+    IsAnswer s lines × HasQuestion false s t.session × (t.growth ≡ None)
+AnswersRound s _ lines = ⊥
+
+-- A round has ended: it is answered, once the plan has grown; or the growth is refused.
+abbrev pub EndsRound : Round → Next → List AnswerLine → Type 0
+EndsRound r after lines =
+    ((s : Session) × Grows r.growth r.session (grown.Session s) × AnswersRound s after lines)
+    ⊎ ((n : ℕ) × Grows r.growth r.session (grown.Bad n) × Rejects n after lines)
+
+-- A part has ended.
+abbrev pub EndsPart : Stage → Next → List AnswerLine → Type 0
+EndsPart (stage.Plan d) = EndsPlan d
+EndsPart (stage.Round r) = EndsRound r
+
+-- A line of this number is taken, and not answered; or it is bad.
+abbrev pub Takes : Stage → PlanLine → ℕ → Next → List AnswerLine → Type 0
+Takes (stage.Plan d) parsed number (next.Stage (stage.Plan e)) lines =
+    Adds parsed d (Some e) × (lines ≡ [])
+Takes (stage.Plan d) parsed number (next.End (end.Bad n)) lines =
+    Adds parsed d None × (n ≡ number) × (lines ≡ bad_lines n)
+Takes (stage.Round r) parsed number (next.Stage (stage.Round t)) lines =
+    Hears parsed number r (heard.Round t) × (lines ≡ [])
+Takes (stage.Round r) parsed number (next.End (end.Bad n)) lines =
+    Hears parsed number r (heard.Bad n) × (lines ≡ bad_lines n)
+Takes _ parsed number _ lines = ⊥
+
+-- The bytes of a line of this number are taken. An empty line ends a part. Any other line is taken
+-- by its meaning, and is bad if it has none.
+abbrev pub TakesLine : Stage → ℕ → (bytes : List ℕ) → Next → List AnswerLine → Type 0
+TakesLine s number [] = EndsPart s
+TakesLine s number (b ∷ bytes) = λ after lines.
+    ((parsed : PlanLine) × Means (b ∷ bytes) parsed × Takes s parsed number after lines)
+    ⊎ (((parsed : PlanLine) → Means (b ∷ bytes) parsed → ⊥) × Rejects number after lines)
+
+-- ---- a whole run
+
+-- The lines of an input are taken one after another, from a stage on. The first one has the number
+-- n. The run ends after the last line, or with the line that ends it. These are the lines of its
+-- answers.
+abbrev pub RunsOver : Stage → (n : ℕ) → (input : List (List ℕ)) → RunEnd → List AnswerLine → Type 0
+RunsOver s n [] stop lines = (stop ≡ end.InputEnded) × (lines ≡ [])
+RunsOver s n (line ∷ input) stop lines =
+    TakesLine s n line (next.End stop) lines
+    ⊎ ((t : Stage) × (first rest : List AnswerLine) × TakesLine s n line (next.Stage t) first
+    × RunsOver t (n + 1) input stop rest × (lines ≡ first ++ rest))
+
+-- A run has come to its end. All lines that an LF ended were taken, up to the one that ends the
+-- run, and their answers were written. The input was read to its end, unless a line ends the run.
+pub record RunEnds (stop : RunEnd) (r0 r1 w0 w1 : Option (List ℕ)) : Type 0 where
+  pub bytes : List ℕ
+  pub read : Consumes r0 r1 bytes
+  pub first : Draft
+  pub none_yet : IsNew first
+  pub lines : List AnswerLine
+  pub runs : RunsOver (stage.Plan first) 1 (whole_lines [] bytes) stop lines
+  pub ended : stop ≡ end.InputEnded → IsAtEnd r1
+  pub written : Appends w0 w1 (answer_lines lines)
+
+-- ---- a run that a fault has stopped
+
+-- What was written of the answer to a line, for each fault that stops the run: a prefix of it if
+-- the output failed, and otherwise nothing.
+abbrev pub BreaksOff : RunFault → Stage → ℕ → (line : List ℕ) → (text : List ℕ) → Type 0
+BreaksOff fault.Output s n line text =
+    (after : Next) × (lines : List AnswerLine) × TakesLine s n line after lines
+    × IsFront text (answer_lines lines)
+BreaksOff fault.Memory s n line text = text ≡ []
+BreaksOff fault.InputTooLong s n line text = text ≡ []
+BreaksOff _ s n line text = ⊥
+
+-- A fault that stops a run after the last line that was read.
+abbrev pub IsAfterLines : RunFault → Type 0
+IsAfterLines fault.Input = Unit {0}
+IsAfterLines fault.InputTooLong = Unit {0}
+IsAfterLines _ = ⊥
+
+-- The lines of an input are taken one after another, from a stage on, until a fault stops the run
+-- at one of them, or after the last one. This is what was written.
+abbrev pub StopsOver : RunFault → Stage → (n : ℕ) → (input : List (List ℕ)) → (text : List ℕ)
+    → Type 0
+StopsOver why s n [] text = IsAfterLines why × (text ≡ [])
+StopsOver why s n (line ∷ input) text =
+    BreaksOff why s n line text
+    ⊎ ((t : Stage) × (first : List AnswerLine) × (rest : List ℕ)
+    × TakesLine s n line (next.Stage t) first × StopsOver why t (n + 1) input rest
+    × (text ≡ answer_lines first ++ rest))
+
+-- A fault has stopped a run. Of the answers to the lines that were read a prefix was written.
+pub record RunStops (why : RunFault) (r0 r1 w0 w1 : Option (List ℕ)) : Type 0 where
+  pub bytes : List ℕ
+  pub read : Consumes r0 r1 bytes
+  pub first : Draft
+  pub none_yet : IsNew first
+  pub text : List ℕ
+  pub stops : StopsOver why (stage.Plan first) 1 (whole_lines [] bytes) text
+  pub too_long : why ≡ fault.InputTooLong → 2 ^ 64 - 2 ≤ length bytes
+  pub written : Appends w0 w1 text
+
+-- What a run does, by its result.
+abbrev pub RunsPlan : Result RunEnd RunFault → (r0 r1 w0 w1 : Option (List ℕ)) → Type 0
+RunsPlan (Ok stop) r0 r1 w0 w1 = RunEnds stop r0 r1 w0 w1
+RunsPlan (Err why) r0 r1 w0 w1 = RunStops why r0 r1 w0 w1
+
+-- ---- for private functions: no public contract cites what follows
+
+-- What was written, by the result of a step, if `Makes` says what comes after it and which answer
+-- it has: the answer; a prefix of it, if the output failed; or nothing, if memory was refused.
+abbrev pub Answers : (Makes : Next → List AnswerLine → Type 0) → Result Next RunFault
+    → (w0 w1 : Option (List ℕ)) → Type 0
+Answers Makes (Ok after) w0 w1 =
+    (lines : List AnswerLine) × Makes after lines × Appends w0 w1 (answer_lines lines)
+Answers Makes (Err fault.Output) w0 w1 =
+    (after : Next) × (lines : List AnswerLine) × Makes after lines
+    × (text : List ℕ) × IsFront text (answer_lines lines) × Appends w0 w1 text
+Answers Makes (Err fault.Memory) w0 w1 = w1 ≡ w0
+Answers Makes (Err _) w0 w1 = ⊥
+
+-- This comes after the step, and this is its answer.
+abbrev pub Gives : Next → List AnswerLine → Next → List AnswerLine → Type 0
+Gives this these after lines = (after ≡ this) × (lines ≡ these)

@@ -1,0 +1,146 @@
+//! The answer to a plan and to a round, line by line.
+
+ghost use Rattle.std.specs.Prelude.{◌≡◌, ◌++◌, ◌∷◌, [], IfOk, OnOk, length, map};
+ghost use Rattle.plan_lines.specs.Rounds.{AsksAppended, IsAnswer, Stated, later_lines};
+ghost use Rattle.plan_lines.specs.Rounds.{refusal_lines, standing_lines};
+ghost use Rattle.plan_lines.specs.Kinds.{line_of_kind};
+
+use crate::answers::AnswerLine;
+use crate::sessions::Session;
+use night_plan::choices::choose;
+use night_plan::plans::PlanFault;
+use night_plan::standings::{Standing, standings};
+use night_plan::stops::to_stop;
+use std::alloc::{AllocError, Global};
+
+/// The answer to a plan that was taken.
+pub fn taken_answer(alloc: Global, session: &Session) -> Result<Vec<AnswerLine>, AllocError>
+    ensures { IfOk result (λ lines. lines.items
+        ≡ AnswerLine.Plan (length session.now.plan.commands.items) ∷ AnswerLine.End ∷ []) }
+{
+    let mut lines = Vec::new(alloc);
+    lines.push(AnswerLine::Plan(session.plan.commands.len()))?;
+    lines.push(AnswerLine::End)?;
+    Ok(lines)
+}
+
+/// The answer to a plan that is refused. Missing memory has none.
+pub fn refused_answer(alloc: Global, fault: &PlanFault) -> Result<Vec<AnswerLine>, AllocError>
+    ensures { IfOk result (λ lines. lines.items ≡ refusal_lines fault.now) }
+{
+    let mut lines = Vec::new(alloc);
+    match fault {
+        PlanFault::Memory => return Err(AllocError),
+        PlanFault::Unknown(command) => lines.push(AnswerLine::Unknown(*command))?,
+        PlanFault::TooMuch(command) => lines.push(AnswerLine::TooMuch(*command))?,
+        PlanFault::Circle(members) => {
+            lines.push(AnswerLine::Circle)?;
+            push_each(&mut lines, members.as_slice(), Kind::Member)?;
+        }
+    }
+    lines.push(AnswerLine::End)?;
+    Ok(lines)
+}
+
+/// What a line says of a command.
+#[derive(Clone, Copy)]
+enum Kind {
+    Member,
+    Begin,
+    Stop,
+}
+
+/// The line that says this of a command.
+fn line_of(kind: Kind, command: usize) -> AnswerLine
+    ensures { result ≡ line_of_kind kind command }
+{
+    match kind {
+        Kind::Member => AnswerLine::Member(command),
+        Kind::Begin => AnswerLine::Begin(command),
+        Kind::Stop => AnswerLine::Stop(command),
+    }
+}
+
+/// Appends a line for each of these commands.
+fn push_each(lines: &mut Vec<AnswerLine>, commands: &[usize], kind: Kind) -> Result<(), AllocError>
+    ensures { OnOk result (lines.new.items
+        ≡ lines.old.items ++ map (line_of_kind kind) commands.now) }
+{
+    for command in commands {
+        lines.push(line_of(kind, *command))?;
+    }
+    Ok(())
+}
+
+/// The answer to a round.
+pub fn round_answer(alloc: Global, session: &Session) -> Result<Vec<AnswerLine>, AllocError>
+    ensures { IfOk result (λ lines. IsAnswer session.now lines.items) }
+{
+    let choice = choose(alloc, &session.plan, &session.facts, session.time)?;
+    let stops = to_stop(alloc, &session.plan, &session.facts)?;
+    let mut lines = Vec::new(alloc);
+    push_each(&mut lines, choice.commands.as_slice(), Kind::Begin)?;
+    push_each(&mut lines, stops.as_slice(), Kind::Stop)?;
+    push_later(&mut lines, choice.later)?;
+    push_asked(alloc, &mut lines, session)?;
+    lines.push(AnswerLine::End)?;
+    Ok(lines)
+}
+
+/// Appends the line of a later moment, if there is one.
+fn push_later(lines: &mut Vec<AnswerLine>, later: Option<u64>) -> Result<(), AllocError>
+    ensures { OnOk result (lines.new.items ≡ lines.old.items ++ later_lines later) }
+{
+    match later {
+        Some(moment) => lines.push(AnswerLine::Later(moment))?,
+        None => {}
+    }
+    Ok(())
+}
+
+/// Appends how each command stands, if the round asks for it.
+fn push_asked(
+    alloc: Global,
+    lines: &mut Vec<AnswerLine>,
+    session: &Session,
+) -> Result<(), AllocError>
+    ensures { OnOk result (AsksAppended session.now lines.old.items lines.new.items) }
+{
+    if session.asked {
+        push_standings(alloc, lines, session)?;
+    }
+    Ok(())
+}
+
+/// Appends how each command stands.
+fn push_standings(
+    alloc: Global,
+    lines: &mut Vec<AnswerLine>,
+    session: &Session,
+) -> Result<(), AllocError>
+    ensures { OnOk result (Stated session.now lines.old.items lines.new.items) }
+{
+    let all = standings(alloc, &session.plan, &session.facts, session.time)?;
+    push_all_standings(lines, all.as_slice())
+}
+
+/// Appends a line for the standing of each command.
+fn push_all_standings(lines: &mut Vec<AnswerLine>, all: &[Standing]) -> Result<(), AllocError>
+    ensures { OnOk result (lines.new.items ≡ lines.old.items ++ standing_lines 0 all.now) }
+{
+    for (command, standing) in all.iter().enumerate() {
+        lines.push(AnswerLine::Stands(command, *standing))?;
+    }
+    Ok(())
+}
+
+/// The answer to a line that can't be taken.
+pub fn bad_answer(alloc: Global, number: u64) -> Result<Vec<AnswerLine>, AllocError>
+    ensures { IfOk result (λ lines. lines.items
+        ≡ AnswerLine.Bad number ∷ AnswerLine.End ∷ []) }
+{
+    let mut lines = Vec::new(alloc);
+    lines.push(AnswerLine::Bad(number))?;
+    lines.push(AnswerLine::End)?;
+    Ok(lines)
+}

@@ -1,0 +1,198 @@
+//! A [`Session`] is a plan that was taken, and what was heard since.
+
+ghost use Rattle.std.specs.Prelude.{◌<◌, ◌^◌, ◌≡◌, ◌++◌, ◌∷◌, [], length, IfOk, MatchOption};
+ghost use Rattle.std.specs.Prelude.{false};
+ghost use Rattle.night_plan.specs.Growth.{fresh_row};
+ghost use Rattle.night_plan.specs.Nights.{AreFacts};
+ghost use Rattle.night_plan.specs.Ranks.{IsKnown};
+
+use crate::lines::PlanLine;
+use crate::notes::note;
+use night_plan::commands::{Command, Group, Plan};
+use night_plan::facts::{Facts, Known, Phase};
+use night_plan::growth::{with_command, with_group};
+use night_plan::plans::growth_fault;
+use std::alloc::{AllocError, Global};
+
+/// A plan, the facts that were heard, and the time.
+#[derive(Drop)]
+pub struct Session {
+    pub plan: Plan,
+    pub facts: Facts,
+    pub time: u64,
+    /// Whether the round asks how each command stands.
+    pub asked: bool,
+    pub ghost moment: { time < 2 ^ 63 },
+    pub ghost rows: { AreFacts plan facts },
+}
+
+/// The latest time that a line can tell.
+const LATEST: u64 = 999_999_999_999;
+
+/// What is known of a command at first.
+const NOTHING: Known = Known {
+    phase: Phase::Fresh,
+    failures: 0,
+    canceled: false,
+};
+
+impl Session {
+    ghost use Rattle.plan_lines.specs.Facts.{Notes};
+    ghost use Rattle.plan_lines.specs.Sessions.{HasFact, HasNewCommand, HasNewGroup};
+    ghost use Rattle.plan_lines.specs.Sessions.{HasQuestion, HasTime, IsBegun, MayGrow};
+
+    /// A session of a plan of which nothing was heard yet.
+    pub fn begin(alloc: Global, plan: Plan) -> Result<Session, AllocError>
+        ensures { IfOk result (IsBegun plan) }
+    {
+        let known = vec![in alloc; NOTHING; plan.commands.len()]?;
+        let done = vec![in alloc; false; plan.groups.len()]?;
+        let sizes = Vec::from_slice(alloc, plan.pools.as_slice())?;
+        Ok(Session {
+            plan,
+            facts: Facts { known, done, sizes },
+            time: 0,
+            asked: false,
+        })
+    }
+
+    /// The session with the question how each command stands, or without it.
+    pub fn with_question(self, asked: bool) -> Session
+        ensures { HasQuestion asked self result }
+    {
+        let Session {
+            plan,
+            facts,
+            time,
+            asked: _,
+        } = self;
+        Session {
+            plan,
+            facts,
+            time,
+            asked,
+        }
+    }
+
+    /// The session at a later time.
+    pub fn at(self, moment: u64) -> Session
+        ensures { HasTime moment self result }
+    {
+        let Session {
+            plan,
+            facts,
+            time,
+            asked,
+        } = self;
+        let time = time.max(moment.min(LATEST));
+        Session {
+            plan,
+            facts,
+            time,
+            asked,
+        }
+    }
+
+    /// The session with one more fact, and `None` if it is of something that there isn't.
+    pub fn with_fact(self, line: PlanLine) -> Option<Session>
+        ensures { MatchOption result (Notes false line self.facts self.facts)
+            (HasFact line self) }
+    {
+        let Session {
+            plan,
+            mut facts,
+            time,
+            asked,
+        } = self;
+        if !note(&mut facts, line) {
+            return None;
+        }
+        Some(Session {
+            plan,
+            facts,
+            time,
+            asked,
+        })
+    }
+
+    /// The session whose plan has one more group.
+    pub fn with_group(self, group: Group) -> Result<Session, AllocError>
+        ensures { IfOk result (HasNewGroup group self) }
+    {
+        let Session {
+            plan,
+            facts,
+            time,
+            asked,
+        } = self;
+        let facts = facts_of_group(facts)?;
+        let plan = with_group(plan, group)?;
+        Ok(Session {
+            plan,
+            facts,
+            time,
+            asked,
+        })
+    }
+
+    /// Whether the plan may grow by a command: it names what there is, and takes no more of a pool
+    /// than the plan says there is.
+    pub fn may_grow(&self, command: &Command) -> bool
+        ensures { MayGrow result self.now.plan command.now }
+    {
+        growth_fault(&self.plan, command).is_none()
+    }
+
+    /// The session whose plan has one more command, which names what there is.
+    pub fn with_command(self, command: Command) -> Result<Session, AllocError>
+        requires { IsKnown (length self.plan.groups.items) (length self.plan.commands.items)
+            (length self.plan.pools.items) command }
+        ensures { IfOk result (HasNewCommand command self) }
+    {
+        let Session {
+            plan,
+            facts,
+            time,
+            asked,
+        } = self;
+        let facts = facts_of_command(facts)?;
+        let plan = with_command(plan, command)?;
+        Ok(Session {
+            plan,
+            facts,
+            time,
+            asked,
+        })
+    }
+}
+
+/// The facts with a row for one more command, of which nothing is known yet.
+fn facts_of_command(facts: Facts) -> Result<Facts, AllocError>
+    ensures known { IfOk result (λ new. new.known.items
+        ≡ facts.known.items ++ fresh_row ∷ []) }
+    ensures done { IfOk result (λ new. new.done ≡ facts.done) }
+    ensures sizes { IfOk result (λ new. new.sizes ≡ facts.sizes) }
+{
+    let Facts {
+        mut known,
+        done,
+        sizes,
+    } = facts;
+    known.push(NOTHING)?;
+    Ok(Facts { known, done, sizes })
+}
+
+/// The facts with a row for one more group, which isn't done.
+fn facts_of_group(facts: Facts) -> Result<Facts, AllocError>
+    ensures known { IfOk result (λ new. new.known ≡ facts.known) }
+    ensures done { IfOk result (λ new. new.done.items ≡ facts.done.items ++ false ∷ []) }
+    ensures sizes { IfOk result (λ new. new.sizes ≡ facts.sizes) }
+{
+    let Facts {
+        known,
+        mut done,
+        sizes,
+    } = facts;
+    done.push(false)?;
+    Ok(Facts { known, done, sizes })
+}

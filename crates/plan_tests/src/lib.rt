@@ -1,0 +1,10 @@
+//! Tests of plans: what begins, what waits, what is stopped, and which plans are refused; and of
+//! sessions, in which lines are read and answered.
+#![tactic(auto)]
+
+#[cfg(test)]
+mod asserts;
+#[cfg(test)]
+mod plans;
+#[cfg(test)]
+mod sessions;
