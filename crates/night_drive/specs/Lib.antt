@@ -1,0 +1,6 @@
+pub mod Names
+pub mod Searches
+pub mod Tries
+pub mod Seen
+pub mod Openings
+pub mod Examples

@@ -1,0 +1,183 @@
+//! What a store says of the commands and the groups of a plan, in one night.
+
+ghost use Rattle.std.specs.Prelude.{◌≡◌, ◌&&◌, IfOk, length};
+ghost use Rattle.run_model.specs.Tasks.{has_stage};
+ghost use Rattle.night_drive.specs.Searches.{count_below, last_below};
+ghost use Rattle.night_drive.specs.Seen.{AreKnownTo, AreNames, AreOverTo, IsSeen, is_try};
+ghost use Rattle.night_drive.specs.Seen.{known_of, moment_of, phase_after};
+ghost use Rattle.night_drive.specs.Tries.{has_failed};
+
+use crate::ends::Ends;
+use crate::names::Names;
+use crate::nights::{is_over, is_owned};
+use crate::tries::{counts, has_failed, phase_by};
+use night_plan::commands::Plan;
+use night_plan::facts::{Facts, Known, Phase};
+use run_model::{Name, Text, is_spelled};
+use run_session::State;
+use std::alloc::{AllocError, Allocator, Global};
+
+/// Reads from a state what is known of a plan in one night: of each command how far its last try
+/// has come, and how many of its tries have failed; and which groups are done. The pools have the
+/// sizes that the plan says.
+pub fn seen<A: Allocator>(
+    alloc: Global,
+    state: &State<A>,
+    ends: &Ends,
+    plan: &Plan,
+    names: &Names,
+) -> Result<Facts, AllocError>
+    requires { AreNames plan.now names.now }
+    ensures { IfOk result (IsSeen state.now ends.now plan.now names.now) }
+{
+    let known = all_known(alloc, state, ends, plan, names)?;
+    let done = all_over(alloc, state, names)?;
+    let sizes = Vec::from_slice(alloc, plan.pools.as_slice())?;
+    Ok(Facts { known, done, sizes })
+}
+
+/// What is known of each command of a plan.
+fn all_known<A: Allocator>(
+    alloc: Global,
+    state: &State<A>,
+    ends: &Ends,
+    plan: &Plan,
+    names: &Names,
+) -> Result<Vec<Known>, AllocError>
+    requires { AreNames plan.now names.now }
+    ensures sized { IfOk result (λ known. length known.items ≡ length plan.now.commands.items) }
+    ensures known { IfOk result (λ known. AreKnownTo (length plan.now.commands.items) state.now
+        ends.now names.now plan.now.commands.items known.items) }
+{
+    let mut known = Vec::new(alloc);
+    for (c, command) in plan.commands.iter().enumerate() {
+        let group = &names.groups[command.group];
+        let key = &names.keys[c];
+        known.push(known_of(state, ends, &names.night, group, key))?;
+    }
+    Ok(known)
+}
+
+/// Which groups of a plan are done.
+fn all_over<A: Allocator>(
+    alloc: Global,
+    state: &State<A>,
+    names: &Names,
+) -> Result<Vec<bool>, AllocError>
+    ensures sized { IfOk result (λ done. length done.items ≡ length names.now.groups.items) }
+    ensures done { IfOk result (λ done. AreOverTo (length names.now.groups.items) state.now
+        names.now done.items) }
+{
+    let mut done = Vec::new(alloc);
+    for group in &names.groups {
+        done.push(is_over(state, &names.night, group))?;
+    }
+    Ok(done)
+}
+
+/// What is known of the command with this key, in a group of this name and in this night.
+pub fn known_of<A: Allocator>(
+    state: &State<A>,
+    ends: &Ends,
+    night: &Option<Text>,
+    group: &Name,
+    key: &Name,
+) -> Known
+    ensures { result ≡ known_of state.now (moment_of ends.now) night.now group.now key.now }
+{
+    Known {
+        phase: phase_after(state, ends, last_try(state, night, group, key)),
+        failures: failures(state, night, group, key),
+        canceled: false,
+    }
+}
+
+/// The last try of a command.
+fn last_try<A: Allocator>(
+    state: &State<A>,
+    night: &Option<Text>,
+    group: &Name,
+    key: &Name,
+) -> Option<u16>
+    ensures { result ≡ last_below (is_try state.now night.now group.now key.now)
+        (length state.now.work.tasks) }
+{
+    let mut last = None;
+    for n in 0..state.task_count() as u16 {
+        if is_try(state, night, group, key, n) {
+            last = Some(n);
+        }
+    }
+    last
+}
+
+/// How many tries of a command have failed.
+fn failures<A: Allocator>(state: &State<A>, night: &Option<Text>, group: &Name, key: &Name) -> u32
+    ensures { result ≡ count_below (λ n. is_try state.now night.now group.now key.now n
+        && has_stage has_failed state.now.work n) (length state.now.work.tasks) }
+{
+    let mut count = 0;
+    for n in 0..state.task_count() as u16 {
+        if is_failed_try(state, night, group, key, n) {
+            count += 1;
+        }
+    }
+    count
+}
+
+/// Whether a task is a try of this command, and has failed.
+fn is_failed_try<A: Allocator>(
+    state: &State<A>,
+    night: &Option<Text>,
+    group: &Name,
+    key: &Name,
+    n: u16,
+) -> bool
+    ensures { result ≡ (is_try state.now night.now group.now key.now n
+        && has_stage has_failed state.now.work n) }
+{
+    is_try(state, night, group, key, n) && is_failure(state, n)
+}
+
+/// Whether a task is a try of this command.
+fn is_try<A: Allocator>(
+    state: &State<A>,
+    night: &Option<Text>,
+    group: &Name,
+    key: &Name,
+    n: u16,
+) -> bool
+    ensures { result ≡ is_try state.now night.now group.now key.now n }
+{
+    match state.groups().task_row(n) {
+        Some(task) => {
+            is_spelled(task.argument.as_bytes(), key.as_bytes())
+                && counts(&task.stage)
+                && is_owned(state, night, group, task.group)
+        }
+        None => false,
+    }
+}
+
+/// Whether a task has failed.
+fn is_failure<A: Allocator>(state: &State<A>, n: u16) -> bool
+    ensures { result ≡ has_stage has_failed state.now.work n }
+{
+    match state.groups().task_row(n) {
+        Some(task) => has_failed(&task.stage),
+        None => false,
+    }
+}
+
+/// How far the last try of a command has come, if there is one.
+fn phase_after<A: Allocator>(state: &State<A>, ends: &Ends, last: Option<u16>) -> Phase
+    ensures { result ≡ phase_after state.now (moment_of ends.now) last }
+{
+    let Some(n) = last else {
+        return Phase::Fresh;
+    };
+    match state.groups().task_row(n) {
+        Some(task) => phase_by(ends.moment(n), &task.stage),
+        None => Phase::Fresh,
+    }
+}
