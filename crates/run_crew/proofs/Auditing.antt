@@ -2,12 +2,12 @@
 use Rattle.run_model.proofs.Common.{◌≡◌, ℕ, ◌+◌, Bool, true, false, List, length, ap, inl, inr}
 use Rattle.run_model.proofs.Common.{refl, sym, subst, ◌∙◌, WorkState}
 use Rattle.std.specs.List.Sorted.{IsPermutation}
-use Rattle.crew_workers.specs.declared.notes.Note.{Note}
+use Rattle.run_crew.specs.declared.notes.Note.{Note}
 use Rattle.run_crew.specs.declared.audits.Strayed.{Strayed}
 use Rattle.run_crew.specs.Audits.{HasStrayed, IsComplete, IsFirstLeft, IsFirstStray, NoStray}
 use Rattle.run_crew.specs.Audits.{NoneLeft, are_noted, made_at}
 use Rattle.run_crew.specs.Desks.{DeskView}
-use Rattle.crew_workers.specs.Notes.{all_notes}
+use Rattle.run_crew.specs.Notes.{all_notes}
 use Rattle.run_crew.proofs.Permuting.{settled}
 
 -- The finishes that were found are those since the desk was made.

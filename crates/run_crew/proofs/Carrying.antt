@@ -17,7 +17,7 @@ use Rattle.run_disk.specs.Disk.{DiskState, IsAtRest}
 use Rattle.run_disk.proofs.RunLemmas.{leaves_only_more}
 use Rattle.model_laws.proofs.StartingReplies.{start_of}
 use Rattle.book_model.specs.Books.{CarriesOn, BookView, acked}
-use Rattle.book_model.specs.Stores.{StoresFront}
+use Rattle.book_model.specs.Stores.{StoresPrefix}
 use Rattle.book_model.proofs.BookLemmas.{passed_more, stores_fewer, stores_more}
 use Rattle.run_book.specs.Views.{with_session}
 use Rattle.run_crew.specs.Desks.{finishes_of, starts_of}
@@ -109,18 +109,18 @@ module _ {D : Type 0} (state : D → DiskState) where
         rest = λ rest. subst (λ d. IsAtRest (state d)) (sym on.origin) (is.rest rest);
         any_moment = λ honest rest.
             leaves_only_more
-            (StoresFront from.session.start h.session.history least)
-            (StoresFront new.session.start new.session.history (acked h))
-            (StoresFront from.session.start new.session.history least)
+            (StoresPrefix from.session.start h.session.history least)
+            (StoresPrefix new.session.start new.session.history (acked h))
+            (StoresPrefix from.session.start new.session.history least)
             from.disk (state h.journal.disk) (state new.journal.disk)
             (is.any_moment honest rest)
             (on.any_moment (record { honest = is.passed.honest honest; rest = is.rest rest }))
             (λ x s.
-            subst (λ l. StoresFront from.session.start l least x) (sym grown)
+            subst (λ l. StoresPrefix from.session.start l least x) (sym grown)
             (stores_more from.session.start h.session.history events least x s))
             (λ x s.
             stores_fewer from.session.start new.session.history (acked h) least x fewer
-            (subst (λ p. StoresFront p new.session.history (acked h) x) (on.start ∙ is.start) s));
+            (subst (λ p. StoresPrefix p new.session.history (acked h) x) (on.start ∙ is.start) s));
       }
 
   -- Starts and finishes came, or others where they may.

@@ -1,6 +1,16 @@
 pub mod Auditing
+pub mod Boxes
 pub mod Carrying
 pub mod Counting
+pub mod Coursing
+pub mod Durability
+pub mod Following
+pub mod GatedShifts
+pub mod PrintedNights
 pub mod Permuting
+pub mod Rooms
 pub mod Stepping
 pub mod Strays
+pub mod Turning
+pub mod Working
+pub mod Zipping

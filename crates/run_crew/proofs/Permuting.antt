@@ -13,9 +13,9 @@ use Rattle.std.proofs.lemmas.List.Sorted.{IsPermutation-refl, IsPermutation-tran
 use Rattle.run_model.specs.declared.tasks.Outcome.{Outcome}
 use Rattle.run_model.specs.declared.tasks.Outcome.TheVariants.{Success, Failure}
 use Rattle.run_model.specs.Event as event
-use Rattle.crew_workers.specs.declared.notes.Note.{Note}
+use Rattle.run_crew.specs.declared.notes.Note.{Note}
 use Rattle.run_crew.specs.Audits.{IsStrayIn, NoStray, are_noted, is_stray}
-use Rattle.crew_workers.specs.Notes.{all_notes}
+use Rattle.run_crew.specs.Notes.{all_notes}
 use Rattle.run_crew.specs.Notes.{finishes_since, has, is_same, is_same_outcome, note_of}
 use Rattle.run_crew.specs.Notes.{note_since}
 use Rattle.run_crew.proofs.Strays.{has-all}

@@ -21,11 +21,11 @@ use Rattle.run_model.specs.declared.commands.Step.{Step}
 use Rattle.run_model.specs.declared.refusals.Refusal.{Refusal}
 use Rattle.run_model.specs.declared.refusals.Refusal.TheVariants.{Broken, SessionFull}
 use Rattle.run_disk.specs.Disk.{DiskState}
-use Rattle.run_state.specs.Lasting.{Stays}
+use Rattle.run_session.specs.Lasting.{Stays}
 use Rattle.book_model.specs.Books.{BookView, CarriesOn}
 use Rattle.book_model.specs.Steps.{AnswersStep}
 use Rattle.run_crew.specs.Desks.{DeskView, finishes_of, starts_of}
-use Rattle.crew_workers.specs.Seats.{SeatView, one_finish, one_start}
+use Rattle.run_crew.specs.Seats.{SeatView, one_finish, one_start}
 use Rattle.run_crew.specs.Steps.{TakesStep}
 
 pub takes_step :

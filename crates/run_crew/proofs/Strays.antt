@@ -5,9 +5,9 @@ use Rattle.run_model.proofs.Common.{subst, slice_index_or, Some, list_any, list_
 use Rattle.run_model.proofs.Common.{get_or_default, get_or_past, get_or_from_slice_get}
 use Rattle.run_model.proofs.Common.{slice_get-get_or, slice_get_within}
 use Rattle.std.proofs.lemmas.Option.{slice_get_cases}
-use Rattle.crew_workers.specs.declared.notes.Note.{Note}
+use Rattle.run_crew.specs.declared.notes.Note.{Note}
 use Rattle.run_crew.specs.Audits.{IsFirstStray, IsStray, IsStrayIn, NoStray, is_stray}
-use Rattle.crew_workers.specs.Notes.{all_notes}
+use Rattle.run_crew.specs.Notes.{all_notes}
 use Rattle.run_crew.specs.Notes.{has, is_same}
 
 pub has-all :

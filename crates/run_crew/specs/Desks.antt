@@ -7,7 +7,7 @@ use Rattle.run_model.specs.Replies.{is_task_done}
 use Rattle.model_laws.specs.Kinds.{is_finish, is_start}
 use Rattle.book_model.specs.Books.{BookView}
 
--- A desk has a book, and knows how many events there had been when the desk was made.
+-- What contracts see of a desk: its book, and the number of events when the desk was made.
 pub record DeskView (D : Type 0) : Type 0 where
   pub book : BookView D
   pub since : ℕ
@@ -24,6 +24,6 @@ finishes_of events = count_by is_finish events
 
 -- ---- tasks
 
--- There is a task of this number, and the scope that it lives in is done.
+-- There is a task with this number, and its scope is done.
 abbrev pub is_done_for : State → ℕ → Bool
 is_done_for p n = option_map_or (λ task. is_task_done p task) (slice_get p.work.tasks n) false

@@ -1,5 +1,11 @@
 pub mod Audits
+pub mod Courses
+pub mod Crews
 pub mod Desks
+pub mod Nights
 pub mod Notes
 pub mod Openings
+pub mod Seats
+pub mod Shifts
 pub mod Steps
+pub mod Turns

@@ -1,36 +1,44 @@
--- Which notes are the same, and the finishes that they should be of.
+-- The notes of workers: which are the same, and the finishes that they should be of.
 use Rattle.std.specs.Prelude.{ℕ, ◌+◌, ◌==◌, nat_lt, Bool, true, false, ◌&&◌, if◌then◌else◌}
-use Rattle.std.specs.Prelude.{List, [], ◌∷◌, ◌++◌}
-use Rattle.std.specs.List.{list_any}
+use Rattle.std.specs.Prelude.{List, [], ◌∷◌, ◌++◌, length, sum_by}
+use Rattle.std.specs.List.{flat_map, list_any}
 use Rattle.std.specs.Str.{bytes_eq}
 use Rattle.run_model.specs.declared.tasks.Outcome.{Outcome}
 use Rattle.run_model.specs.declared.tasks.Outcome.TheVariants.{Success, Failure}
 use Rattle.run_model.specs.Event.{Event}
 use Rattle.run_model.specs.Event as event
-use Rattle.crew_workers.specs.declared.notes.Note.{Note}
+use Rattle.run_crew.specs.declared.notes.Note.{Note}
 
 -- ---- notes
 
--- Both tasks ended without an error, or both with the same one.
+-- How many notes there are.
+abbrev pub noted : List (List Note) → ℕ
+noted lists = sum_by (λ notes. length notes) lists
+
+-- The notes of all workers, one list after the other.
+abbrev pub all_notes : List (List Note) → List Note
+all_notes lists = flat_map (λ notes. notes) lists
+
+-- Both tasks ended without an error, or both with the same error.
 abbrev pub is_same_outcome : Outcome → Outcome → Bool
 is_same_outcome Success Success = true
 is_same_outcome (Failure one) (Failure other) = bytes_eq one other
 is_same_outcome Success (Failure other) = false
 is_same_outcome (Failure one) Success = false
 
--- The notes are of one event, of one task, and of one outcome.
+-- Both notes have the same event, the same task and the same outcome.
 abbrev pub is_same : Note → Note → Bool
 is_same note other =
     (note.event == other.event) && (note.task == other.task)
     && is_same_outcome note.outcome other.outcome
 
--- The note stands among these.
+-- The note is among these.
 abbrev pub has : List Note → Note → Bool
 has notes note = list_any (λ other. is_same note other) notes
 
 -- ---- finishes
 
--- The note of the event of this number, if it is a finish.
+-- The note of the event with this number, if it is a finish.
 abbrev pub note_of : ℕ → Event → List Note
 note_of number (event.Finish task outcome) =
     record { event = number; task = task; outcome = outcome } ∷ []

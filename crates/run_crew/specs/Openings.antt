@@ -7,10 +7,10 @@ use Rattle.run_model.specs.Session.{Session}
 use Rattle.run_disk.specs.Disk.{DiskState, IsAtRest}
 use Rattle.run_disk.specs.Runs.{LeavesOnly, Passed}
 use Rattle.book_model.specs.Books.{BookView}
-use Rattle.book_model.specs.Stores.{StoresFront}
+use Rattle.book_model.specs.Stores.{StoresPrefix}
 
--- What a book held at one moment, and the states of its disk then and as it was given to its
--- opening; and whether commands may come after it, beside starts and finishes.
+-- What a book held at one moment, and the states of its disk at that moment and when it was passed
+-- to the opening. Also whether commands may come after that moment, besides starts and finishes.
 pub record Opened : Type 1 where
   pub session : Session
   pub durable : ℕ
@@ -18,12 +18,12 @@ pub record Opened : Type 1 where
   pub origin : DiskState
   pub commands : Bool
 
--- What is known of the book that a desk was made over: nothing, or what it was then.
+-- What is known about the book of a desk: nothing, or what it was when the desk was made.
 pub data Known : Type 1 where
   Unsaid : Known
   From : Opened → Known
 
--- What a book is now, when starts and finishes alone may come.
+-- What a book is now, if only starts and finishes may come.
 abbrev pub opened_of : {D : Type 0} → (D → DiskState) → BookView D → Opened
 opened_of state h = record {
   session = h.session;
@@ -44,11 +44,11 @@ is_work (event.Start task) = true
 is_work (event.Finish task outcome) = true
 is_work _ = false
 
--- A book carries on from what it was at that moment: its opening stays, events are only added,
--- starts and finishes alone unless commands may come, and no event that was acknowledged is lost.
--- If the disk is honest and the book was opened on a disk at rest, a crash at any moment from that
--- one on leaves a state that a prefix of the events leads to, with each event in it that was
--- acknowledged then.
+-- A book carries on from what it was at that moment. Its opening stays the same, no acknowledged
+-- event is lost, and events are only added: starts and finishes, unless commands may come, too.
+-- Suppose that the disk is honest, and was at rest when the book was opened. Then a crash at any
+-- moment since leaves a state to which a prefix of the events leads, and the prefix contains every
+-- event that was acknowledged at that moment.
 pub record CarriesFrom {D : Type 0} (from : Opened) (state : D → DiskState) (h : BookView D)
     : Type 0 where
   pub start : h.session.start ≡ from.session.start
@@ -60,7 +60,7 @@ pub record CarriesFrom {D : Type 0} (from : Opened) (state : D → DiskState) (h
   pub rest : IsAtRest from.origin → IsAtRest (state h.origin)
   pub any_moment : from.disk.honest → IsAtRest from.origin
       → LeavesOnly
-      (StoresFront from.session.start h.session.history (from.durable - from.session.start.count))
+      (StoresPrefix from.session.start h.session.history (from.durable - from.session.start.count))
       from.disk (state h.journal.disk)
 
 -- A book carries on from what is known of it.

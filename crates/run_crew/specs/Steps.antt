@@ -3,13 +3,13 @@ use Rattle.std.specs.Prelude.{◌≡◌}
 use Rattle.run_model.specs.declared.answers.Reply.{Reply}
 use Rattle.run_model.specs.declared.commands.Step.{Step}
 use Rattle.run_disk.specs.Disk.{DiskState}
-use Rattle.run_state.specs.Lasting.{Stays}
+use Rattle.run_session.specs.Lasting.{Stays}
 use Rattle.book_model.specs.Books.{CarriesOn}
 use Rattle.book_model.specs.Steps.{AnswersStep}
 use Rattle.run_crew.specs.Desks.{DeskView}
 
--- The book of a desk takes this step, is answered by this reply, and carries on; what is done or
--- has ended stays so. The number of events that there had been when the desk was made stays, too.
+-- The book of a desk takes this step, answers with this reply, and carries on. What is done or has
+-- ended stays so. The number of events when the desk was made stays, too.
 pub record TakesStep {D : Type 0} (state : D → DiskState) (old : DeskView D) (x : Step)
     (r : Reply) (new : DeskView D) : Type 0 where
   pub answers : AnswersStep state old.book x r new.book

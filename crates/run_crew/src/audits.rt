@@ -1,5 +1,5 @@
-//! The audit of a night: whether the notes of its workers are the finishes of the history, each
-//! once, and no task is left.
+//! The audit of a night compares the notes of its workers with the finishes in the history, and
+//! looks for tasks that are left.
 
 ghost use Rattle.std.specs.Prelude.{◌≡◌, ◌++◌, ◌||◌, MatchOption, MatchResult, OnOk};
 ghost use Rattle.std.specs.List.Sorted.{IsPermutation};
@@ -7,22 +7,23 @@ ghost use Rattle.run_crew.specs.Audits.{FirstStrayIn, HasStrayed, IsComplete, Is
 ghost use Rattle.run_crew.specs.Audits.{IsFirstStray, NoStray, NoneLeft, is_left};
 ghost use Rattle.run_crew.specs.Audits.{is_stray, made_at};
 ghost use Rattle.run_crew.specs.Notes.{has};
-ghost use Rattle.crew_workers.specs.Notes.{all_notes};
+ghost use Rattle.run_crew.specs.Notes.{all_notes};
 
 use crate::desks::Desk;
 use crate::finishes::Finishes;
-use crate::notes::{has_note, have_note};
+use crate::notes::{Note, WorkerNotes, has_note, have_note};
 use crate::openings::Opening;
-use crew_workers::{Note, WorkerNotes};
 use run_book::State;
 use run_disk::RunDisk;
 use run_model::Phase;
 use std::sync::ledger::Ledger;
 
-/// Where an audit failed first: a worker, and a place among its notes, both from 0 on.
+/// The first difference that an audit found: a worker and the place of one of its notes, both
+/// counted from 0.
 ///
-/// If a finish is in no list, these are the number of lists, and 0. If only a task is left, ready
-/// or running, they are the number of lists, and the number of the least such task plus 1.
+/// If a finish is in no list, they are the number of lists, and 0. If the only difference is a task
+/// that is left ready or running, they are the number of lists, and 1 more than the lowest number
+/// of such a task.
 #[derive(Clone, Copy, PartialEq, Eq)]
 pub struct Strayed {
     /// The number of the worker.
@@ -31,10 +32,11 @@ pub struct Strayed {
     pub note: usize,
 }
 
-/// Reports whether the notes of the workers are the finishes since the desk was made, each once,
-/// with its number, task and outcome, and no task is ready or running. If not, it names the first
-/// note, by worker and then by place, that is of no such finish or repeats an earlier note; else
-/// that a finish is in no list; else the task that is left. Takes no memory.
+/// Compares the notes of the workers with the finishes since the desk was made. They agree if each
+/// finish is noted once, with its number, task and outcome, and no other finish is noted. Also, no
+/// task may be ready or running. If they don't agree, the result is the first of these differences:
+/// a note that belongs to no such finish or repeats an earlier note (the first one, by worker and
+/// then by place); a finish that is in no list; a task that is left. Takes no memory.
 pub fn audit<D: RunDisk, S: Ledger, F: Ledger, O: Opening>(
     desk: &Desk<D, S, F, O>,
     lists: &[WorkerNotes],
@@ -87,7 +89,7 @@ fn first_stray_in(made: &Finishes<'_>, before: &[WorkerNotes], notes: &[Note]) -
     None
 }
 
-/// Reports whether a note after these is of no finish that was made, or repeats one of them.
+/// Returns whether a note after these is of no finish that was made, or repeats one of them.
 fn is_stray(made: &Finishes<'_>, before: &[WorkerNotes], earlier: &[Note], note: &Note) -> bool
     ensures { result ≡ is_stray made.now (all_notes before.now ++ earlier.now) note.now }
 {
@@ -103,7 +105,7 @@ fn is_any_of(one: bool, two: bool, three: bool) -> bool
     one || two || three
 }
 
-/// Reports whether these workers together noted this.
+/// Returns whether these workers together noted this.
 fn have_noted(lists: &[WorkerNotes], note: &Note) -> bool
     ensures { result ≡ has (all_notes lists.now) note.now }
 {
@@ -123,7 +125,7 @@ fn first_left(state: &State) -> Option<u16>
     None
 }
 
-/// Reports whether a task is ready or running.
+/// Returns whether a task is ready or running.
 fn is_left(state: &State, task: u16) -> bool
     ensures { result ≡ is_left state.now.work task }
 {

@@ -1,4 +1,4 @@
-//! A [`Desk`] is what lies under the one lock: the book, and the totals of its starts and finishes.
+//! A [`Desk`] is the value under the lock: the book, and the totals of its starts and finishes.
 
 ghost use Rattle.std.specs.Prelude.{◌≡◌, ◌<◌, ◌≤◌, ◌+◌, ◌^◌, ℕ, List, length, MatchResult};
 ghost use Rattle.std.specs.Prelude.{OnErr, OnOk, Some};
@@ -12,26 +12,27 @@ ghost use Rattle.book_model.specs.Books.{CarriesOn, Checkpoints, Flushes, IsDura
 ghost use Rattle.book_model.specs.Stores.{Stores};
 ghost use Rattle.run_book.specs.Views.{unless_broken, with_session};
 ghost use Rattle.run_crew.specs.Desks.{DeskView, finishes_of, is_done_for, starts_of};
+ghost use Rattle.run_crew.specs.Nights.{FlushesNight};
 ghost use Rattle.run_crew.specs.Openings.{Carries};
-ghost use Rattle.crew_workers.specs.Seats.{one_finish, one_start};
+ghost use Rattle.run_crew.specs.Seats.{one_finish, one_start};
 ghost use Rattle.run_crew.specs.Steps.{TakesStep};
 
 use crate::counts::counts_of;
 use crate::openings::{AnyBook, Obeys, Opening};
-use crew_workers::Seat;
+use crate::seats::Seat;
 use run_book::Book;
 use run_disk::RunDisk;
 use run_model::{Answer, Command, Outcome, Refusal, Started, Trouble};
 use std::marker::{Model, PhantomData};
 use std::sync::ledger::{Blank, Book as Total, Ledger};
 
-/// A book, how many events it had when the desk was made, and the totals of the starts and the
-/// finishes in its history. It is the value of the one lock that all workers share, so each of its
-/// calls is one step of the book.
+/// A book, the number of its events when the desk was made, and the totals of the starts and the
+/// finishes in its history. It is the value of the one lock that all workers share, so each call of
+/// it is one step of the book.
 ///
-/// The opening stands for what is known of the book when the desk was made. From there the book
-/// carries on, whatever threads held the lock: [`Desk::book`] ensures it. A desk that names no
-/// opening is of any book.
+/// The type of the opening stands for what is known of the book when the desk is made. From there
+/// the book carries on, whichever threads hold the lock: [`Desk::book`] ensures that. A desk that
+/// names no opening may be of any book.
 #[derive(Drop)]
 pub struct Desk<D: RunDisk, S: Ledger, F: Ledger, O: Opening = AnyBook> {
     book: Book<D>,
@@ -56,8 +57,8 @@ impl<D: RunDisk, S: Ledger, F: Ledger, O: Opening> Model for Desk<D, S, F, O> {
 }
 
 impl<D: RunDisk, S: Ledger, F: Ledger, O: Opening> Desk<D, S, F, O> {
-    /// A desk over a book, and the seat with every part of both shares. The seat has counted what
-    /// the book's history already has.
+    /// Returns a desk over a book, and a seat that has every part of both shares. The seat has
+    /// counted the starts and finishes that are already in the history of the book.
     pub fn new(book: Book<D>, starts: Blank, finishes: Blank) -> (Desk<D, S, F, O>, Seat<S, F>)
         requires starts { (starts.name ≡ S.name) × (starts.parts ≡ S.parts) × (0 < S.parts) }
         requires finishes { (finishes.name ≡ F.name) × (finishes.parts ≡ F.parts)
@@ -90,8 +91,8 @@ impl<D: RunDisk, S: Ledger, F: Ledger, O: Opening> Desk<D, S, F, O> {
         (desk, seat)
     }
 
-    /// Starts the ready task with the least number, as [`Book::start`] does. If it is accepted,
-    /// the seat has counted one start more.
+    /// Starts the ready task with the lowest number, as [`Book::start`] does. If the start is
+    /// accepted, the seat counts one more start.
     pub fn start_as(&mut self, seat: &mut Seat<S, F>) -> Result<Started, Refusal>
         requires part { 0 < seat.old.start_parts }
         ensures reply { result ≡ unless_broken self.old.book
@@ -110,8 +111,8 @@ impl<D: RunDisk, S: Ledger, F: Ledger, O: Opening> Desk<D, S, F, O> {
         started
     }
 
-    /// Ends a running task with this outcome, as [`Book::finish`] does. If it is accepted, the
-    /// seat has counted one finish more.
+    /// Ends a running task with this outcome, as [`Book::finish`] does. If the finish is accepted,
+    /// the seat counts one more finish.
     pub fn finish_as(
         &mut self,
         seat: &mut Seat<S, F>,
@@ -135,7 +136,7 @@ impl<D: RunDisk, S: Ledger, F: Ledger, O: Opening> Desk<D, S, F, O> {
         number
     }
 
-    /// Makes all events so far durable by their records, as [`Book::flush`] does.
+    /// Makes all events so far durable, as [`Book::flush`] does.
     pub fn flush(&mut self) -> Result<u64, Trouble>
         ensures layout { self.new.book.journal.layout ≡ self.old.book.journal.layout }
         ensures flushes { Flushes D.state self.old.book result self.new.book }
@@ -148,7 +149,18 @@ impl<D: RunDisk, S: Ledger, F: Ledger, O: Opening> Desk<D, S, F, O> {
         self.book.flush()
     }
 
-    /// Makes all events so far durable by an image, as [`Book::checkpoint`] does.
+    /// Flushes, as [`Desk::flush`] does. The history that is flushed has each start and finish that
+    /// the seat has counted.
+    pub(crate) fn flush_as(&mut self, seat: &mut Seat<S, F>) -> Result<u64, Trouble>
+        ensures flushes { FlushesNight D.state O.opening seat.old result }
+        ensures same { seat.new ≡ seat.old }
+    {
+        self.starts.audit(&mut seat.starts);
+        self.finishes.audit(&mut seat.finishes);
+        self.flush()
+    }
+
+    /// Makes all events so far durable, as [`Book::checkpoint`] does.
     pub fn checkpoint(&mut self) -> Result<u64, Trouble>
         ensures layout { self.new.book.journal.layout ≡ self.old.book.journal.layout }
         ensures checkpoints { Checkpoints D.state self.old.book result self.new.book }
@@ -161,8 +173,8 @@ impl<D: RunDisk, S: Ledger, F: Ledger, O: Opening> Desk<D, S, F, O> {
         self.book.checkpoint()
     }
 
-    /// How many starts and finishes the book's history has. A seat with every part has counted the
-    /// same numbers.
+    /// Returns how many starts and finishes are in the history of the book. A seat with every part
+    /// has counted the same numbers.
     pub fn settle(&mut self, seat: &mut Seat<S, F>) -> (u64, u64)
         requires parts { (seat.old.start_parts ≡ S.parts) × (seat.old.finish_parts ≡ F.parts) }
         ensures same { (self.new ≡ self.old) × (seat.new ≡ seat.old) }
@@ -176,9 +188,9 @@ impl<D: RunDisk, S: Ledger, F: Ledger, O: Opening> Desk<D, S, F, O> {
         (counts.starts, counts.finishes)
     }
 
-    /// The book, for reading. Whenever the lock is free, its state is what its history leads to,
-    /// whatever a crash leaves has the acknowledged events, and it carries on from what is known of
-    /// the opening.
+    /// Returns the book, for reading. Whenever the lock is free, its state is the one to which its
+    /// history leads, whatever a crash leaves contains the acknowledged events, and the book
+    /// carries on from what is known of the opening.
     pub fn book(&self) -> &Book<D>
         ensures book { result.now ≡ self.now.book }
         ensures replays { Replays self.now.book.session }
@@ -190,14 +202,14 @@ impl<D: RunDisk, S: Ledger, F: Ledger, O: Opening> Desk<D, S, F, O> {
         &self.book
     }
 
-    /// How many events there had been when the desk was made.
+    /// Returns how many events there were when the desk was made.
     pub fn since(&self) -> u64
         ensures { result ≡ self.now.since }
     {
         self.since
     }
 
-    /// Reports whether there is a task of this number and the scope that it lives in is done.
+    /// Returns whether there is a task with this number, and its scope is done.
     pub fn is_done(&self, task: u16) -> bool
         ensures { result ≡ is_done_for self.now.book.session.state task }
     {
@@ -214,7 +226,7 @@ impl<D: RunDisk, S: Ledger, F: Ledger, O: Opening> Desk<D, S, F, O> {
         }
     }
 
-    /// The book, given back.
+    /// Returns the book, and gives up the desk.
     pub fn into_book(self) -> Book<D>
         ensures book { result ≡ self.book }
         ensures carries { Carries O.opening D.state self.book }

@@ -1,33 +1,48 @@
-//! A night over a desk: one worker for each list of jobs, beside a thread that flushes.
+//! A night over a desk: one worker for each list of jobs, and one more thread that flushes.
 
-ghost use Rattle.std.specs.Prelude.{◌≡◌, ◌<◌, All, vec_len, IfOk, IfErr};
+ghost use Rattle.std.specs.Prelude.{◌≡◌, ◌⊎◌, ◌<◌, ◌≤◌, [], All, map, vec_len, vec_capacity};
+ghost use Rattle.std.specs.Prelude.{IfOk, IfErr, OnOk};
 ghost use Rattle.run_model.specs.declared.faults.Fault.TheVariants.{Memory};
-ghost use Rattle.crew_workers.specs.Courses.{IsGates, IsOfShift};
-ghost use Rattle.crew_workers.specs.Notes.{noted};
-ghost use Rattle.crew_workers.specs.Seats.{CountsNight};
+ghost use Rattle.std.specs.List.{AllZip};
+ghost use Rattle.run_crew.specs.Courses.{IsAnswered, IsGates, IsOfShift, IsSomeShift};
+ghost use Rattle.run_crew.specs.Nights.{FlushesNight, OfDesk};
+ghost use Rattle.run_crew.specs.Notes.{noted};
+ghost use Rattle.run_crew.specs.Seats.{CountsNight, CountsSame, GivesParts, JoinsShifts};
 
+use crate::arrivals::Arrivals;
+use crate::bells::Bell;
 use crate::desks::Desk;
+use crate::flusher_calls::{ThreadFlusher, save_rings};
+use crate::jobs::{Gate, Job};
+use crate::notes::WorkerNotes;
 use crate::openings::Opening;
-use crew_workers::{Gate, Job, Seat, WorkerNotes, work_night};
+use crate::places::{CountedPlace, Place};
+use crate::seats::Seat;
+use crate::workers::{ShiftOf, WorkerEnd, WorkerStart};
 use run_disk::RunDisk;
 use run_model::{Fault, Trouble};
-use std::alloc::Global;
+use std::alloc::{AllocError, Global};
+use std::marker::PhantomData;
+use std::snapshot::Snapshot;
 use std::sync::ledger::Ledger;
 use std::sync::{Mutex, Wait};
-use std::thread::Threads;
+use std::thread;
+use std::thread::{PromisedHandle, Scope, Threads};
 
-/// Works off the ready tasks of the book under the lock, by one thread for each list of jobs, and
-/// then flushes. Returns the notes of the workers, in the order of the lists, and the answer of the
-/// last flush.
+/// Runs the ready tasks of the book under the lock, by one thread for each list of jobs, and then
+/// flushes. The seat needs one part for each list, and one more for the thread that makes finishes
+/// durable. Returns the notes of the workers, in the order of the lists, and the result of the last
+/// flush.
 ///
-/// Each worker starts the ready task with the least number and makes the start durable, makes the
-/// turns by the first of its jobs that handles the task, finishes it and notes it, until it finds
-/// no task ready, its start or its finish is refused, its flush isn't done, or its notes are full.
-/// One more thread makes each finish durable. A flush is of all that is under way, so starts share
-/// it. No lock is held while a job or the gate runs.
+/// Each worker repeats these steps: it starts the ready task with the lowest number, makes the
+/// start durable, makes the turns by the first of its jobs that handles the task, finishes the
+/// task, and notes that. It ends when no task is ready, when a start, a flush of a start or a
+/// finish is refused, or when its notes are full. One more thread makes the finishes durable. A
+/// flush includes everything that is under way, so starts share flushes. No lock is held while a
+/// job or the gate runs.
 ///
-/// `Memory` if a growth or the start of a thread was refused. Then, too, every thread that was
-/// started has been joined; the seat may lack some parts.
+/// `Memory` if memory or the start of a thread was refused. Even then every thread that was started
+/// has been joined; the seat may lack some parts.
 pub fn run_night<
     D: RunDisk + Send,
     S: Ledger + Send + Sync,
@@ -48,9 +63,251 @@ pub fn run_night<
     ensures workers { IfOk result (λ r. vec_len r.0 ≡ vec_len jobs) }
     ensures seat { IfOk result (λ r.
         CountsNight (vec_len jobs) (noted r.0.items) seat.old seat.new) }
-    ensures gate { IfOk result (λ r.
-        All (IsOfShift (IsGates (G.lets gate.now) (G.told gate.now))) r.0.items) }
+    ensures shifts { IfOk result (λ r. AllZip (λ list notes.
+        IsOfShift (OfDesk D.state (G.lets gate.now) (G.told gate.now))
+        ⟦<Box<dyn Job + Send> as Job>⟧.answers ⟦<Box<dyn Job + Send> as Job>⟧.turns
+        list.items notes) jobs.items r.0.items) }
+    ensures flushed { IfOk result (λ r. FlushesNight D.state O.opening seat.new r.1) }
     ensures fault { IfErr result (λ fault. fault ≡ Memory) }
 {
-    work_night(rt, alloc, shared, seat, jobs, gate)
+    let lists = run_shifts(rt, alloc, shared, seat, jobs, gate);
+    let last = shared.lock(rt).flush_as(seat);
+    Ok((lists?, last))
+}
+
+/// Does what [`run_night`] does, but for the last flush.
+pub fn run_shifts<
+    T: CountedPlace<S, F> + Send,
+    S: Ledger + Send + Sync,
+    F: Ledger + Send + Sync,
+    G: Gate + Sync,
+    J: Job + Send,
+    R: Threads + Wait + Sync,
+>(
+    rt: &R,
+    alloc: Global,
+    shared: &Mutex<T>,
+    seat: &mut Seat<S, F>,
+    jobs: Vec<Vec<J>>,
+    gate: &G,
+) -> Result<Vec<WorkerNotes>, Fault>
+    requires start_parts { vec_len jobs < seat.old.start_parts }
+    requires finish_parts { vec_len jobs < seat.old.finish_parts }
+    ensures workers { IfOk result (λ lists. vec_len lists ≡ vec_len jobs) }
+    ensures seat { IfOk result (λ lists.
+        CountsNight (vec_len jobs) (noted lists.items) seat.old seat.new) }
+    ensures gate { IfOk result (λ lists.
+        All (IsSomeShift (IsGates (G.lets gate.now) (G.told gate.now))) lists.items) }
+    ensures shifts { IfOk result (λ lists. AllZip (λ list notes. IsOfShift
+        (IsAnswered T.starts T.holds T.flushes T.tells T.finishes
+        (G.lets gate.now) (G.told gate.now)) J.answers J.turns list.items notes)
+        jobs.items lists.items) }
+    ensures fault { IfErr result (λ fault. fault ≡ Memory) }
+{
+    let Ok(mut notes) = Vec::with_capacity(alloc, jobs.len()) else {
+        return Err(Fault::Memory);
+    };
+    let Ok(workers) = workers_of(alloc, seat, jobs) else {
+        return Err(Fault::Memory);
+    };
+    let Ok(shifts) = shifts_of(rt, alloc, shared, workers, gate) else {
+        return Err(Fault::Memory);
+    };
+    gather(seat, shifts, &mut notes);
+    Ok(notes)
+}
+
+/// What each worker begins with: its list of jobs, and one part of the seat.
+fn workers_of<S: Ledger, F: Ledger, J: Job>(
+    alloc: Global,
+    seat: &mut Seat<S, F>,
+    jobs: Vec<Vec<J>>,
+) -> Result<Vec<WorkerStart<S, F, J>>, Fault>
+    requires start_parts { vec_len jobs < seat.old.start_parts }
+    requires finish_parts { vec_len jobs < seat.old.finish_parts }
+    ensures len { IfOk result (λ v. vec_len v ≡ vec_len jobs) }
+    ensures jobs { IfOk result (λ v. map (λ worker. worker.jobs) v.items ≡ jobs.items) }
+    ensures parts { OnOk result (GivesParts (vec_len jobs) seat.old seat.new) }
+    ensures counts { CountsSame seat.old seat.new }
+    ensures fault { IfErr result (λ fault. fault ≡ Memory) }
+{
+    let Ok(mut workers) = Vec::with_capacity(alloc, jobs.len()) else {
+        return Err(Fault::Memory);
+    };
+    for list in jobs {
+        let notes = WorkerNotes::with_room(alloc)?;
+        workers.push_reserved(WorkerStart::new(list, seat.split_one(), notes));
+    }
+    Ok(workers)
+}
+
+/// What the workers leave, each in a thread of its own, beside a thread that flushes. All room is
+/// made before the first thread, and every thread is joined.
+fn shifts_of<
+    T: CountedPlace<S, F> + Send,
+    S: Ledger + Send + Sync,
+    F: Ledger + Send + Sync,
+    G: Gate + Sync,
+    J: Job + Send,
+    R: Threads + Wait + Sync,
+>(
+    rt: &R,
+    alloc: Global,
+    shared: &Mutex<T>,
+    workers: Vec<WorkerStart<S, F, J>>,
+    gate: &G,
+) -> Result<Vec<WorkerEnd<S, F>>, AllocError>
+    ensures len { IfOk result (λ v. vec_len v ≡ vec_len workers) }
+    ensures shifts { IfOk result (λ v. AllZip (λ worker end. IsOfShift
+        (IsAnswered T.starts T.holds T.flushes T.tells T.finishes
+        (G.lets gate.now) (G.told gate.now)) J.answers J.turns worker.jobs.items end.notes)
+        workers.items v.items) }
+{
+    let count = workers.len();
+    let mut handles = Vec::with_capacity(alloc, count)?;
+    let shifts = Vec::with_capacity(alloc, count)?;
+    let bell = Bell::new();
+    let bell = &bell;
+    let arrivals = Arrivals::new();
+    let arrivals = &arrivals;
+    thread::scope(
+        thread::scope_env(),
+        rt,
+        |scope| -> Result<Vec<WorkerEnd<S, F>>, AllocError>
+            requires workers { vec_len workers ≡ count }
+            requires handles { (vec_len handles ≡ 0) × (count ≤ vec_capacity handles) }
+            requires shifts { (vec_len shifts ≡ 0) × (count ≤ vec_capacity shifts) }
+            ensures len { IfOk result (λ v. vec_len v ≡ count) }
+            ensures shifts { IfOk result (λ v. AllZip (λ worker end. IsOfShift
+                (IsAnswered T.starts T.holds T.flushes T.tells T.finishes
+                (G.lets gate.entry.now) (G.told gate.entry.now)) J.answers J.turns
+                worker.jobs.items end.notes) workers.items v.items) }
+        {
+            let flusher = scope.spawn(move || save_at(rt, shared, arrivals, bell))?;
+            start_each(
+                scope,
+                rt,
+                shared,
+                arrivals,
+                bell,
+                gate,
+                workers,
+                &mut handles,
+            );
+            let left = joined(rt, gate, handles, shifts, count);
+            bell.close(rt);
+            flusher.join(rt);
+            left
+        },
+    )
+}
+
+/// Starts a thread for each worker.
+fn start_each<
+    'g: 's,
+    's,
+    E: 's,
+    T: CountedPlace<S, F> + Send + 's,
+    S: Ledger + Send + Sync + 's,
+    F: Ledger + Send + Sync + 's,
+    G: Gate + Sync + 's,
+    J: Job + Send + 's,
+    R: Threads + Wait + Sync + 's,
+>(
+    scope: &Scope<'s, E>,
+    rt: &'s R,
+    shared: &'s Mutex<T>,
+    arrivals: &'s Arrivals,
+    bell: &'s Bell,
+    gate: &'g G,
+    workers: Vec<WorkerStart<S, F, J>>,
+    handles: &mut Vec<PromisedHandle<WorkerEnd<S, F>, ShiftOf<'g, T, G, J>>>,
+)
+    requires empty { vec_len handles.old ≡ 0 }
+    requires room { vec_len workers ≤ vec_capacity handles.old }
+    ensures few { vec_len handles.new ≤ vec_len workers }
+    ensures gate { All (λ h. h.promise.gate.now ≡ gate.now) handles.new.items }
+    ensures jobs { (vec_len handles.new < vec_len workers)
+        ⊎ (map (λ h. h.promise.jobs.value) handles.new.items
+        ≡ map (λ worker. worker.jobs) workers.items) }
+{
+    for worker in workers {
+        let promise = ShiftOf {
+            gate,
+            jobs: Snapshot::of(&worker.jobs),
+            place: PhantomData::<T>,
+        };
+        match scope.spawn_with(
+            promise,
+            move || -> WorkerEnd<S, F>
+                ensures { IsOfShift (IsAnswered T.starts T.holds T.flushes T.tells T.finishes
+                    (G.lets gate.entry.now) (G.told gate.entry.now)) J.answers J.turns
+                    worker.jobs.items result.notes }
+            { worker.work(rt, shared, arrivals, bell, gate) },
+        ) {
+            Ok(handle) => handles.push_reserved(handle),
+            // a refused thread leaves no handle
+            Err(_) => {}
+        }
+    }
+}
+
+/// What the threads leave, if each of so many has left something.
+fn joined<S: Ledger, F: Ledger, T: CountedPlace<S, F>, G: Gate, J: Job, R: Threads>(
+    rt: &R,
+    gate: &G,
+    handles: Vec<PromisedHandle<WorkerEnd<S, F>, ShiftOf<'_, T, G, J>>>,
+    mut shifts: Vec<WorkerEnd<S, F>>,
+    count: usize,
+) -> Result<Vec<WorkerEnd<S, F>>, AllocError>
+    requires empty { vec_len shifts ≡ 0 }
+    requires few { vec_len handles ≤ count }
+    requires room { count ≤ vec_capacity shifts }
+    requires gate { All (λ h. h.promise.gate.now ≡ gate.now) handles.items }
+    ensures len { IfOk result (λ v. vec_len v ≡ count) }
+    ensures shifts { IfOk result (λ v. AllZip (λ h end. IsOfShift
+        (IsAnswered T.starts T.holds T.flushes T.tells T.finishes
+        (G.lets gate.now) (G.told gate.now)) J.answers J.turns h.promise.jobs.value.items end.notes)
+        handles.entry.items v.items) }
+{
+    for handle in handles {
+        shifts.push_reserved(handle.join(rt));
+    }
+    if shifts.len() < count {
+        return Err(AllocError);
+    }
+    Ok(shifts)
+}
+
+/// Makes durable whatever the bell rings for, until it is closed.
+fn save_at<T: Place, R: Wait>(rt: &R, shared: &Mutex<T>, arrivals: &Arrivals, bell: &Bell) {
+    let mut flusher = ThreadFlusher {
+        rt,
+        shared,
+        arrivals,
+        bell,
+    };
+    save_rings(rt, &mut flusher);
+}
+
+/// Takes the parts back, and puts the notes of the shifts into a list that has room for them.
+fn gather<S: Ledger, F: Ledger>(
+    seat: &mut Seat<S, F>,
+    shifts: Vec<WorkerEnd<S, F>>,
+    notes: &mut Vec<WorkerNotes>,
+)
+    requires empty { vec_len notes.old ≡ 0 }
+    requires room { vec_len shifts ≤ vec_capacity notes.old }
+    ensures len { vec_len notes.new ≡ vec_len shifts }
+    ensures notes { notes.new.items ≡ map (λ shift. shift.notes) shifts.items }
+    ensures seat { JoinsShifts (vec_len notes.new) (noted notes.new.items) seat.old seat.new }
+{
+    for shift in shifts {
+        let WorkerEnd {
+            seat: part,
+            notes: list,
+        } = shift;
+        seat.join(part);
+        notes.push_reserved(list);
+    }
 }

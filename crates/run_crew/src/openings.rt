@@ -1,18 +1,18 @@
-//! An [`Opening`] stands for what the book of a desk was when the desk was made.
+//! An [`Opening`] stands for the state of a desk's book when the desk was made.
 
 ghost use Rattle.std.specs.Prelude.{◌≡◌, true, refl};
 ghost use Rattle.run_crew.specs.Openings.{Known, Unsaid, obeys};
 
 use std::marker::Brand;
 
-/// A type that stands for what a book was at one moment. Whoever makes a desk picks which, where it
-/// passes [`Brand`].
+/// A type that stands for the state of a book at one moment. Whoever makes a desk picks the type,
+/// at the place where it passes [`Brand`].
 pub trait Opening {
     /// What is known of the book.
     ghost opening: { Known };
 }
 
-/// An opening after which commands may come, beside starts and finishes.
+/// An opening after which commands may come, besides starts and finishes.
 pub trait Obeys: Opening {
     /// Commands may come.
     ghost commands_come: { obeys Self.opening ≡ true };

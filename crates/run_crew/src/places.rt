@@ -1,55 +1,64 @@
-//! A [`Desk`] as a place: what threads see of it.
+//! A [`Place`] is the value under the lock, as the threads see it.
 
-ghost use Rattle.std.specs.Prelude.{◌≡◌};
-ghost use Rattle.run_model.specs.Replies.{reply_finish, reply_start};
-ghost use Rattle.book_model.specs.Books.{Flushes, IsDurable};
-ghost use Rattle.run_book.specs.Views.{unless_broken};
-ghost use Rattle.run_crew.specs.Desks.{is_done_for};
+ghost use Rattle.std.specs.Prelude.{◌≡◌, ◌<◌, ℕ, Bool, Result, MatchResult};
+ghost use Rattle.run_model.specs.declared.answers.Started.{Started};
+ghost use Rattle.run_model.specs.declared.faults.Trouble.{Trouble};
+ghost use Rattle.run_model.specs.declared.refusals.Refusal.{Refusal};
+ghost use Rattle.run_model.specs.declared.tasks.Outcome.{Outcome};
+ghost use Rattle.run_crew.specs.Seats.{one_finish, one_start};
 
-use crate::desks::Desk;
-use crate::openings::Opening;
-use crew_workers::{CountedPlace, Place, Seat};
-use run_disk::RunDisk;
+use crate::seats::Seat;
 use run_model::{Outcome, Refusal, Started, Trouble};
 use std::sync::ledger::Ledger;
 
-impl<D: RunDisk, S: Ledger, F: Ledger, O: Opening> Place for Desk<D, S, F, O> {
-    ghost holds = { λ d n. (n ≡ d.book.durable) × IsDurable D.state d.book };
+/// The calls that aren't counted in a seat.
+pub trait Place {
+    /// That this many events are durable.
+    ghost holds: { Self → ℕ → Type 0 };
 
-    ghost flushes = { λ d r e. Flushes D.state d.book r e.book };
+    /// What a flush may return and leave.
+    ghost flushes: { Self → Result ℕ Trouble → Self → Type 0 };
 
-    ghost tells = { λ d task answer. answer ≡ is_done_for d.book.session.state task };
+    /// What it may answer about the scope of a task.
+    ghost tells: { Self → ℕ → Bool → Type 0 };
 
-    fn durable(&self) -> u64 {
-        self.book().durable()
-    }
+    /// Returns how many events are durable.
+    fn durable(&self) -> u64
+        ensures { holds self.now result };
 
-    fn flush(&mut self) -> Result<u64, Trouble> {
-        Desk::flush(self)
-    }
+    /// Makes all events so far durable.
+    fn flush(&mut self) -> Result<u64, Trouble>
+        ensures { flushes self.old result self.new };
 
-    fn is_done(&self, task: u16) -> bool {
-        Desk::is_done(self, task)
-    }
+    /// Returns whether the scope of a task is done.
+    fn is_done(&self, task: u16) -> bool
+        ensures { tells self.now task result };
 }
 
-impl<D: RunDisk, S: Ledger, F: Ledger, O: Opening> CountedPlace<S, F> for Desk<D, S, F, O> {
-    ghost starts = { λ d r _. r ≡ unless_broken d.book
-        (reply_start d.book.session.state d.book.session.log) };
+/// The calls that are counted in the seat of the thread that makes them.
+pub trait CountedPlace<S: Ledger, F: Ledger>: Place {
+    /// What a start may return and leave.
+    ghost starts: { Self → Result Started Refusal → Self → Type 0 };
 
-    ghost finishes = { λ d task how r _. r ≡ unless_broken d.book
-        (reply_finish d.book.session.state task how) };
+    /// What a finish of a task with an outcome may return and leave.
+    ghost finishes: { Self → ℕ → Outcome → Result ℕ Refusal → Self → Type 0 };
 
-    fn start_as(&mut self, seat: &mut Seat<S, F>) -> Result<Started, Refusal> {
-        Desk::start_as(self, seat)
-    }
+    /// Starts a task.
+    fn start_as(&mut self, seat: &mut Seat<S, F>) -> Result<Started, Refusal>
+        requires part { 0 < seat.old.start_parts }
+        ensures starts { starts self.old result self.new }
+        ensures seat { MatchResult result (λ _. seat.new ≡ one_start seat.old)
+            (λ _. seat.new ≡ seat.old) };
 
+    /// Ends a task.
     fn finish_as(
         &mut self,
         seat: &mut Seat<S, F>,
         task: u16,
         outcome: &Outcome,
-    ) -> Result<u64, Refusal> {
-        Desk::finish_as(self, seat, task, outcome)
-    }
+    ) -> Result<u64, Refusal>
+        requires part { 0 < seat.old.finish_parts }
+        ensures finishes { finishes self.old task outcome.now result self.new }
+        ensures seat { MatchResult result (λ _. seat.new ≡ one_finish seat.old)
+            (λ _. seat.new ≡ seat.old) };
 }

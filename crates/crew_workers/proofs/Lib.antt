@@ -1,2 +1,0 @@
-pub mod Coursing
-pub mod Rooms

@@ -1,5 +1,0 @@
-use Rattle.run_model.proofs.Common.{arith, common_steps}
-use Rattle.crew_workers.proofs.nights.gather.Goals as goal
-
-pub loop-shift-preserved : goal.loop-shift-preserved
-loop-shift-preserved g c = grind (arith, common_steps)

@@ -1,4 +1,0 @@
-pub mod Courses
-pub mod Notes
-pub mod Seats
-pub mod Shifts

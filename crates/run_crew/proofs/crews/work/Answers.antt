@@ -1,0 +1,64 @@
+use Rattle.std.proofs.Common.{◌∙◌, ap, subst, sym}
+use Rattle.std.specs.Prelude.{All}
+use Rattle.book_model.specs.Books.{BookView}
+use Rattle.run_crew.specs.Courses.{IsGates, IsSomeShift}
+use Rattle.run_crew.specs.Desks.{DeskView}
+use Rattle.run_crew.specs.Notes.{noted}
+use Rattle.run_crew.specs.Seats.{SeatView}
+use Rattle.run_crew.proofs.Working.{acknowledged, no_finishes, no_starts, shares_count}
+use Rattle.run_crew.proofs.crews.work.Goals as goal
+
+pub new-desk-requires-clause-carries : goal.new-desk-requires-clause-carries
+new-desk-requires-clause-carries g c = c.requires.carries
+
+pub returns-clause-worked : goal.returns-clause-worked
+returns-clause-worked g c =
+    let begun = c.requires.begun in
+    let counts = shares_count _ _ _ _ _ _ _ _ _
+    (ap (λ (s : SeatView). s.starts) c.new-desk.ensures.seat ∙ no_starts c.args.book begun)
+    (ap (λ (s : SeatView). s.finishes) c.new-desk.ensures.seat ∙ no_finishes c.args.book begun)
+    c.in-Ok.ensures.seat.finishes c.in-Ok.ensures.seat.starts c.in-Ok.ensures.seat.one_more
+    c.settle-starts.ensures.counted.0 c.settle-starts.ensures.counted.1
+    (ap noted c.as_slice.ensures.value) in
+    record {
+      book = c.into_inner-desk.result.book;
+      desk = c.flush-flushed.new.self;
+      lists = c.as_slice.result.now;
+      flushes = c.flush-flushed.ensures.flushes;
+      session = c.flush-flushed.ensures.flushes.saves.session;
+      carries = c.book-book.ensures.carries;
+      disk = sym (c.into_disk-disk.ensures
+          ∙ ap (λ (b : BookView _). b.journal.disk) c.into_book-2.ensures.book
+          ∙ ap (λ (d : DeskView _). d.book.journal.disk) c.settle-starts.ensures.same.0);
+      acked = acknowledged g.D.RunDisk.state c.into_inner-desk.result.book
+          c.flush-flushed.new.self.book c.flush-flushed.result
+          c.flush-flushed.ensures.flushes.saves;
+      replays = c.book-book.ensures.replays;
+      durable = c.book-book.ensures.images;
+      audit = c.audit-audited.ensures.answer;
+      exactly = c.audit-audited.ensures.exactly;
+      started = c.settle-starts.ensures.history.0;
+      finished = c.settle-starts.ensures.history.1;
+      gate = subst (λ l. All (IsSomeShift (IsGates (g.G.Gate.lets c.args.gate.now)
+          (g.G.Gate.told c.args.gate.now))) l) (sym c.as_slice.ensures.value) c.in-Ok.ensures.gate;
+      each_has_a_list = c.as_slice.ensures.len ∙ c.in-Ok.ensures.workers;
+      each_is_noted = counts.0;
+      each_was_started = counts.1;
+      one_more_at_most = counts.2;
+    }
+
+pub returns-in-Err-clause-left : goal.returns-in-Err-clause-left
+returns-in-Err-clause-left g c = record {
+  book = c.flush-flushed.new.self.book;
+  carries = c.into_book.ensures.carries;
+  disk = sym (c.into_disk.ensures
+      ∙ ap (λ (b : BookView _). b.journal.disk) c.into_book.ensures.book);
+}
+
+pub returns-clause-left : goal.returns-clause-left
+returns-clause-left g c = record {
+  book = c.settle-starts.new.self.book;
+  carries = c.into_book-2.ensures.carries;
+  disk = sym (c.into_disk-disk.ensures
+      ∙ ap (λ (b : BookView _). b.journal.disk) c.into_book-2.ensures.book);
+}

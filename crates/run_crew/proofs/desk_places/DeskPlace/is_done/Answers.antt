@@ -1,0 +1,4 @@
+use Rattle.run_crew.proofs.desk_places.DeskPlace.is_done.Goals as goal
+
+pub returns : goal.returns
+returns g c = c.is_done.ensures

@@ -1,0 +1,8 @@
+use Rattle.run_crew.specs.Nights.{OfDesk}
+use Rattle.run_crew.proofs.Turning.{shift_is_done}
+use Rattle.run_crew.proofs.laws.notes_are_what_the_jobs_answered.Goals as goal
+
+pub returns : goal.returns
+returns g c =
+    λ gate jobs notes shift. shift_is_done g.J.Job.answers g.J.Job.turns
+    (OfDesk g.D.RunDisk.state (g.G.Gate.lets gate) (g.G.Gate.told gate)) jobs notes shift

@@ -1,4 +1,0 @@
-use Rattle.run_crew.proofs.places.DeskPlace.is_done.Goals as goal
-
-pub returns : goal.returns
-returns g c = c.is_done.ensures

@@ -1,0 +1,150 @@
+//! A worker takes each task through a *course*: it starts the task, makes its turns, finishes it,
+//! and notes that. The shift of a worker consists of one course after another.
+
+ghost use Rattle.std.specs.Prelude.{◌≡◌, ◌⊎◌, ◌<◌, ◌≤◌, ◌+◌, [], length, MatchOption};
+ghost use Rattle.run_model.specs.declared.tasks.Outcome.TheVariants as outcome;
+ghost use Rattle.run_model.specs.Texts.{IsText};
+ghost use Rattle.run_crew.specs.Courses.{AreTurns, IsBegun, IsRun, IsShift, TakesTask, Went};
+ghost use Rattle.run_crew.specs.Seats.{one_part, one_start};
+ghost use Rattle.run_crew.specs.Shifts.{AfterTask};
+
+use crate::jobs::Turn;
+use crate::notes::{Note, WorkerNotes};
+use crate::seats::Seat;
+use crate::worker_calls::WorkerCalls;
+use run_model::{Outcome, Started, TaskInfo, Text};
+use std::sync::Wait;
+use std::sync::ledger::Ledger;
+
+/// How many turns a task has.
+const MOST_TURNS: u32 = 1_000;
+
+/// Takes tasks until one of them isn't finished and noted, for example because no task is ready.
+pub fn take_tasks<S: Ledger, F: Ledger, W: WorkerCalls<S, F>, R: Wait>(
+    rt: &R,
+    worker: &mut W,
+    seat: &mut Seat<S, F>,
+    notes: &mut WorkerNotes,
+)
+    requires seat { seat.old ≡ one_part }
+    requires notes { notes.old ≡ [] }
+    ensures parts { (seat.new.start_parts ≡ 1) × (seat.new.finish_parts ≡ 1) }
+    ensures finishes { seat.new.finishes ≡ length notes.new }
+    ensures starts { (length notes.new ≤ seat.new.starts)
+        × (seat.new.starts ≤ length notes.new + 1) }
+    ensures calls { Went W.step (IsShift (W.jobs worker.old) notes.new) worker.old worker.new }
+{
+    for _ in rt.forever() {
+        if !take_task(worker, seat, notes) {
+            return;
+        }
+    }
+    unreachable!()
+}
+
+/// Starts a task, makes its turns, finishes it, and notes that. Returns whether it got that far. It
+/// doesn't if the notes are full, or if the start, its flush or the finish fails.
+pub fn take_task<S: Ledger, F: Ledger, W: WorkerCalls<S, F>>(
+    worker: &mut W,
+    seat: &mut Seat<S, F>,
+    notes: &mut WorkerNotes,
+) -> bool
+    requires parts { (0 < seat.old.start_parts) × (0 < seat.old.finish_parts) }
+    ensures seat { AfterTask result seat.old seat.new (length notes.old) (length notes.new) }
+    ensures jobs { W.jobs worker.new ≡ W.jobs worker.old }
+    ensures calls { Went W.step (TakesTask (W.jobs worker.old) result notes.old notes.new)
+        worker.old worker.new }
+{
+    if notes.is_full() {
+        return false;
+    }
+    let Some(started) = start(worker, seat) else {
+        return false;
+    };
+    let task = started.info.task;
+    let outcome = run(worker, &started.info);
+    let Ok(event) = worker.finish(seat, task, &outcome) else {
+        return false;
+    };
+    notes.note(Note {
+        event,
+        task,
+        outcome,
+    });
+    worker.tell(task);
+    worker.ring(event);
+    true
+}
+
+/// Starts the ready task with the least number, and makes the start durable before the first turn.
+/// `None` if one of the two fails.
+fn start<S: Ledger, F: Ledger, W: WorkerCalls<S, F>>(
+    worker: &mut W,
+    seat: &mut Seat<S, F>,
+) -> Option<Started>
+    requires part { 0 < seat.old.start_parts }
+    ensures seat { MatchOption result ((seat.new ≡ seat.old) ⊎ (seat.new ≡ one_start seat.old))
+        (λ _. seat.new ≡ one_start seat.old) }
+    ensures jobs { W.jobs worker.new ≡ W.jobs worker.old }
+    ensures calls { Went W.step (IsBegun result) worker.old worker.new }
+{
+    let Ok(started) = worker.start(seat) else {
+        return None;
+    };
+    match worker.save(started.event) {
+        Ok(_) => Some(started),
+        Err(_) => None,
+    }
+}
+
+/// Runs a task by the first job that handles its name, and returns how it ends. Without such a job
+/// it ends as the failure `no such job`.
+fn run<S: Ledger, F: Ledger, W: WorkerCalls<S, F>>(worker: &mut W, info: &TaskInfo) -> Outcome
+    ensures jobs { W.jobs worker.new ≡ W.jobs worker.old }
+    ensures calls { Went W.step (λ calls. IsRun (W.jobs worker.old) info.now calls result)
+        worker.old worker.new }
+{
+    for job in 0..worker.jobs() {
+        if worker.handles(job, &info.job) {
+            return make_turns(worker, job, info);
+        }
+    }
+    failure(b"no such job")
+}
+
+/// Runs a task by this job, and returns how it ends. Before each turn the gate is asked, and then
+/// whether the task's scope is done.
+fn make_turns<S: Ledger, F: Ledger, W: WorkerCalls<S, F>>(
+    worker: &mut W,
+    job: usize,
+    info: &TaskInfo,
+) -> Outcome
+    requires place { job < W.jobs worker.old }
+    ensures jobs { W.jobs worker.new ≡ W.jobs worker.old }
+    ensures calls { Went W.step (λ calls. AreTurns info.now job calls result)
+        worker.old worker.new }
+{
+    for turn in 0..MOST_TURNS {
+        if !worker.may_turn(info.task, turn) {
+            return failure(b"gate");
+        }
+        let done = worker.is_done(info.task);
+        match worker.turn(job, info, turn, done) {
+            Turn::More => {}
+            Turn::Finished => return Outcome::Success,
+            Turn::Failed(error) => return Outcome::Failure(error),
+        }
+    }
+    failure(b"turn limit")
+}
+
+/// A failure with this error.
+fn failure(error: &[u8]) -> Outcome
+    requires text { IsText error.now }
+    ensures { result ≡ outcome.Failure error.now }
+{
+    match Text::read(error) {
+        Some(error) => Outcome::Failure(error),
+        None => unreachable!(),
+    }
+}

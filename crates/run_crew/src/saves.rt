@@ -1,0 +1,42 @@
+//! A thread makes an event durable by a flush of its own, or by the flush of another thread.
+
+ghost use Rattle.std.specs.Prelude.{◌≤◌, IfOk};
+ghost use Rattle.run_crew.specs.Courses.{IsTold};
+
+use crate::arrivals::Arrivals;
+use crate::places::Place;
+use run_model::Trouble;
+use std::sync::{Mutex, Wait};
+
+/// Makes all events up to this one durable, and returns how many then are. The last thread on its
+/// way to the lock flushes, while the others sleep. So one flush includes what all of them did. The
+/// calling thread must have called `Arrivals::come`, and has left when this returns.
+pub fn save<T: Place, R: Wait>(
+    rt: &R,
+    shared: &Mutex<T>,
+    arrivals: &Arrivals,
+    event: u64,
+) -> Result<u64, Trouble>
+    ensures reached { IfOk result (λ durable. event ≤ durable) }
+    ensures told { IsTold T.holds T.flushes result }
+{
+    let mut place = shared.lock(rt);
+    for _ in rt.forever() {
+        let durable = place.durable();
+        if event <= durable {
+            arrivals.go();
+            return Ok(durable);
+        }
+        if !arrivals.is_last() {
+            place = arrivals.sleep(rt, place);
+            continue;
+        }
+        let flushed = place.flush();
+        arrivals.wake(&place);
+        if let Err(trouble) = flushed {
+            arrivals.go();
+            return Err(trouble);
+        }
+    }
+    unreachable!()
+}

@@ -1,0 +1,86 @@
+//! [`WorkerCalls`] lists the calls that a worker makes while it takes a task.
+
+ghost use Rattle.std.specs.Prelude.{◌≡◌, ◌<◌, ◌≤◌, ℕ, IfOk, MatchResult};
+ghost use Rattle.run_crew.specs.Courses.{Call};
+ghost use Rattle.run_crew.specs.Courses as call;
+ghost use Rattle.run_crew.specs.Seats.{one_finish, one_start};
+
+use crate::jobs::Turn;
+use crate::seats::Seat;
+use run_model::{Name, Outcome, Refusal, Started, TaskInfo, Trouble};
+use std::sync::ledger::Ledger;
+
+/// The calls of a worker. Each implementation defines what a call may do. The contract of a worker
+/// holds for all of them. So it states which calls the worker makes, and in which order.
+pub trait WorkerCalls<S: Ledger, F: Ledger> {
+    /// What a call may do, as a relation between the state before it, the call with its answer, and
+    /// the state after it.
+    ghost step: { Self → Call → Self → Type 0 };
+
+    /// How many jobs there are.
+    ghost jobs: { Self → ℕ };
+
+    /// Returns how many jobs there are.
+    fn jobs(&self) -> usize
+        ensures { result ≡ jobs self.now };
+
+    /// Starts a task, under the lock.
+    fn start(&mut self, seat: &mut Seat<S, F>) -> Result<Started, Refusal>
+        requires part { 0 < seat.old.start_parts }
+        ensures step { step self.old (call.Start result) self.new }
+        ensures jobs { jobs self.new ≡ jobs self.old }
+        ensures seat { MatchResult result (λ _. seat.new ≡ one_start seat.old)
+            (λ _. seat.new ≡ seat.old) };
+
+    /// Waits until all events up to this one are durable, whichever thread flushes, and returns how
+    /// many events are.
+    fn save(&mut self, event: u64) -> Result<u64, Trouble>
+        ensures step { step self.old (call.Save event result) self.new }
+        ensures reached { IfOk result (λ durable. event ≤ durable) }
+        ensures jobs { jobs self.new ≡ jobs self.old };
+
+    /// Asks the job of this place whether it handles this name.
+    fn handles(&mut self, job: usize, name: &Name) -> bool
+        requires place { job < jobs self.old }
+        ensures step { step self.old (call.Handles job name.now result) self.new }
+        ensures jobs { jobs self.new ≡ jobs self.old };
+
+    /// Asks the gate whether a turn of a task may be made.
+    fn may_turn(&mut self, task: u16, turn: u32) -> bool
+        ensures step { step self.old (call.Gate task turn result) self.new }
+        ensures jobs { jobs self.new ≡ jobs self.old };
+
+    /// Asks, under the lock, whether the scope of a task is done.
+    fn is_done(&mut self, task: u16) -> bool
+        ensures step { step self.old (call.Scope task result) self.new }
+        ensures jobs { jobs self.new ≡ jobs self.old };
+
+    /// Lets the job of this place make a turn of a task.
+    fn turn(&mut self, job: usize, info: &TaskInfo, turn: u32, done: bool) -> Turn
+        requires place { job < jobs self.old }
+        ensures step { step self.old (call.Make job info.now turn done result) self.new }
+        ensures jobs { jobs self.new ≡ jobs self.old };
+
+    /// Ends a task, under the lock.
+    fn finish(
+        &mut self,
+        seat: &mut Seat<S, F>,
+        task: u16,
+        outcome: &Outcome,
+    ) -> Result<u64, Refusal>
+        requires part { 0 < seat.old.finish_parts }
+        ensures step { step self.old (call.Finish task outcome.now result) self.new }
+        ensures jobs { jobs self.new ≡ jobs self.old }
+        ensures seat { MatchResult result (λ _. seat.new ≡ one_finish seat.old)
+            (λ _. seat.new ≡ seat.old) };
+
+    /// Informs the gate that a task was finished.
+    fn tell(&mut self, task: u16)
+        ensures step { step self.old (call.Tell task) self.new }
+        ensures jobs { jobs self.new ≡ jobs self.old };
+
+    /// Rings the bell for an event.
+    fn ring(&mut self, event: u64)
+        ensures step { step self.old (call.Ring event) self.new }
+        ensures jobs { jobs self.new ≡ jobs self.old };
+}
