@@ -27,8 +27,8 @@ use Rattle.book_model.specs.Nights.{opened_from}
 use Rattle.book_model.specs.Openings.{Formats, FormatsNot, HasFormatted, Opens, StopsFormat}
 use Rattle.book_model.specs.Plays.{Playing, Plays, is_device_failure, next_session, sound, taken}
 use Rattle.book_model.specs.Steps.{PlaysInto, playing}
-use Rattle.book_model.specs.Stores.{Stores, StoresFront, StoresNothingOr, StoresOpened, restarted}
-use Rattle.book_model.proofs.FrontLemmas.{front_here, front_kept}
+use Rattle.book_model.specs.Stores.{Stores, StoresPrefix, StoresNothingOr, StoresOpened, restarted}
+use Rattle.book_model.proofs.PrefixLemmas.{prefix_here, prefix_kept}
 use Rattle.book_model.proofs.BookLemmas.{carries_after, stores_fewer}
 use Rattle.book_model.proofs.NightLemmas.{is_night, opened_safe}
 use Rattle.book_model.proofs.OpeningLemmas.{formats_cause, opens_again, opens_cause}
@@ -112,14 +112,14 @@ unopened_why state given e p disk honest is stores =
 
 -- ---- what a stop leaves
 
--- What an opening leaves: the state before, or the front of no event.
+-- What an opening leaves: the state before, or the prefix of no event.
 opened_holds : (p : State) (events : List Event) (x : List ℕ) → StoresOpened p x
     → HoldsOne p events x
 opened_holds p events x (inl before) = inl before
 opened_holds p events x (inr after) =
-    inr (inl (front_kept (restarted p) events [] events x refl (record {
+    inr (inl (prefix_kept (restarted p) events [] events x refl (record {
       state = restarted p;
-      front = record {
+      prefix = record {
         many = 0;
         enough = omega arith;
         within = omega arith;
@@ -128,18 +128,18 @@ opened_holds p events x (inr after) =
       stores = after;
     })))
 
--- A front of the events.
-front_holds : (p : State) (events : List Event) (n : ℕ) (x : List ℕ)
-    → StoresFront (restarted p) events n x → HoldsOne p events x
-front_holds p events n x front =
-    inr (inl (front_kept (restarted p) events [] events x refl
-    (stores_fewer (restarted p) events n 0 x (omega arith) front)))
+-- A prefix of the events.
+prefix_holds : (p : State) (events : List Event) (n : ℕ) (x : List ℕ)
+    → StoresPrefix (restarted p) events n x → HoldsOne p events x
+prefix_holds p events n x prefix =
+    inr (inl (prefix_kept (restarted p) events [] events x refl
+    (stores_fewer (restarted p) events n 0 x (omega arith) prefix)))
 
--- What a second opening leaves: the front of all events, or what its restart left.
+-- What a second opening leaves: the prefix of all events, or what its restart left.
 reopened_holds : (p last : State) (events : List Event) (x : List ℕ)
     → run (restarted p) events ≡ Some last → StoresOpened last x → HoldsOne p events x
 reopened_holds p last events x reached (inl before) =
-    front_holds p events (length events) x (front_here (restarted p) last events x reached before)
+    prefix_holds p events (length events) x (prefix_here (restarted p) last events x reached before)
 reopened_holds p last events x reached (inr after) =
     inr (inr (record { last = last; reached = reached; stores = after }))
 
@@ -191,12 +191,12 @@ module _ {D : Type 0} (state : D → DiskState) (given : D) (p : State) (steps :
       let start = on.start ∙ night.start in
       let history = ap (λ s. s.history) same ∙ night.history in
       leaves_only_more (StoresOpened p)
-      (StoresFront new.session.start new.session.history (acked is.first)) (HoldsOne p events)
+      (StoresPrefix new.session.start new.session.history (acked is.first)) (HoldsOne p events)
       (state given) (state is.first.journal.disk) (state new.journal.disk)
       is.leaves (whole.any_moment safe) (λ x left. opened_holds p events x left)
-      (λ x left. front_holds p events (acked is.first) x
-      (subst (λ l. StoresFront (restarted p) l (acked is.first) x) history
-      (subst (λ q. StoresFront q new.session.history (acked is.first) x) start left)))
+      (λ x left. prefix_holds p events (acked is.first) x
+      (subst (λ l. StoresPrefix (restarted p) l (acked is.first) x) history
+      (subst (λ q. StoresPrefix q new.session.history (acked is.first) x) start left)))
 
   pub stayed : (new : BookView D) → (state given).honest → IsAtRest (state given)
       → CarriesOn state b new → new.session ≡ b.session

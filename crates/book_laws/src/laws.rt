@@ -20,16 +20,17 @@ use run_disk::{MemoryDisk, RunDisk};
 use run_model::{Fault, Layout, Reply, Step, Trouble};
 use std::alloc::Allocator;
 
-/// A store of state p is opened, steps are played over it, what they led to is flushed, and it is
-/// opened again from the book's disk.
+/// A store of state p is opened, steps are played over it, their events are flushed, and the store
+/// is opened again from the book's disk.
 ///
-/// If all this is done, the book begins after a restart of the state that all accepted events led
-/// to: none is lost, whatever the steps were. And whenever a crash comes since the start, inside a
-/// call too, the disk holds state p, or what a restart of p and a prefix of these events, perhaps
-/// empty, led to, or, once it has them all, what the second restart left.
+/// If all this succeeds, the book begins with the state that all accepted events led to, after a
+/// restart: no event is lost, whatever the steps were. And whenever a crash comes since the start,
+/// also inside a call, the disk holds state p, or the state that a restart of p and a prefix of
+/// these events, perhaps empty, led to, or, once it has them all, that state after the second
+/// restart.
 ///
-/// The row stops if memory is refused, if the store's numbers are used up, or if a device call
-/// failed: it returns that fault, or `Broken` if a step met it.
+/// These calls stop if memory is refused, if the store's numbers are used up, or if a device call
+/// failed. They return that fault, or `Broken` if a step met it.
 pub fn use_store<D: RunDisk, A: Allocator + Copy, B: Allocator>(
     alloc: A,
     disk: D,
@@ -60,8 +61,8 @@ pub fn use_store<D: RunDisk, A: Allocator + Copy, B: Allocator>(
     }
 }
 
-/// The same over a disk that is formatted first. If the disk held zeros, it stores nothing or root
-/// alone until the format is done. The row stops for the same reasons, if the disk has a store's
+/// The same for a disk that is formatted first. If the disk held zeros, it stores nothing or root
+/// alone until the format is done. The calls stop for the same reasons, if the disk has a store's
 /// size.
 pub fn use_new_store<D: RunDisk, A: Allocator + Copy, B: Allocator>(
     alloc: A,
@@ -89,7 +90,8 @@ pub fn use_new_store<D: RunDisk, A: Allocator + Copy, B: Allocator>(
     }
 }
 
-/// The same of a new store of either layout in memory: the premises of these laws are met.
+/// The same for a new store in memory, of either layout. It shows that the premises of these laws
+/// can be met.
 pub fn use_new_store_in_memory<A: Allocator + Copy, B: Allocator>(
     alloc: A,
     layout: Layout,

@@ -14,11 +14,11 @@ ghost use Rattle.book_renewal.specs.Renewals.{AreStores, Renews};
 
 use run_disk::RunDisk;
 
-/// Memory and the devices aside, a renewal of an honest disk answers what its bytes store. If they
-/// store a state of fewer than 2^62 events, the renewal answers a new disk of which every crash
-/// leaves what is left of that state, if the new disk is honest and this fits in it, and
-/// `New(WrongSize)` if it doesn't fit. If they store no state, the renewal answers the one fault
-/// that reports why.
+/// Unless memory is refused or a device fails, the result of a renewal between honest disks depends
+/// only on what the bytes of the old one store. If they store a state with fewer than 2^62 events,
+/// and the kept part fits into the new disk, the result is the new disk, on which every crash
+/// leaves the renewed state. If the kept part doesn't fit, the result is `New(WrongSize)`. If the
+/// bytes store no state, the result is the one fault that reports why.
 pub fn a_renewal_answers_what_is_stored<D: RunDisk, E: RunDisk>()
     ensures state { (old read : D) (given : E) (result : Result E (WhyNot × E)) (p : State)
         → (D.state old).honest → (sized : AreStores (D.state old) (E.state given))
@@ -42,8 +42,8 @@ pub fn a_renewal_answers_what_is_stored<D: RunDisk, E: RunDisk>()
         (λ e. (e.0 ≡ why.Old fault) ⊎ (e.0 ≡ why.Memory) ⊎ (e.0 ≡ why.Old DiskFailed)) }
 {}
 
-/// A renewal leaves the old disk as it was: one that was at rest is so again, and every crash
-/// leaves the bytes that it had.
+/// A renewal leaves the old disk as it was. If the disk was at rest, it is at rest again, and every
+/// crash leaves the bytes that it had.
 pub fn a_renewal_leaves_the_old_store_as_it_was<D: RunDisk, E: RunDisk>()
     ensures rest { (old read : D) (given : E) (result : Result E (WhyNot × E))
         → (D.state old).honest → IsAtRest (D.state old)
@@ -54,7 +54,8 @@ pub fn a_renewal_leaves_the_old_store_as_it_was<D: RunDisk, E: RunDisk>()
         → x ≡ (D.state old).now }
 {}
 
-/// A renewal reports that a device failed only if a call of that disk failed or it is spent.
+/// A renewal reports the failure of a device only if a call of that disk failed, or if that disk is
+/// spent.
 pub fn a_renewal_tells_which_disk_failed<D: RunDisk, E: RunDisk>()
     ensures old { (old read : D) (given : E) (result : Result E (WhyNot × E))
         → Renews D.state E.state old given result read

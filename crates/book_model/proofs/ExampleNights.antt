@@ -53,11 +53,11 @@ three_states q goes =
     let same = last_history stops.last stops.untold stops.takes in
     let five : length stops.last.book.session.history ≡ 5 =
     ap (λ (l : List Event). length l) same in
-    let many = stops.front.many in
+    let many = stops.prefix.many in
     rw (same_stored q spent.state spent.is)
-    (one_of many spent.state stops.front.enough (omega (arith, stops.front.within, five))
+    (one_of many spent.state stops.prefix.enough (omega (arith, stops.prefix.within, five))
     (subst (λ l. run (restarted store) (take many l) ≡ Some spent.state) same
-    stops.front.reached))
+    stops.prefix.reached))
 
 -- ---- both nights
 
@@ -66,7 +66,7 @@ stops_first = record {
   untold = scope_made 4 ∷ [];
   last = took after_answered (derive "d" "root" Cancel) (scope_made 4);
   takes = (inl refl, refl);
-  front = record { many = 4; enough = omega arith; within = omega arith; reached = refl };
+  prefix = record { many = 4; enough = omega arith; within = omega arith; reached = refl };
 }
 
 -- The calls of the second night, and the machine after them.
@@ -81,7 +81,7 @@ stops_second = record {
   untold = [];
   last = after_second;
   takes = refl;
-  front = record { many = 0; enough = omega arith; within = omega arith; reached = refl };
+  prefix = record { many = 0; enough = omega arith; within = omega arith; reached = refl };
 }
 
 pub both_nights : GoesOn (Stored store) (flat_map moves_of (first_night ∷ second_night ∷ []))

@@ -1,7 +1,7 @@
 -- A book over a disk makes the moves of the machine that it is.
 use Rattle.run_model.proofs.Common.{◌≡◌, ◌∷◌, [], ℕ, Bool, true, false, List, length, Option, Some}
 use Rattle.run_model.proofs.Common.{None, Ok, if◌then◌else◌, inl, inr, refl, sym, ap, subst, ◌∙◌}
-use Rattle.run_model.proofs.Common.{arith, unwrap_or, IsFront, run, Session, State}
+use Rattle.run_model.proofs.Common.{arith, unwrap_or, IsPrefix, run, Session, State}
 use Rattle.run_model.specs.declared.answers.Reply.{Reply}
 use Rattle.run_model.specs.declared.commands.Step.{Step}
 use Rattle.run_model.specs.Session.{is_ack}
@@ -15,7 +15,7 @@ use Rattle.book_model.specs.Plays.{IsReply, IsReplyWhere, Playing, acked_of, aft
 use Rattle.book_model.specs.Standing.{Closed, CutsOpening, CutsSteps, Does, DoesAll, GoesAs}
 use Rattle.book_model.specs.Standing.{HoldsAs, LiesWith, Opened, Standing, StandsAs}
 use Rattle.book_model.specs.Steps.{AnswersStep, StepsOn, playing}
-use Rattle.book_model.specs.Stores.{StoresFront, StoresOpened, restarted}
+use Rattle.book_model.specs.Stores.{StoresPrefix, StoresOpened, restarted}
 use Rattle.book_model.proofs.BookLemmas.{left_any_moment, safe_on}
 use Rattle.book_model.proofs.NightLemmas.{opened_playing, opened_safe}
 use Rattle.book_model.proofs.Playing.{ack_is, acked_is, some_none, sound_acked}
@@ -123,10 +123,10 @@ module _ {D : Type 0} (state : D → DiskState) where
       record {
         safe = opened_safe state given p h lies.honest lies.rest is;
         durable = λ safe x left.
-            subst (λ (s : Session). StoresFront s.start s.history (acked h) x) (sym is.session)
+            subst (λ (s : Session). StoresPrefix s.start s.history (acked h) x) (sym is.session)
             (record {
               state = restarted p;
-              front = record {
+              prefix = record {
                 many = 0;
                 enough = omega (arith, none);
                 within = omega arith;
@@ -172,11 +172,11 @@ module _ {D : Type 0} (state : D → DiskState) where
       cut.finds.content in
       let q = left.state in
       let end = row.end.book.session in
-      let grown : IsFront h.session.start end.history (acked h) q =
-      subst (λ (b : Playing). IsFront h.session.start b.session.history (acked h) q)
-      (sym row.holds.book) left.front in
-      let begun : IsFront m.book.session.start end.history (acked h) q =
-      subst (λ (b : Playing). IsFront b.session.start end.history (acked h) q) (sym is.book)
+      let grown : IsPrefix h.session.start end.history (acked h) q =
+      subst (λ (b : Playing). IsPrefix h.session.start b.session.history (acked h) q)
+      (sym row.holds.book) left.prefix in
+      let begun : IsPrefix m.book.session.start end.history (acked h) q =
+      subst (λ (b : Playing). IsPrefix b.session.start end.history (acked h) q) (sym is.book)
       grown in
       record {
         next = Stored q;
@@ -184,7 +184,7 @@ module _ {D : Type 0} (state : D → DiskState) where
           untold = cut.untold;
           last = row.end;
           takes = row.takes;
-          front = subst (λ n. IsFront m.book.session.start end.history n q) (sym is.acked)
+          prefix = subst (λ n. IsPrefix m.book.session.start end.history n q) (sym is.acked)
               begun;
         };
         stands = record {

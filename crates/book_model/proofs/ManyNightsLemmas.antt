@@ -18,7 +18,7 @@ use Rattle.book_model.specs.Nights.{opened_from}
 use Rattle.book_model.specs.Plays.{IsReply, Plays, acked_of, last_acked, next_session, taken}
 use Rattle.book_model.specs.Standing.{Closed, DoesAll, LiesWith, StandsAs}
 use Rattle.book_model.specs.Stores.{restarted}
-use Rattle.book_model.proofs.FrontLemmas.{take_after}
+use Rattle.book_model.proofs.PrefixLemmas.{take_after}
 use Rattle.book_model.proofs.Machining.{acked_count, all_as}
 use Rattle.book_model.proofs.NightLemmas.{told_enough}
 use Rattle.book_model.proofs.Playing.{accepted_left, ack_is, acked_is, acknowledged_first}
@@ -196,8 +196,8 @@ led_over p q m calls more takes stops =
     takes_history m stops.last more stops.untold stops.takes
     ∙ ap (λ l. l ++ later) (one.history ∙ one.in_order)
     ∙ append_assoc acks one.first later in
-    let many = stops.front.many in
-    let enough : length acks ≤ many = omega (arith, one.enough, stops.front.enough) in
+    let many = stops.prefix.many in
+    let enough : length acks ≤ many = omega (arith, one.enough, stops.prefix.enough) in
     let k = many - length acks in
     record {
       untold = stops.untold;
@@ -208,7 +208,7 @@ led_over p q m calls more takes stops =
       reached = ap (λ l. run (restarted p) l)
           (sym (take_after many stops.last.book.session.history acks rest order enough))
           ∙ subst (λ b. run b (take many stops.last.book.session.history) ≡ Some q) one.start
-          stops.front.reached;
+          stops.prefix.reached;
     }
 
 -- ---- the moves of nights

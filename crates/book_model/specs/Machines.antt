@@ -9,15 +9,15 @@
 use Rattle.std.specs.Prelude.{◌≡◌, ◌⊎◌, ◌∷◌, [], if◌then◌else◌, ℕ, List, length}
 use Rattle.run_model.specs.declared.answers.Reply.{Reply}
 use Rattle.run_model.specs.declared.commands.Step.{Step}
-use Rattle.run_model.specs.Allowed.{IsFront}
+use Rattle.run_model.specs.Allowed.{IsPrefix}
 use Rattle.run_model.specs.Session.{is_ack}
 use Rattle.run_model.specs.State.{State}
 use Rattle.book_model.specs.Nights.{opened_from}
 use Rattle.book_model.specs.Plays.{IsReply, Playing, after_answer, sound}
 use Rattle.book_model.specs.Stores.{restarted}
 
--- The machine runs: it answers as the session does that began after its opening, or is broken; and
--- a prefix of so many events of the session's history is acknowledged.
+-- The machine runs. It answers as the session since its opening does, or it is broken. This number
+-- of events of the session's history is acknowledged.
 pub record Running : Type 0 where
   pub book : Playing
   pub acked : ℕ
@@ -27,7 +27,7 @@ pub data Machine : Type 0 where
   Stored : State → Machine
   Runs : Running → Machine
 
--- What is done with the machine.
+-- What somebody does with the machine.
 pub data Move : Type 0 where
   -- it is opened
   Open : Move
@@ -38,20 +38,20 @@ pub data Move : Type 0 where
   -- a crash stops it in the midst of these steps, whose replies nobody was told
   Stop : List Step → Move
 
--- An opening makes a restart of the state that is stored; no event has come since.
+-- The machine after an opening: in the restart of the stored state, with no event since then.
 abbrev pub opened_at : State → Running
 opened_at p = record { book = sound (opened_from p); acked = 0 }
 
--- What a step and its reply leave: the step's event is appended to the history. If the reply is
--- Acked, all events so far are acknowledged; if it reports that the device failed, the machine is
--- broken.
+-- The machine after a step and its reply. The event of the step is appended to the history. If the
+-- reply is Acked, all events so far are acknowledged. If it reports that the device has failed, the
+-- machine is broken.
 abbrev pub took : Running → Step → Reply → Running
 took m x r = record {
   book = after_answer m.book x r;
   acked = if is_ack r then length m.book.session.history else m.acked;
 }
 
--- The machine may answer these steps, one after another, by these replies, and then is `end`.
+-- The machine may answer these steps, one after another, with these replies, and then it is `end`.
 abbrev pub TakesAll : Running → List Step → List Reply → Running → Type 0
 TakesAll m [] [] end = end ≡ m
 TakesAll m (x ∷ steps) (r ∷ answers) end =
@@ -59,15 +59,15 @@ TakesAll m (x ∷ steps) (r ∷ answers) end =
 TakesAll m [] (r ∷ answers) end = ⊥
 TakesAll m (x ∷ steps) [] end = ⊥
 
--- A crash in the midst of these steps, whose replies nobody was told, leaves the state that a
--- prefix of the events leads to, with each acknowledged one in it.
+-- A crash in the middle of these steps, whose replies nobody has seen, leaves the state to which a
+-- prefix of the events leads. The prefix contains every acknowledged event.
 pub record StopsAt (m : Running) (more : List Step) (q : State) : Type 0 where
   pub untold : List Reply
   pub last : Running
   pub takes : TakesAll m more untold last
-  pub front : IsFront m.book.session.start last.book.session.history m.acked q
+  pub prefix : IsPrefix m.book.session.start last.book.session.history m.acked q
 
--- This move leads from the one machine to the other. An opening in vain leaves the state, or its
+-- This move leads from the one machine to the other. An opening that fails leaves the state or its
 -- restart.
 abbrev pub Goes : Machine → Move → Machine → Type 0
 Goes (Stored p) Open (Runs m) = m ≡ opened_at p

@@ -12,8 +12,8 @@ use Rattle.book_model.specs.Nights.{opened_from}
 use Rattle.book_model.specs.Plays.{taken}
 use Rattle.book_model.specs.Stores.{Stores, restarted}
 
--- What is seen of a night: an opening in vain; or the steps that were answered, each with its
--- reply, and those in the midst of which a crash came.
+-- What can be seen of a night: an opening that failed; or the steps that were answered, each with
+-- its reply, and the steps in whose middle a crash came.
 pub data Night : Type 0 where
   InVain : Night
   Spent : List (Step × Reply) → List Step → Night
@@ -31,8 +31,8 @@ steps_of calls = map (λ call. call.0) calls
 abbrev pub answers_of : List (Step × Reply) → List Reply
 answers_of calls = map (λ call. call.1) calls
 
--- The night leads from state p to state q: by a restart, the events that its replies acknowledged,
--- and perhaps some more of those that were accepted, in order and none left out.
+-- The night leads from state p to state q: by a restart, by the events that its replies
+-- acknowledged, and perhaps by some more of the accepted events, in order and without a gap.
 pub record LeadsOver (p : State) (calls : List (Step × Reply)) (more : List Step) (q : State)
     : Type 0 where
   pub untold : List Reply
@@ -44,7 +44,7 @@ pub record LeadsOver (p : State) (calls : List (Step × Reply)) (more : List Ste
   pub reached : run p (event.Restart
       ∷ (acknowledged (opened_from p) (steps_of calls) (answers_of calls) ++ further)) ≡ Some q
 
--- An opening in vain leads to the state itself, or by a restart.
+-- An opening that fails leads to the state itself or to its restart.
 abbrev pub Leads : State → Night → State → Type 0
 Leads p InVain q = (q ≡ p) ⊎ (q ≡ restarted p)
 Leads p (Spent calls more) q = LeadsOver p calls more q
@@ -54,7 +54,7 @@ abbrev pub LeadOver : State → List Night → State → Type 0
 LeadOver p [] q = q ≡ p
 LeadOver p (night ∷ nights) q = (next : State) × Leads p night next × LeadOver next nights q
 
--- The disk stores a state that these nights lead to.
+-- The disk stores a state to which these nights lead.
 pub record StoresAfterNights (p : State) (nights : List Night) (bytes : List ℕ) : Type 0 where
   pub state : State
   pub stores : Stores bytes state

@@ -22,14 +22,14 @@ use Rattle.book_model.specs.declared.migrations.MigrateFault.TheVariants as why
 use Rattle.book_model.specs.Openings.{HasRecovered, RecoversNone}
 use Rattle.book_model.specs.Stores.{Stores, StoresFresh, StoresNothingOr}
 
--- The state in this layout: its count, its clock and all its rows are as they were.
+-- The state in this layout. The count, the clock and all rows stay as they were.
 abbrev pub in_layout : Layout → State → State
 in_layout layout p = record p {
   tree = record p.tree { layout = layout };
   work = record p.work { layout = layout };
 }
 
--- The state in the large layout, as a migration stores it. No task of it was interrupted.
+-- The state in the large layout, as a migration stores it. No task was interrupted.
 abbrev pub widened : State → State
 widened p = in_layout Large p
 
@@ -40,20 +40,20 @@ pub record AreSized (old given : DiskState) : Type 0 where
 
 -- ---- the old disk, which is read
 
--- The store was read, by three calls of which none failed: it stores this state, of fewer than
--- 2^62 events.
+-- The store was read, by three calls, none of which failed. It stores this state, which has fewer
+-- than 2^62 events.
 pub record HasReadStore (p : State) (old read : DiskState) : Type 0 where
   pub recovered : HasRecovered p old read
   pub few : p.count < 2 ^ 62
 
--- The store was read, but it stores a state of 2^62 events or more.
+-- The store was read, but its state has 2^62 events or more.
 pub record HasReadTooMany (old read : DiskState) : Type 0 where
   pub state : State
   pub recovered : HasRecovered state old read
   pub many : 2 ^ 62 ≤ state.count
 
--- Why a disk of the store's size gives no state to copy, by the fault that reports it, and what is
--- left of the disk. If memory is refused, no call was made.
+-- Why a disk that has the size of a store holds no state to copy, for each fault that reports it,
+-- and what is left of the disk. If memory was refused, no call was made.
 abbrev pub ReadsNot : {D : Type 0} → (D → DiskState) → D → MigrateFault → D → Type 0
 ReadsNot from old why.Memory read = read ≡ old
 ReadsNot from old (why.Old WrongSize) read = ⊥
@@ -64,15 +64,15 @@ ReadsNot from old (why.New fault) read = ⊥
 
 -- ---- the new disk, which is written
 
--- If the new disk held zeros, as did whatever a crash could have left of it, a crash at any moment
--- since leaves a disk that stores nothing, or this state.
+-- Suppose that the new disk held zeros, and that a crash could have left nothing else. Then a crash
+-- at any moment since leaves a disk that stores nothing, or this state.
 abbrev pub StopsWriting : State → DiskState → DiskState → Type 0
 StopsWriting p given new =
     given.honest → ((x : List ℕ) → given.images x → AreZeros x)
     → LeavesOnly (StoresNothingOr p) given new
 
--- A store of this state was made, by eight calls of which none failed: every crash now leaves a
--- fresh store of it, in generation 0; and the disk is at rest if it was so before.
+-- A store of this state was made, by eight calls, none of which failed. Every crash now leaves a
+-- fresh store of it, in generation 0. The disk is at rest if it was so before.
 pub record HasWritten (layout : Layout) (p : State) (given new : DiskState) : Type 0 where
   pub made : Made 8 given new
   pub passed : Passed given new
@@ -81,7 +81,7 @@ pub record HasWritten (layout : Layout) (p : State) (given new : DiskState) : Ty
   pub rest : given.honest → IsAtRest given → IsAtRest new
   pub stops : StopsWriting p given new
 
--- A call failed, or the disk is spent: the disk may hold no store.
+-- A call failed, or the disk is spent. The disk may hold no store.
 pub record HasFailedWrite (p : State) (given new : DiskState) : Type 0 where
   pub most : new.clock ≤ given.clock + 8
   pub cause : (given.failures < new.failures) ⊎ (new.clock ≡ last_moment)
@@ -96,7 +96,7 @@ Writes layout p given result new =
 
 -- ---- a migration
 
--- The small store was read, and the large one made of the state that it stores.
+-- The small store was read, and the large one was made from its state.
 pub record HasMigrated (old read given new : DiskState) : Type 0 where
   pub sized : AreSized old given
   pub state : State
@@ -114,8 +114,8 @@ pub record HasStopped (old read given new : DiskState) : Type 0 where
 abbrev pub AreUncalled : {D E : Type 0} → D → E → D → E → Type 0
 AreUncalled old given read new = (read ≡ old) × (new ≡ given)
 
--- Why no large store was made, by the fault that reports it, and what is left of the two disks. The
--- new one is as it was given, unless a call of it failed.
+-- Why no large store was made, for each fault that reports it, and what is left of the two disks.
+-- The new disk is untouched, unless a call of it failed.
 abbrev pub MigratesNot : {D E : Type 0} → (D → DiskState) → (E → DiskState) → D → E
     → MigrateFault → D → E → Type 0
 MigratesNot from to old given (why.Old WrongSize) read new =
@@ -129,21 +129,21 @@ MigratesNot from to old given (why.New fault) read new = ⊥
 MigratesNot from to old given fault read new =
     AreSized (from old) (to given) × ReadsNot from old fault read × (new ≡ given)
 
--- The answer of a migration: the new disk, and at a fault the fault too.
+-- The result of a migration: the new disk, and also the fault if there is one.
 abbrev pub AnswersMigration : {D E : Type 0} → (D → DiskState) → (E → DiskState) → D → E
     → Result E (MigrateFault × E) → D → Type 0
 AnswersMigration from to old given result read =
     MatchResult result (λ new. HasMigrated (from old) (from read) (to given) (to new))
     (λ e. MigratesNot from to old given e.0 read e.1)
 
--- The new disk after a migration, which is handed back at a fault too.
+-- The new disk after a migration, which is also returned with a fault.
 abbrev pub new_disk : {E : Type 0} → Result E (MigrateFault × E) → E
 new_disk (Ok new) = new
 new_disk (Err e) = e.1
 
--- What a migration answers and leaves. The old disk is only read. If it is honest and stores a
--- state, then at Ok every crash of an honest new disk leaves that state, widened; and if the new
--- disk held zeros, a crash at any moment since the start leaves nothing, or that.
+-- What a migration returns and leaves. The old disk is only read. Suppose that it is honest and
+-- stores a state. At Ok every crash of an honest new disk leaves that state, widened. If the new
+-- disk held zeros, a crash at any moment since the start leaves nothing or that state.
 pub record Migrates {D E : Type 0} (from : D → DiskState) (to : E → DiskState) (old : D)
     (given : E) (result : Result E (MigrateFault × E)) (read : D) : Type 0 where
   pub answer : AnswersMigration from to old given result read

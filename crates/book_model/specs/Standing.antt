@@ -12,28 +12,28 @@ use Rattle.book_model.specs.Openings.{Opens, disk_after}
 use Rattle.book_model.specs.Steps.{AnswersStep, StepsOn, playing}
 use Rattle.book_model.specs.Stores.{Stores}
 
--- A disk lies there, or a book is open over it.
+-- Either there is a disk, or a book is open over it.
 pub data Standing (D : Type 0) : Type 0 where
   Closed : D → Standing D
   Opened : BookView D → Standing D
 
--- The next opening finds a disk that is honest and at rest, with one of the contents that may have
--- been left.
+-- The next opening finds a disk that is honest and at rest, and holds one of the contents that may
+-- have been left.
 pub record Finds {D : Type 0} (state : D → DiskState) (left : List ℕ → Type 0) (next : D)
     : Type 0 where
   pub honest : (state next).honest
   pub rest : IsAtRest (state next)
   pub content : left (state next).now
 
--- An opening answers, but a crash at some moment since it began comes first, or no book is wanted
--- any more: the next opening finds what that left.
+-- An opening returns, but a crash at some moment since it began comes first, or no book is wanted
+-- any more. The next opening finds what that left.
 pub record CutsOpening {D : Type 0} (state : D → DiskState) (given next : D) : Type 0 where
   pub result : Result (BookView D) (Fault × D)
   pub opens : Opens state given result
   pub finds : Finds state ((state (disk_after result)).since (state given).clock) next
 
--- These steps are taken, but a crash at some moment since the first of them began comes before the
--- replies are told: the next opening finds what that left.
+-- These steps are taken, but a crash at some moment since the first one began comes before anybody
+-- sees the replies. The next opening finds what that left.
 pub record CutsSteps {D : Type 0} (state : D → DiskState) (h : BookView D) (more : List Step)
     (next : D) : Type 0 where
   pub untold : List Reply
@@ -65,7 +65,7 @@ pub record LiesWith {D : Type 0} (state : D → DiskState) (d : D) (p : State) :
   pub rest : IsAtRest (state d)
   pub stores : Stores (state d).now p
 
--- The book holds what the machine does.
+-- The book holds the same as the machine.
 pub record HoldsAs {D : Type 0} (state : D → DiskState) (h : BookView D) (m : Running)
     : Type 0 where
   pub safe : IsSafe state h
@@ -74,14 +74,14 @@ pub record HoldsAs {D : Type 0} (state : D → DiskState) (h : BookView D) (m : 
   pub book : m.book ≡ playing h
   pub acked : m.acked ≡ acked h
 
--- The book stands where the machine does.
+-- The book is in the same situation as the machine.
 abbrev pub StandsAs : {D : Type 0} → (D → DiskState) → Standing D → Machine → Type 0
 StandsAs state (Closed d) (Stored p) = LiesWith state d p
 StandsAs state (Opened h) (Runs m) = HoldsAs state h m
 StandsAs state _ _ = ⊥
 
--- The machine makes these moves too, reply for reply, and the book then stands where the machine
--- does.
+-- The machine makes these moves, too, reply for reply, and after them the book is in the same
+-- situation as the machine.
 pub record GoesAs {D : Type 0} (state : D → DiskState) (m : Machine) (moves : List Move)
     (new : Standing D) : Type 0 where
   pub end : Machine

@@ -1,4 +1,4 @@
-//! A book over a disk: how it carries on over any calls, and what a crash leaves of it.
+//! Laws of a book over a disk: how it carries on through any calls, and what a crash leaves of it.
 
 ghost use Rattle.std.specs.Prelude.{◌≡◌, ◌⊎◌, ◌≤◌, ◌++◌, [], ◌∷◌, ℕ, List, drop, length, Some};
 ghost use Rattle.run_model.specs.declared.answers.Reply.{Reply};
@@ -22,12 +22,13 @@ ghost use Rattle.book_model.specs.Meanings.{Means, MeansIn};
 ghost use Rattle.book_model.specs.Nights.{HasKept, HasKeptNight, HasKeptSince, opened_from};
 ghost use Rattle.book_model.specs.Plays.{taken};
 ghost use Rattle.book_model.specs.Steps.{Steps};
-ghost use Rattle.book_model.specs.Stores.{Stores, StoresFront, StoresOpened, restarted};
+ghost use Rattle.book_model.specs.Stores.{Stores, StoresPrefix, StoresOpened, restarted};
 
 use run_disk::RunDisk;
 
-/// A book whose images hold what is acknowledged carries on if nothing is called, and if events
-/// are added without a device call; and two runs of calls in a row are one.
+/// A book whose images hold the acknowledged events carries on if no call is made, and if events
+/// are added without a device call. If it carries on over each of two runs of calls, one after the
+/// other, it carries on over both together.
 pub fn a_book_carries_on<D: RunDisk>()
     ensures none { (h : BookView D) → IsDurable D.state h → CarriesOn D.state h h }
     ensures more { (h : BookView D) (s : Session) (events : List Event)
@@ -37,37 +38,39 @@ pub fn a_book_carries_on<D: RunDisk>()
         → CarriesOn D.state a c }
 {}
 
-/// Over any calls, a crash at any moment since the first one left a state that a prefix of the
-/// history leads to, with each event that was acknowledged before; and a crash now leaves each that
-/// is acknowledged now.
+/// Whatever calls were made, a crash at any moment since the first of them left the state after a
+/// prefix of the history, and the prefix contains every event that was acknowledged before. A crash
+/// now leaves every event that is acknowledged now.
 pub fn a_stop_loses_nothing_acknowledged<D: RunDisk>()
     ensures any_moment { (old new : BookView D) (x : List ℕ) → CarriesOn D.state old new
         → IsSafe D.state old
         → (D.state new.journal.disk).since (D.state old.journal.disk).clock x
-        → StoresFront old.session.start new.session.history (acked old) x }
+        → StoresPrefix old.session.start new.session.history (acked old) x }
     ensures now { (old new : BookView D) (x : List ℕ) → CarriesOn D.state old new
         → IsSafe D.state old → (D.state new.journal.disk).images x
-        → StoresFront old.session.start new.session.history (acked new) x }
+        → StoresPrefix old.session.start new.session.history (acked new) x }
 {}
 
-/// If all events are acknowledged, whatever a crash leaves stores the book's state.
+/// If all events are acknowledged, whatever a crash leaves stores the state of the book.
 pub fn a_saved_book_stores_its_state<D: RunDisk>()
     ensures { (h : BookView D) (x : List ℕ) → IsDurable D.state h → IsSafe D.state h
         → h.durable ≡ h.session.state.count → IsReached h → (D.state h.journal.disk).images x
         → Stores x h.session.state }
 {}
 
-/// Reads leave what a disk at rest stores, at every moment.
+/// A run of reads changes nothing: a crash at any moment of it leaves the state that the disk,
+/// which is at rest, stored before.
 pub fn reading_leaves_what_is_stored<D: RunDisk>()
     ensures { (old new : D) (p : State) → IsAtRest (D.state old)
         → OnlyReads (D.state old) (D.state new) → Stores (D.state old).now p
         → LeavesOnly (λ x. Stores x p) (D.state old) (D.state new) }
 {}
 
-/// What a save leaves at every moment, if its disk is honest and has a store's size: the pair from
-/// before or the new one, and so a prefix with every event that was acknowledged before. The new
-/// pair has one batch more, of the records that were not acknowledged, or is a fresh image.
-pub fn a_save_leaves_fronts<D: RunDisk>()
+/// If the disk is honest and has the size of a store, a crash at any moment of a save leaves the
+/// old pair or the new one. So it leaves a prefix that contains every event that was acknowledged
+/// before. The new pair has one more batch, with the records that weren't acknowledged, or it is a
+/// new image.
+pub fn a_save_leaves_prefixes<D: RunDisk>()
     ensures flush { (h : BookView D) (new : D) (p : State) (pending : List ℕ)
         (settled : IsSettled D.state h) → acked h ≤ length h.session.history
         → run h.session.start h.session.history ≡ Some p
@@ -75,7 +78,7 @@ pub fn a_save_leaves_fronts<D: RunDisk>()
         → (D.state new).honest → (D.state new).size ≡ store_len h.journal.layout
         → LeavesOnly (HasEither settled.image settled.batches settled.image
         (settled.batches ++ pending ∷ [])) (D.state h.journal.disk) (D.state new)
-        → LeavesOnly (StoresFront h.session.start h.session.history (acked h))
+        → LeavesOnly (StoresPrefix h.session.start h.session.history (acked h))
         (D.state h.journal.disk) (D.state new) }
     ensures checkpoint { (h : BookView D) (new : D) (p : State) (fresh : List ℕ)
         (settled : IsSettled D.state h) → acked h ≤ length h.session.history
@@ -84,12 +87,12 @@ pub fn a_save_leaves_fronts<D: RunDisk>()
         → (D.state new).honest → (D.state new).size ≡ store_len h.journal.layout
         → LeavesOnly (HasEither settled.image settled.batches fresh []) (D.state h.journal.disk)
         (D.state new)
-        → LeavesOnly (StoresFront h.session.start h.session.history (acked h))
+        → LeavesOnly (StoresPrefix h.session.start h.session.history (acked h))
         (D.state h.journal.disk) (D.state new) }
 {}
 
-/// What the checkpoint of an opening leaves at every moment, if its disk is honest and has a
-/// store's size: the state that was stored, or what a restart leaves of that state.
+/// If the disk is honest and has the size of a store, a crash at any moment of the checkpoint of an
+/// opening leaves the state that was stored, or its restart.
 pub fn an_opening_leaves_the_state_or_its_restart<D: RunDisk>()
     ensures { (layout : Layout) (old new : D) (p : State) (image fresh : List ℕ)
         (batches : List (List ℕ)) → Means layout image batches p
@@ -99,9 +102,10 @@ pub fn an_opening_leaves_the_state_or_its_restart<D: RunDisk>()
         → LeavesOnly (StoresOpened p) (D.state old) (D.state new) }
 {}
 
-/// A whole opening of an honest disk at rest, its reads and then its checkpoint: at every moment
-/// since its start a crash leaves the state that was stored, or what a restart leaves of it. Each
-/// crash leaves what a journal keeps: so at Ok of the checkpoint only the latter.
+/// A whole opening of an honest disk at rest is a run of reads, followed by a checkpoint. A crash
+/// at any moment since its start leaves the state that was stored, or its restart. Once the
+/// checkpoint has returned Ok, a crash leaves only the restart, since every crash leaves what the
+/// journal keeps.
 pub fn an_opening_loses_nothing_from_its_first_read_on<D: RunDisk>()
     ensures any_moment { (layout : Layout) (given read new : D) (p : State)
         (image fresh : List ℕ) (batches : List (List ℕ)) → (D.state given).honest
@@ -117,7 +121,8 @@ pub fn an_opening_loses_nothing_from_its_first_read_on<D: RunDisk>()
         → Keeps D.state journal image batches → (D.state journal.disk).images x → Stores x p }
 {}
 
-/// The layout stays over any calls, if it is always that of the disk's size.
+/// No call changes the layout, provided that the layout is the one that belongs to the size of the
+/// disk, before the calls and after them.
 pub fn a_book_keeps_its_layout<D: RunDisk>()
     ensures { (old new : BookView D)
         → (D.state old.journal.disk).size ≡ store_len old.journal.layout
@@ -125,15 +130,15 @@ pub fn a_book_keeps_its_layout<D: RunDisk>()
         → CarriesOn D.state old new → new.journal.layout ≡ old.journal.layout }
 {}
 
-/// In words of a user: a disk that is honest and at rest, with a store of state p, was opened;
-/// steps were played, in one call or in many, and their replies were told; then more steps were
-/// played. Whenever a crash comes since then, within a call too, the disk holds one state: every
-/// event that those replies acknowledged led to it, and perhaps some more of the accepted ones, in
-/// order. If a crash comes now, every event that is acknowledged now led to it. And a restart of
-/// that state interrupts what was running, and besides changes only the count, and what an
-/// interruption does to its group and that group's scope. Whenever a crash comes since the opening
-/// began, the disk holds state p, or what a restart of p and perhaps some of the accepted events
-/// led to.
+/// In a user's words: a disk that is honest and at rest stores state p. A book is opened over it,
+/// and steps are played, in one call or in many, and their replies are seen. Then more steps are
+/// played. If a crash comes after those replies, even within a call, the disk stores one state.
+/// Every event that those replies acknowledged led to it, and perhaps some more of the accepted
+/// ones, in order. A crash that comes now leaves every event that is acknowledged now. A restart of
+/// the stored state interrupts the tasks that were running. Apart from that it changes only the
+/// count, and what an interruption does to a group and to the scope of the group. If the crash
+/// comes earlier, at any moment since the opening began, the disk stores state p, or the state to
+/// which a restart of p and perhaps some of the accepted events lead.
 pub fn a_night_is_kept<D: RunDisk>()
     ensures any_moment { (given : D) (p : State) (old middle new : BookView D)
         (steps more : List Step) (answers others : List Reply) (x : List ℕ)

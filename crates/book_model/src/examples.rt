@@ -1,6 +1,6 @@
-//! Worked examples: what a short night's steps are answered, and what the questions say after them;
-//! what a store means; what a book answers. Each is computed from the definitions alone, without
-//! any of the code that a store runs.
+//! Worked examples: the replies to the steps of a short night, and what the questions answer after
+//! them; what a store means; and what a book answers. Each example is computed from the definitions
+//! alone, without any of the code that runs a store.
 //!
 //! Each function has an empty body, and its clauses are the example.
 

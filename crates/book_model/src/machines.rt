@@ -1,4 +1,4 @@
-//! The machine that a book over a disk is, and what many nights of it lead to.
+//! A book over a disk is a machine. These laws say so, and to which state many nights of it lead.
 
 ghost use Rattle.std.specs.Prelude.{◌≡◌, ◌≤◌, ◌++◌, ◌∷◌, List, ℕ, false, length, Some};
 ghost use Rattle.std.specs.List.{flat_map};
@@ -17,9 +17,10 @@ ghost use Rattle.book_model.specs.Standing.{Closed, DoesAll, GoesAs, LiesWith, S
 
 use run_disk::RunDisk;
 
-/// A book over a disk is the machine: whatever calls of it, crashes and openings come one after
-/// another, each opening on an honest disk at rest with what a crash may have left, the machine
-/// makes the same moves, reply for reply. So does a book that goes on from where a machine stands.
+/// A book over a disk does what the machine does. Take any calls, crashes and openings, one after
+/// another, where each opening finds an honest disk at rest that holds what a crash may have left.
+/// Then the machine makes the same moves, reply for reply. The same is true of a book that
+/// continues from the place where a machine is.
 pub fn a_book_is_a_machine<D: RunDisk>()
     ensures store { (given : D) (p : State) (moves : List Move) (new : Standing D)
         → LiesWith D.state given p → DoesAll D.state (Closed given) moves new
@@ -28,8 +29,8 @@ pub fn a_book_is_a_machine<D: RunDisk>()
         → StandsAs D.state old m → DoesAll D.state old moves new → GoesAs D.state m moves new }
 {}
 
-/// The machine answers from its history: the state of its session is the one that all events since
-/// its opening led to, and no more of these are acknowledged than there are.
+/// The machine answers from its history. The state of its session is the one to which all events
+/// since its opening have led, and no more events are acknowledged than there are.
 pub fn a_machine_answers_from_its_history()
     ensures state { (p : State) (m : Running) (steps : List Step) (answers : List Reply)
         → TakesAll (opened_at p) steps answers m
@@ -38,11 +39,11 @@ pub fn a_machine_answers_from_its_history()
         → TakesAll (opened_at p) steps answers m → m.acked ≤ length m.book.session.history }
 {}
 
-/// Many nights lose nothing that was acknowledged. The state after the last night is that of the
-/// first store, changed, night by night, by a restart, every event that this night's replies
-/// acknowledged, and perhaps some more of those that it accepted, in order and none left out. This
-/// holds of the machine, and of a book over disks, each of which holds what a crash of the one
-/// before left.
+/// However many sessions follow one another, nothing that was acknowledged is lost. The state after
+/// the last session is that of the first store, changed session by session: by a restart, by every
+/// event that the replies of the session acknowledged, and perhaps by some more of the events that
+/// it accepted, in order and without a gap. This holds for the machine, and also for a book over
+/// disks, each of which holds what a crash of the one before has left.
 pub fn many_nights_lose_nothing_acknowledged<D: RunDisk>()
     ensures machine { (p q : State) (nights : List Night)
         → GoesOn (Stored p) (flat_map moves_of nights) (Stored q) → LeadOver p nights q }
@@ -51,7 +52,8 @@ pub fn many_nights_lose_nothing_acknowledged<D: RunDisk>()
         → StoresAfterNights p nights (D.state next).now }
 {}
 
-/// A task whose start was acknowledged in a night is started in no later one, however many follow.
+/// If the start of a task was acknowledged in one session, no later session starts that task,
+/// however many follow.
 pub fn no_later_night_starts_a_task_again()
     ensures { (p q : State) (calls : List (Step × Reply)) (more : List Step)
         (nights : List Night) (n : ℕ) (before later : List Event)

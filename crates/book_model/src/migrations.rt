@@ -1,5 +1,4 @@
-//! Why a migration makes no large store of a small one; and what it answers, by what the bytes of
-//! the old disk store.
+//! Why a migration fails, and what its result is, by the bytes of the old disk.
 
 ghost use Rattle.std.specs.Prelude.{◌≡◌, ◌⊎◌, ◌<◌, ◌^◌, ℕ, List, MatchResult, Result};
 ghost use Rattle.run_model.specs.declared.faults.Fault.{Fault as FaultOf};
@@ -17,7 +16,7 @@ ghost use Rattle.book_model.specs.Stores.{Stores, StoresNone};
 use run_disk::RunDisk;
 use run_model::Fault;
 
-/// Why a migration, or a renewal, made no store of another one.
+/// Says why a migration or a renewal has made no new store.
 #[derive(Clone, Copy, Debug, PartialEq, Eq)]
 pub enum MigrateFault {
     /// The memory that was needed was refused.
@@ -30,17 +29,17 @@ pub enum MigrateFault {
     New(Fault),
 }
 
-/// A state of the small layout that meets the rules meets them in the large one too, and its image
-/// there is the same.
+/// A consistent state of the small layout is also consistent in the large one, and its image there
+/// is the same.
 pub fn a_small_state_is_a_state_of_the_large_layout()
     ensures layout { (p : State) → HasLayout (widened p) Large }
     ensures rules { (p : State) → HasLayout p Small → IsConsistent p → IsConsistent (widened p) }
     ensures image { (p : State) → image (widened p) ≡ image p }
 {}
 
-/// Memory and the devices aside, a migration of an honest disk answers what its bytes store: a new
-/// disk if they store a state of fewer than 2^62 events, or the one fault that reports why they
-/// store none.
+/// Unless memory is refused or a device fails, the result of a migration of an honest disk depends
+/// only on what its bytes store. If they store a state with fewer than 2^62 events, the result is a
+/// new disk. If they store no state, it is the one fault that reports why.
 pub fn a_migration_answers_what_is_stored<D: RunDisk, E: RunDisk>()
     ensures state { (old read : D) (given : E) (result : Result E (WhyNot × E)) (p : State)
         → (D.state old).honest → AreSized (D.state old) (E.state given)
@@ -55,8 +54,8 @@ pub fn a_migration_answers_what_is_stored<D: RunDisk, E: RunDisk>()
         ⊎ (e.0 ≡ why.Old DiskFailed)) }
 {}
 
-/// A migration leaves the old disk as it was: one that was at rest is so again, and every crash
-/// leaves the bytes that it had.
+/// A migration leaves the old disk as it was. If the disk was at rest, it is at rest again, and
+/// every crash leaves the bytes that it had.
 pub fn a_migration_leaves_the_old_store_as_it_was<D: RunDisk, E: RunDisk>()
     ensures rest { (old read : D) (given : E) (result : Result E (WhyNot × E))
         → (D.state old).honest → IsAtRest (D.state old)
@@ -67,7 +66,8 @@ pub fn a_migration_leaves_the_old_store_as_it_was<D: RunDisk, E: RunDisk>()
         → x ≡ (D.state old).now }
 {}
 
-/// A migration reports that a device failed only if a call of that disk failed or it is spent.
+/// A migration reports the failure of a device only if a call of that disk failed, or if that disk
+/// is spent.
 pub fn a_migration_tells_which_disk_failed<D: RunDisk, E: RunDisk>()
     ensures old { (old read : D) (given : E) (result : Result E (WhyNot × E))
         → Migrates D.state E.state old given result read

@@ -1,4 +1,4 @@
-//! What a recovery, an opening and a format answer, by what the disk's bytes store.
+//! The results of a recovery, an opening and a format, by the bytes of the disk.
 
 ghost use Rattle.std.specs.Prelude.{◌≡◌, ◌⊎◌, ◌<◌, Err, ℕ, List, length, MatchResult, Result};
 ghost use Rattle.run_model.specs.declared.faults.Fault.{Fault};
@@ -21,8 +21,8 @@ ghost use Rattle.book_model.specs.Stores.{StoresFresh, StoresNothingOr, restarte
 
 use run_disk::RunDisk;
 
-/// Memory and the device aside, a recovery of an honest disk answers what its bytes store: the
-/// state, or the one fault that reports why they store none. It writes nothing.
+/// Unless memory is refused or the device fails, a recovery of an honest disk returns the state
+/// that its bytes store, or the one fault that reports why they store none. It writes nothing.
 pub fn a_recovery_answers_what_is_stored<D: RunDisk>()
     ensures state { (old new : D) (result : Result State Fault) (p : State)
         → (D.state old).honest → Recovers D.state old result new → Stores (D.state old).now p
@@ -36,8 +36,9 @@ pub fn a_recovery_answers_what_is_stored<D: RunDisk>()
         → Recovers D.state old result new → OnlyReads (D.state old) (D.state new) }
 {}
 
-/// Memory and the device aside, an opening of an honest disk answers a book after a restart of
-/// the state that its bytes store, or the one fault that reports why they can't be opened.
+/// Unless memory is refused or the device fails, an opening of an honest disk returns a book that
+/// begins with the stored state after a restart, or the one fault that reports why the bytes can't
+/// be opened.
 pub fn an_opening_answers_what_is_stored<D: RunDisk>()
     ensures state { (given : D) (result : Result (BookView D) (Fault × D)) (p : State)
         → (D.state given).honest → Opens D.state given result → Stores (D.state given).now p
@@ -51,10 +52,10 @@ pub fn an_opening_answers_what_is_stored<D: RunDisk>()
         (λ e. (e.0 ≡ why) ⊎ (e.0 ≡ Memory) ⊎ (e.0 ≡ DiskFailed)) }
 {}
 
-/// What steps left of a store, as it is kept at any moment, is read again, memory and the device
-/// aside. A recovery of an honest disk with these bytes answers the state that a prefix of the
-/// events led to; and an opening answers a book after the restart of that state, unless the store's
-/// numbers are used up.
+/// Whatever steps leave of a store, after a crash at any moment, can be read again unless memory is
+/// refused or the device fails. A recovery of an honest disk with these bytes returns the state to
+/// which a prefix of the events led. An opening returns a book that begins with the restart of that
+/// state, unless the store's numbers are used up.
 pub fn a_kept_night_is_read_again<D: RunDisk>()
     ensures recovered { (start : State) (events acks : List Event) (old new : D)
         (result : Result State Fault) (kept : HasKept start events acks (D.state old).now)
@@ -68,17 +69,18 @@ pub fn a_kept_night_is_read_again<D: RunDisk>()
         (λ e. (e.0 ≡ Memory) ⊎ (e.0 ≡ DiskFailed) ⊎ (e.0 ≡ NumbersSpent)) }
 {}
 
-/// An opening that answers no book has only read; or the bytes store a state that could be opened,
-/// and a call failed, or the disk is spent, after three calls at the earliest.
+/// An opening writes only in its checkpoint. If it returns no book, there are two possibilities.
+/// Either it has only read, or the bytes store a state that could be opened, and a call failed or
+/// the disk was spent after three calls or more.
 pub fn an_opening_writes_in_its_checkpoint_alone<D: RunDisk>()
     ensures { (given new : D) (why : Fault) → (D.state given).honest
         → OpensNot D.state given why new → OnlyReads (D.state given) (D.state new)
         ⊎ HasFailedCheckpoint D.state given new }
 {}
 
-/// A crash in a format over zeros leaves no state but that of the store that the format makes: the
-/// only pair in the bytes, if any, has no batch and the empty image or that of root alone. So they
-/// store that state, or nothing. And a fresh store of a state stores it.
+/// A crash during a format of a disk of zeros leaves no state but that of the new store. If the
+/// bytes have a pair, it has no batch, and its image is empty or that of the state with no row but
+/// root. So they store that state, or nothing. A fresh store of a state stores that state.
 pub fn a_stopped_format_leaves_no_other_state()
     ensures only { (layout : Layout) (x : List ℕ) (p : State) → length x ≡ store_len layout
         → HasNoPairBut (image (formatted layout)) x → Stores x p → p ≡ formatted layout }
@@ -88,7 +90,7 @@ pub fn a_stopped_format_leaves_no_other_state()
         → StoresFresh layout generation p x → Stores x p }
 {}
 
-/// A fault reports that the device failed only if a device call failed or the disk is spent.
+/// A fault reports a failure of the device only if a device call failed or the disk is spent.
 pub fn a_fault_of_the_device_has_its_cause<D: RunDisk>()
     ensures recovers { (old new : D) (result : Result State Fault)
         → Recovers D.state old result new → result ≡ Err DiskFailed

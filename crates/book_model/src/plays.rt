@@ -14,7 +14,7 @@ ghost use Rattle.book_model.specs.Plays.{Playing, Plays, sound, stuck, taken};
 ghost use Rattle.book_model.specs.Plays.{is_device_failure, is_fault, last_acked};
 ghost use Rattle.book_model.specs.Plays.{replies_beside_saves, without_saves};
 
-/// Each step has one reply, and the steps and their replies determine the book that is left.
+/// Each step has one reply. The steps and their replies determine the book after them.
 pub fn each_step_has_its_reply()
     ensures count { (b end : Playing) (steps : List Step) (answers : List Reply)
         → Plays b steps answers end → length answers ≡ length steps }
@@ -22,15 +22,15 @@ pub fn each_step_has_its_reply()
         → Plays b steps answers end → Plays b steps answers other → end ≡ other }
 {}
 
-/// A list of steps may be split into any parts, one call after the other.
+/// A list of steps may be split into any parts, with one call for each part.
 pub fn steps_may_be_split()
     ensures { (b middle end : Playing) (steps more : List Step) (answers others : List Reply)
         → Plays b steps answers middle → Plays middle more others end
         → Plays b (steps ++ more) (answers ++ others) end }
 {}
 
-/// A broken book refuses each step as Broken and stays as it is; and each step after one whose
-/// device failed is refused so.
+/// A broken book refuses each step as Broken, and stays as it is. After a step whose device call
+/// failed, every further step is refused in this way.
 pub fn a_broken_book_refuses_each_step()
     ensures broken { (s : Session) (end : Playing) (steps : List Step) (answers : List Reply)
         → Plays (stuck s) steps answers end
@@ -41,8 +41,8 @@ pub fn a_broken_book_refuses_each_step()
         → answers ≡ map (λ _. reply.Refused Broken) steps }
 {}
 
-/// If no reply is a fault, a book that isn't broken answers as its session does, and isn't
-/// broken after the steps; and it may answer so.
+/// If no reply is a fault, a book that isn't broken answers as its session does, and isn't broken
+/// after the steps. Conversely, the book may give every answer that the session may give.
 pub fn without_faults_a_book_answers_as_its_session()
     ensures only { (s : Session) (end : Playing) (steps : List Step) (answers : List Reply)
         → Plays (sound s) steps answers end → list_any is_fault answers ≡ false
@@ -51,8 +51,8 @@ pub fn without_faults_a_book_answers_as_its_session()
         → Plays (sound s) steps (replies s steps) (sound (session_after s steps)) }
 {}
 
-/// Two lists that differ in saves alone give the other steps the same replies, and leave the same
-/// session, if no fault comes.
+/// If no fault comes, two lists that differ only in their saves give the other steps the same
+/// replies, and leave the same session.
 pub fn saves_change_no_other_reply()
     ensures { (s : Session) (end other : Playing) (steps more : List Step)
         (answers others : List Reply) → without_saves steps ≡ without_saves more
@@ -62,8 +62,8 @@ pub fn saves_change_no_other_reply()
         × (end ≡ other) }
 {}
 
-/// The accepted events of the steps that were not answered Broken are allowed one after another,
-/// and they alone make the state and the session that are left.
+/// The accepted events of those steps that weren't answered Broken are allowed one after another.
+/// They alone determine the state and the session after the steps.
 pub fn accepted_events_make_what_is_left()
     ensures state { (b end : Playing) (steps : List Step) (answers : List Reply)
         → Plays b steps answers end
@@ -72,8 +72,8 @@ pub fn accepted_events_make_what_is_left()
         → Plays b steps answers end → end.session ≡ session_after b.session (taken steps answers) }
 {}
 
-/// The acknowledged events are a prefix of the accepted ones. The last save that was done returned
-/// their number, counted from the state before; if none was done, there are none.
+/// The acknowledged events are a prefix of the accepted ones. The last save that succeeded returned
+/// their number, counted from the state before. If no save succeeded, no event is acknowledged.
 pub fn acknowledged_events_are_the_first_accepted()
     ensures first { (b end : Playing) (steps : List Step) (answers : List Reply)
         → Plays b steps answers end

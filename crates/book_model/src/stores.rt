@@ -12,8 +12,8 @@ ghost use Rattle.model_laws.specs.Restarts.{IsRestart};
 ghost use Rattle.book_model.specs.Stores.{HasSpentNumbers, OpensNone, Stores, StoresNone};
 ghost use Rattle.book_model.specs.Stores.{restarted};
 
-/// A store means one state. The state meets the rules, has the layout that the number of bytes
-/// determines, and each scope with a hit on its chain is done in it.
+/// A store means one state. The state is consistent, and has the layout that the number of bytes
+/// determines. Each scope with a hit on its chain is done in it.
 pub fn a_store_means_one_state()
     ensures one { (bytes : List ℕ) (p q : State) → Stores bytes p → Stores bytes q → p ≡ q }
     ensures rules { (bytes : List ℕ) (p : State) → Stores bytes p → IsConsistent p }
@@ -22,9 +22,9 @@ pub fn a_store_means_one_state()
     ensures done { (bytes : List ℕ) (p : State) → Stores bytes p → HitsReachDown p.tree.scopes }
 {}
 
-/// Any bytes store a state, or have a fault that reports why they store nothing. No bytes do both,
-/// and one fault reports it: the first in the order of reading. For an opening the fault that comes
-/// last is that the numbers of the store are used up.
+/// Any bytes store a state, or have a fault that reports why they store none. No bytes do both, and
+/// they have only one fault: the first in the order of reading. For an opening, the last fault is
+/// that the numbers of the store are used up.
 pub fn a_store_means_a_state_or_has_one_fault()
     ensures not_both { (bytes : List ℕ) (p : State) (why : Fault) → Stores bytes p
         → StoresNone bytes why → ⊥ }
@@ -42,10 +42,10 @@ pub fn a_store_means_a_state_or_has_one_fault()
         → HasSpentNumbers bytes → ⊥ }
 {}
 
-/// The result of an opening on a stored state: the running tasks are interrupted, and besides
-/// nothing changes but the count and what an interruption does to its group and that group's scope.
-/// The rules hold again, each scope with a hit on its chain is done again, and what ended before
-/// has ended as it did.
+/// An opening interrupts the running tasks of the stored state. Apart from that it changes only the
+/// count, and what an interruption does to a group and to the scope of the group. The state is
+/// consistent again, each scope with a hit on its chain is done again, and everything that had
+/// ended has ended as it did.
 pub fn an_opening_interrupts_what_was_running()
     ensures restart { (bytes : List ℕ) (p : State) → Stores bytes p → IsRestart p (restarted p) }
     ensures rules { (bytes : List ℕ) (p : State) → Stores bytes p → IsConsistent (restarted p) }

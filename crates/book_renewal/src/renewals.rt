@@ -1,5 +1,5 @@
-//! A renewal: a store is made of what isn't finished in another. [`renew`] reads the old one, and
-//! makes the new one.
+//! A renewal makes a store that holds everything that isn't finished in another one. [`renew`]
+//! reads the old store, and makes the new one.
 
 ghost use Rattle.std.specs.Prelude.{◌≡◌, ◌≤◌, ◌<◌, ◌+◌, ◌^◌, drop, length, take, true, IfOk, IfErr};
 ghost use Rattle.std.specs.Prelude.{OnOk};
@@ -15,28 +15,29 @@ ghost use Rattle.book_model.specs.Migrations.{HasWritten, Writes};
 ghost use Rattle.book_renewal.specs.Renewals.{HasRenewed, Renews, RenewsNot, WritesNot};
 
 use book_model::MigrateFault;
-use run_book::copies::{HEAD, Rooms, make_rooms, read_stored};
+use run_book::copies::{CopyMemory, read_stored, take_copy_memory};
 use run_disk::RunDisk;
-use run_journal::Journal;
+use run_journal::{HEAD, Journal};
 use run_model::{Fault, Layout};
-use run_state::State;
+use run_session::State;
 use state_renewal::Renewal;
 use std::alloc::Allocator;
 
-/// Makes a store of what isn't finished in another one, and of what that stands on. The new disk is
-/// given back with the renewed state: what a [`Renewal`] keeps of the state that the old disk
-/// stores, with that state's clock and number of events. Running tasks stay running: no restart is
-/// applied. Either store may be small or large, if what is kept fits in the new one. The old disk
-/// is read by three calls, and not written; the new one takes the eight calls of a format.
+/// Makes a store that holds everything that isn't finished in another one, and everything on which
+/// that depends. The new disk is returned with the renewed state, which is the part that a
+/// [`Renewal`] keeps of the state on the old disk, with the same clock and number of events.
+/// Running tasks stay running: there is no restart. Either store may be small or large, if the kept
+/// part fits into the new one. The old disk is read by three calls, and nothing is written to it.
+/// The new one takes the eight calls of a format.
 ///
-/// It reports the first of these faults that holds: `Old(WrongSize)` if the old disk doesn't have a
-/// store's size; `New(WrongSize)` if the new one doesn't; `Memory` if a state or an image is
-/// refused its room; the other faults of [`Book::recover`](run_book::Book::recover), as `Old`;
-/// `Old(NumbersSpent)` if the old store has 2^62 events or more; `Memory` if the marks of what is
-/// kept are refused theirs, two bytes a row; `New(WrongSize)` if what is kept doesn't fit in the
-/// new store; and `New(DiskFailed)` if a call of the new disk failed: then the new disk may hold no
-/// store. The new disk is handed back at each fault, and was called at the last one alone. If it
-/// held zeros, a renewal that stops leaves nothing stored in it, or the new store.
+/// It reports the first of these faults that applies: `Old(WrongSize)` if the old disk doesn't have
+/// the size of a store; `New(WrongSize)` if the new one doesn't; `Memory` if memory for a state or
+/// an image is refused; the other faults of [`Book::recover`](run_book::Book::recover), as `Old`;
+/// `Old(NumbersSpent)` if the old store has 2^62 events or more; `Memory` if memory for the marks
+/// of kept rows, two bytes a row, is refused; `New(WrongSize)` if the kept part doesn't fit into
+/// the new store; and `New(DiskFailed)` if a call of the new disk failed. The new disk is returned
+/// with each fault. It is untouched, except after `New(DiskFailed)`: then it may hold no store. If
+/// it held zeros, a renewal that ends early leaves nothing stored in it, or the new store.
 pub fn renew<D: RunDisk, E: RunDisk, A: Allocator + Copy>(
     alloc: A,
     old: &mut D,
@@ -72,7 +73,7 @@ fn renew_sized<D: RunDisk, E: RunDisk, A: Allocator + Copy>(
     ensures not { IfErr result (λ fault.
         RenewsNot D.state E.state old.old new.old fault old.new new.new) }
 {
-    let Rooms { state, mut body } = make_rooms(alloc, from, to)?;
+    let CopyMemory { state, mut body } = take_copy_memory(alloc, from, to)?;
     let stored = read_stored(alloc, old, state)?;
     let written = write_left(alloc, new, &stored, to, &mut body);
     drop(stored);

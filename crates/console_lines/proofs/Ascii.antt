@@ -9,9 +9,9 @@ use Rattle.std.proofs.lemmas.Str.{IsAscii-append}
 use Rattle.std.proofs.lemmas.Str.Ascii.{IsAscii-cons, IsAscii-nil}
 use Rattle.run_model.specs.Texts.{is_text_byte, IsName}
 use Rattle.run_model.proofs.AsciiLemmas.{name_is_ascii, text_bytes_are_ascii}
-use Rattle.console_lines.specs.declared.replies.Reply.TheVariants as said
-use Rattle.console_lines.specs.declared.tallies.Counts.{Counts}
-use Rattle.console_lines.specs.declared.tallies.Tally.{Tally}
+use Rattle.console_lines.specs.declared.line_replies.LineReply.TheVariants as printed
+use Rattle.console_lines.specs.declared.tallies.TaskCounts.{TaskCounts}
+use Rattle.console_lines.specs.declared.tallies.JobTally.{JobTally}
 use Rattle.console_lines.specs.Replies.{reply_line}
 
 -- Each byte of it is below 128. As a record it names its bytes.
@@ -31,15 +31,15 @@ count bytes n h few =
     (record { ascii = IsAscii-decimal n (omega (arith, few)) })
 
 -- Each count is one of two bytes.
-pub record AreCounts (counts : Counts) : Type 0 where
+pub record AreCounts (counts : TaskCounts) : Type 0 where
   pub total : counts.total < 65536
   pub success : counts.success < 65536
   pub failure : counts.failure < 65536
   pub interrupted : counts.interrupted < 65536
 
 -- The line of a tally is ASCII.
-pub tally_is_ascii : (tally : Tally) → IsName tally.job → AreCounts tally.counts
-    → IsAscii (reply_line (said.Tally tally))
+pub tally_is_ascii : (tally : JobTally) → IsName tally.job → AreCounts tally.counts
+    → IsAscii (reply_line (printed.Tally tally))
 tally_is_ascii tally name are =
     let job : IsPlain tally.job = record { ascii = name_is_ascii tally.job name } in
     let end : IsPlain (10 ∷ []) = record { ascii = IsAscii-cons 10 [] (omega arith) IsAscii-nil } in

@@ -6,16 +6,16 @@ use Rattle.std.proofs.lemmas.Bool.Decides.{nat_tests}
 use Rattle.std.proofs.lemmas.Grind.{common_steps}
 use Rattle.std.proofs.lemmas.List.{length-take-le, take_all}
 use Rattle.run_model.specs.Session.{Session}
-use Rattle.console_lines.specs.declared.asked.Asked.TheVariants.{BadLine}
-use Rattle.console_lines.specs.declared.strays.Stray.{Stray}
-use Rattle.console_lines.specs.declared.strays.Stray.TheVariants as stray
-use Rattle.console_lines.specs.Asked.{asked_of}
+use Rattle.console_lines.specs.declared.line_requests.LineRequest.TheVariants.{BadLine}
+use Rattle.console_lines.specs.declared.rejections.Rejection.{Rejection}
+use Rattle.console_lines.specs.declared.rejections.Rejection.TheVariants as rejection
+use Rattle.console_lines.specs.LineRequests.{request_of}
 use Rattle.console_lines.specs.Progress.{kept}
 use Rattle.console_lines.specs.Replies.{reply_lines}
 use Rattle.console_lines.specs.Script.{reply, after_line, replies_to, after_asked}
-use Rattle.console_lines.specs.Strict.{ends_in_return, stray_by}
+use Rattle.console_lines.specs.Strict.{ends_in_return, rejection_by}
 
-pub asked_of_long : (line : List ℕ) → 256 < length line → asked_of line ≡ BadLine
+pub asked_of_long : (line : List ℕ) → 256 < length line → request_of line ≡ BadLine
 asked_of_long line h = grind (arith, nat_tests, common_steps, h)
 
 -- What is the same of all lines that are too long is the same of what is kept of a line.
@@ -29,8 +29,8 @@ same_of_kept f of_long all line = elim (cases_lt 256 (length line)) [
   | inr short ↦ ap f (take_all 257 line (omega (arith, short)))
 ]
 
-pub asked_of_kept : (line : List ℕ) → asked_of (kept line) ≡ asked_of line
-asked_of_kept = same_of_kept asked_of BadLine asked_of_long
+pub asked_of_kept : (line : List ℕ) → request_of (kept line) ≡ request_of line
+asked_of_kept = same_of_kept request_of BadLine asked_of_long
 
 pub reply_kept : (s : Session) (line : List ℕ) → reply s (kept line) ≡ reply s line
 unfolding reply
@@ -48,11 +48,11 @@ long_ends line h = grind (arith, nat_tests, common_steps, h)
 pub ends_kept : (line : List ℕ) → ends_in_return (kept line) ≡ ends_in_return line
 ends_kept = same_of_kept ends_in_return false long_ends
 
--- Lines that end alike stray alike.
-pub strays_alike : (why : Option Stray) (xs ys : List ℕ)
-    → ends_in_return xs ≡ ends_in_return ys → stray_by why xs ≡ stray_by why ys
-strays_alike None xs ys e = refl
-strays_alike (Some stray.BadLine) xs ys e =
-    ap (λ b. if b then Some stray.CarriageReturn else Some stray.BadLine) e
-strays_alike (Some stray.CarriageReturn) xs ys e = refl
-strays_alike (Some (stray.Refused why)) xs ys e = refl
+-- Lines that end alike are rejected alike.
+pub rejected_alike : (why : Option Rejection) (xs ys : List ℕ)
+    → ends_in_return xs ≡ ends_in_return ys → rejection_by why xs ≡ rejection_by why ys
+rejected_alike None xs ys e = refl
+rejected_alike (Some rejection.BadLine) xs ys e =
+    ap (λ b. if b then Some rejection.CarriageReturn else Some rejection.BadLine) e
+rejected_alike (Some rejection.CarriageReturn) xs ys e = refl
+rejected_alike (Some (rejection.Refused why)) xs ys e = refl

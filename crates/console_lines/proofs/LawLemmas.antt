@@ -11,10 +11,10 @@ use Rattle.run_model.specs.declared.commands.Step.{Step}
 use Rattle.run_model.specs.declared.commands.Wish.TheVariants as wish
 use Rattle.console_lines.specs.Moments.{moment_of}
 use Rattle.console_lines.specs.Numbers.{number_of}
-use Rattle.console_lines.specs.Asked.{wish_of, wished, deadline_at}
+use Rattle.console_lines.specs.LineRequests.{wish_of, wished, deadline_at}
 use Rattle.console_lines.specs.Lines.{whole_lines, open_line, lines_of}
 use Rattle.console_lines.specs.Words.{words_of, rest_of}
-use Rattle.console_lines.specs.Asked.{asked_of}
+use Rattle.console_lines.specs.LineRequests.{request_of}
 use Rattle.console_lines.specs.Script.{after_line, replies, after_lines, closing, script}
 use Rattle.console_lines.specs.Script.{step_of, steps_of}
 use Rattle.console_lines.specs.Progress.{IsFront}
@@ -107,7 +107,7 @@ unfolding after_line
 lines_are_steps s [] = refl
 lines_are_steps s (line ∷ lines) =
     lines_are_steps (after_line s line) lines
-    ∙ step_first s (step_of (asked_of line)) (steps_of lines)
+    ∙ step_first s (step_of (request_of line)) (steps_of lines)
 
 -- ---- texts
 

@@ -6,7 +6,7 @@ use Rattle.console_lines.specs.Dates.{in_month, in_year, moment_text}
 use Rattle.console_lines.specs.Numbers.{is_number}
 use Rattle.console_lines.specs.Script.{reply, after_line, closing}
 use Rattle.console_lines.specs.Shapes.{has_shape, is_in}
-use Rattle.console_lines.specs.Strict.{stray_at}
+use Rattle.console_lines.specs.Strict.{rejection_at}
 use Rattle.console_lines.specs.Moments.{is_local, is_offset, is_date_time, date_time_of, moment_at}
 
 unfoldable pub fields_on_literals : ⊤
@@ -23,5 +23,5 @@ texts_on_literals = tt
 
 -- What it unfolds to compute what a night prints.
 unfoldable pub nights_on_literals : ⊤
-unfolding closing reply after_line stray_at digits moments_on_literals texts_on_literals
+unfolding closing reply after_line rejection_at digits moments_on_literals texts_on_literals
 nights_on_literals = tt

@@ -11,8 +11,8 @@ use Rattle.std.proofs.lemmas.List.Splits.{slice_split_none}
 use Rattle.std.proofs.lemmas.List.Sums.{AllPass-from_list_all}
 use Rattle.std.proofs.lemmas.Slice.Eq.{bytes_eq-Decides}
 use Rattle.run_model.specs.Texts.{IsName, is_name, is_name_byte}
-use Rattle.console_lines.specs.declared.asked.Asked.TheVariants as asked
-use Rattle.console_lines.specs.Asked.{asked_by, asked_of}
+use Rattle.console_lines.specs.declared.line_requests.LineRequest.TheVariants as asked
+use Rattle.console_lines.specs.LineRequests.{asked_by, request_of}
 use Rattle.console_lines.specs.ScopeLines.{scope_word}
 use Rattle.console_lines.specs.Words.{words_of}
 use Rattle.console_lines.proofs.WordLemmas.{words_at_space}
@@ -45,7 +45,7 @@ asks_name : (name : List ℕ) → is_name name ≡ true
     → asked_by (codes "scope" ∷ name ∷ []) ≡ Some (asked.Scope name)
 asks_name name h = grind (arith, common_steps)
 
-asks : (name : List ℕ) → IsName name → asked_of (codes "scope " ++ name) ≡ asked.Scope name
+asks : (name : List ℕ) → IsName name → request_of (codes "scope " ++ name) ≡ asked.Scope name
 asks name h =
     let short = name_is_short name h in
     let words = two_words name h in
@@ -63,5 +63,5 @@ begins line name e =
 
 -- It asks how the scope of the name after `scope ` is.
 pub asks_scope : (line name : List ℕ) → scope_word line ≡ Some name → IsName name
-    → asked_of line ≡ asked.Scope name
-asks_scope line name e h = ap asked_of (begins line name e) ∙ asks name h
+    → request_of line ≡ asked.Scope name
+asks_scope line name e h = ap request_of (begins line name e) ∙ asks name h

@@ -11,15 +11,15 @@ use Rattle.run_model.specs.declared.tasks.Stage.{Stage}
 use Rattle.run_model.specs.declared.tasks.Stage.TheVariants as stage
 use Rattle.run_model.specs.declared.tasks.Task.{Task}
 use Rattle.run_model.specs.Tasks.{is_interrupted, phase_by}
-use Rattle.console_lines.specs.declared.tallies.Counts.{Counts}
-use Rattle.console_lines.specs.declared.tallies.Tally.{Tally}
+use Rattle.console_lines.specs.declared.tallies.TaskCounts.{TaskCounts}
+use Rattle.console_lines.specs.declared.tallies.JobTally.{JobTally}
 use Rattle.console_lines.specs.Tallies.{counts_of, is_failure, is_success, jobs_of, tallies_of}
 use Rattle.console_lines.specs.Tallies.{tasks_at}
 use Rattle.console_lines.specs.Replies.{reply_line, reply_lines}
-use Rattle.console_lines.specs.declared.replies.Reply.TheVariants as said
+use Rattle.console_lines.specs.declared.line_replies.LineReply.TheVariants as printed
 use Rattle.indexmap.specs.IndexMap.{insert_entry}
 use Rattle.std.specs.Map.{lookup}
-use Rattle.console_lines.specs.declared.job_keys.Job.{Job}
+use Rattle.console_lines.specs.declared.job_keys.JobKey.{JobKey}
 use Rattle.console_lines.specs.Counted.{MOST, counted_at, no_tasks, one_more, raised, shown}
 use Rattle.console_lines.specs.Counted.{with_tally}
 use Rattle.console_lines.proofs.JobLists.{AreDistinct, among_without, distinct, is_among, jobs_more}
@@ -67,7 +67,7 @@ at_same test job task xs s h e =
 
 -- ---- the counts of a job
 
-abbrev counts : ℕ → ℕ → ℕ → ℕ → Counts
+abbrev counts : ℕ → ℕ → ℕ → ℕ → TaskCounts
 counts t s f i = record { total = t; success = s; failure = f; interrupted = i }
 
 counts_are : {t t' s s' f f' i i' : ℕ}
@@ -77,14 +77,14 @@ counts_are {t} {t'} {s} {s'} {f} {f'} {i} {i'} ht hs hf hi =
     ∙ ap (λ n. counts t' s' f' n) hi
 
 -- The counts can be raised.
-pub record HasRoom (counts : Counts) : Type 0 where
+pub record HasRoom (counts : TaskCounts) : Type 0 where
   pub total : counts.total < MOST
   pub success : counts.success < MOST
   pub failure : counts.failure < MOST
   pub interrupted : counts.interrupted < MOST
 
 -- The counts with one task more, where there is room for it.
-abbrev plus_one : Phase → Counts → Counts
+abbrev plus_one : Phase → TaskCounts → TaskCounts
 plus_one phase.Success c = record c { total = c.total + 1; success = c.success + 1 }
 plus_one (phase.Failure error) c = record c { total = c.total + 1; failure = c.failure + 1 }
 plus_one phase.Interrupted c = record c { total = c.total + 1; interrupted = c.interrupted + 1 }
@@ -94,7 +94,7 @@ raised_by_one : (n : ℕ) → n < MOST → raised n ≡ n + 1
 raised_by_one n h = omega (arith, h)
 
 -- Where there is room, no count stays.
-in_room : (p : Phase) (c : Counts) → HasRoom c → one_more p c ≡ plus_one p c
+in_room : (p : Phase) (c : TaskCounts) → HasRoom c → one_more p c ≡ plus_one p c
 in_room phase.Held c h = counts_are (raised_by_one _ h.total) refl refl refl
 in_room phase.Ready c h = counts_are (raised_by_one _ h.total) refl refl refl
 in_room phase.Running c h = counts_are (raised_by_one _ h.total) refl refl refl
@@ -181,41 +181,41 @@ none_of job xs h =
 
 -- ---- the tallies of some jobs
 
-abbrev tally : (List ℕ → Counts) → List ℕ → Tally
+abbrev tally : (List ℕ → TaskCounts) → List ℕ → JobTally
 tally c job = record { job = job; counts = c job }
 
-abbrev told : (List ℕ → Counts) → List (List ℕ) → List Tally
-told c jobs = map (tally c) jobs
+abbrev tallied : (List ℕ → TaskCounts) → List (List ℕ) → List JobTally
+tallied c jobs = map (tally c) jobs
 
-counted_by : (c : List ℕ → Counts) (job j : List ℕ) (jobs : List (List ℕ)) (s t : Bool)
+counted_by : (c : List ℕ → TaskCounts) (job j : List ℕ) (jobs : List (List ℕ)) (s t : Bool)
     → bytes_eq job j ≡ s
     → is_among job jobs ≡ t
-    → counted_at job (told c jobs) ≡ cond t (Some (c job)) None
-    → counted_at job (told c (j ∷ jobs)) ≡ cond (s || t) (Some (c job)) None
+    → counted_at job (tallied c jobs) ≡ cond t (Some (c job)) None
+    → counted_at job (tallied c (j ∷ jobs)) ≡ cond (s || t) (Some (c job)) None
 counted_by c job j jobs true t h e rest =
-    ap (λ b. cond b (Some (c j)) (counted_at job (told c jobs))) h
+    ap (λ b. cond b (Some (c j)) (counted_at job (tallied c jobs))) h
     ∙ ap (λ x. Some (c x)) (sym (same job j h))
 counted_by c job j jobs false t h e rest =
-    ap (λ b. cond b (Some (c j)) (counted_at job (told c jobs))) h ∙ rest
+    ap (λ b. cond b (Some (c j)) (counted_at job (tallied c jobs))) h ∙ rest
 
 -- What is counted of a job among them.
-counted_told : (c : List ℕ → Counts) (job : List ℕ) (jobs : List (List ℕ)) (t : Bool)
+counted_told : (c : List ℕ → TaskCounts) (job : List ℕ) (jobs : List (List ℕ)) (t : Bool)
     → is_among job jobs ≡ t
-    → counted_at job (told c jobs) ≡ cond t (Some (c job)) None
+    → counted_at job (tallied c jobs) ≡ cond t (Some (c job)) None
 counted_told c job [] t h = ap (λ b. cond b (Some (c job)) None) h
 counted_told c job (j ∷ jobs) t h =
     counted_by c job j jobs (bytes_eq job j) (is_among job jobs) refl refl
     (counted_told c job jobs (is_among job jobs) refl)
     ∙ ap (λ b. cond b (Some (c job)) None) h
 
-told_alike : (c d : List ℕ → Counts) (job : List ℕ) (jobs : List (List ℕ))
+told_alike : (c d : List ℕ → TaskCounts) (job : List ℕ) (jobs : List (List ℕ))
     → ((j : List ℕ) → bytes_eq job j ≡ false → d j ≡ c j)
     → is_among job jobs ≡ false
-    → told c jobs ≡ told d jobs
+    → tallied c jobs ≡ tallied d jobs
 told_alike c d job [] other h = refl
 told_alike c d job (j ∷ jobs) other h =
     let apart = not_first (bytes_eq job j) (is_among job jobs) h in
-    ap (λ n. record { job = j; counts = n } ∷ told c jobs) (sym (other j apart.0))
+    ap (λ n. record { job = j; counts = n } ∷ tallied c jobs) (sym (other j apart.0))
     ∙ ap (λ x. tally d j ∷ x) (told_alike c d job jobs other apart.1)
 
 either_after : (t : Bool) (j : List ℕ) (xs ys : List (List ℕ))
@@ -230,32 +230,33 @@ behind job j jobs h =
     ap (λ b. cond (b || is_among job jobs) (j ∷ jobs) (j ∷ (jobs ++ job ∷ []))) h
     ∙ either_after (is_among job jobs) j jobs (jobs ++ job ∷ [])
 
-with_by : (c d : List ℕ → Counts) (job j : List ℕ) (jobs : List (List ℕ)) (t : Bool)
+with_by : (c d : List ℕ → TaskCounts) (job j : List ℕ) (jobs : List (List ℕ)) (t : Bool)
     → bytes_eq job j ≡ t
     → ((j : List ℕ) → bytes_eq job j ≡ false → d j ≡ c j)
     → is_among j jobs ≡ false
-    → with_tally job (d job) (told c jobs) ≡ told d (with_job jobs job)
-    → with_tally job (d job) (told c (j ∷ jobs)) ≡ told d (with_job (j ∷ jobs) job)
+    → with_tally job (d job) (tallied c jobs) ≡ tallied d (with_job jobs job)
+    → with_tally job (d job) (tallied c (j ∷ jobs)) ≡ tallied d (with_job (j ∷ jobs) job)
 with_by c d job j jobs true h other new rest =
     let here = same job j h in
     let absent : is_among job jobs ≡ false = ap (λ x. is_among x jobs) here ∙ new in
-    ap (λ b. cond b (record { job = j; counts = d job } ∷ told c jobs)
-    (tally c j ∷ with_tally job (d job) (told c jobs))) h
-    ∙ ap (λ x. record { job = j; counts = d x } ∷ told c jobs) here
+    ap (λ b. cond b (record { job = j; counts = d job } ∷ tallied c jobs)
+    (tally c j ∷ with_tally job (d job) (tallied c jobs))) h
+    ∙ ap (λ x. record { job = j; counts = d x } ∷ tallied c jobs) here
     ∙ ap (λ x. tally d j ∷ x) (told_alike c d job jobs other absent)
-    ∙ sym (ap (λ b. told d (cond (b || is_among job jobs) (j ∷ jobs) (j ∷ (jobs ++ job ∷ [])))) h)
+    ∙ sym (ap (λ b. tallied d (cond (b || is_among job jobs) (j ∷ jobs)
+    (j ∷ (jobs ++ job ∷ [])))) h)
 with_by c d job j jobs false h other new rest =
-    ap (λ b. cond b (record { job = j; counts = d job } ∷ told c jobs)
-    (tally c j ∷ with_tally job (d job) (told c jobs))) h
+    ap (λ b. cond b (record { job = j; counts = d job } ∷ tallied c jobs)
+    (tally c j ∷ with_tally job (d job) (tallied c jobs))) h
     ∙ ap (λ x. tally c j ∷ x) rest
-    ∙ ap (λ n. record { job = j; counts = n } ∷ told d (with_job jobs job)) (sym (other j h))
-    ∙ sym (ap (told d) (behind job j jobs h))
+    ∙ ap (λ n. record { job = j; counts = n } ∷ tallied d (with_job jobs job)) (sym (other j h))
+    ∙ sym (ap (tallied d) (behind job j jobs h))
 
 -- What is counted of one job changes, or goes last.
-with_told : (c d : List ℕ → Counts) (job : List ℕ) (jobs : List (List ℕ))
+with_told : (c d : List ℕ → TaskCounts) (job : List ℕ) (jobs : List (List ℕ))
     → ((j : List ℕ) → bytes_eq job j ≡ false → d j ≡ c j)
     → AreDistinct jobs
-    → with_tally job (d job) (told c jobs) ≡ told d (with_job jobs job)
+    → with_tally job (d job) (tallied c jobs) ≡ tallied d (with_job jobs job)
 with_told c d job [] other h = refl
 with_told c d job (j ∷ jobs) other h =
     with_by c d job j jobs (bytes_eq job j) refl other h.0 (with_told c d job jobs other h.1)
@@ -290,12 +291,12 @@ tallies_more xs task admitted =
     ap (λ n. with_tally job n (tallies_of xs)) counted
     ∙ with_told c d job (jobs_of xs) (λ j h. counts_other xs task j (turned job j false h))
     (distinct xs)
-    ∙ ap (told d) (sym (jobs_more xs task))
+    ∙ ap (tallied d) (sym (jobs_more xs task))
 
 -- What is counted of a job, and what is counted of it with one task more.
 pub one_counted :
-    (xs : List Task) (task : Task) (admitted : Bool) (tallies : List Tally) (job : List ℕ)
-    (phase : Phase) (old new : Counts)
+    (xs : List Task) (task : Task) (admitted : Bool) (tallies : List JobTally) (job : List ℕ)
+    (phase : Phase) (old new : TaskCounts)
     → tallies ≡ tallies_of xs
     → length xs < MOST
     → task.job ≡ job
@@ -304,7 +305,7 @@ pub one_counted :
     → new ≡ one_more phase old
     → with_tally job new tallies ≡ tallies_of (xs ++ task ∷ [])
 one_counted xs task admitted tallies job phase old new before few same_job same_phase was now =
-    let A : List Tally → Type 0 = λ t. old ≡ unwrap_or (counted_at job t) no_tasks in
+    let A : List JobTally → Type 0 = λ t. old ≡ unwrap_or (counted_at job t) no_tasks in
     let B : List ℕ → Type 0 = λ j. old ≡ unwrap_or (counted_at j (tallies_of xs)) no_tasks in
     let here = subst B (sym same_job) (subst A before was) in
     let counted : old ≡ counts_of xs task.job =
@@ -320,17 +321,18 @@ one_counted xs task admitted tallies job phase old new before few same_job same_
 -- ---- the table
 
 -- The keys of two entries are the same.
-abbrev pub same_job : Job → Job → Bool
+abbrev pub same_job : JobKey → JobKey → Bool
 same_job a b = bytes_eq a.name b.name
 
 -- What the table finds of a job.
-pub looked_up : (entries : List (Job × Counts)) (job : List ℕ)
+pub looked_up : (entries : List (JobKey × TaskCounts)) (job : List ℕ)
     → lookup (λ k. bytes_eq job k.name) entries ≡ counted_at job (map shown entries)
 looked_up [] job = refl
 looked_up (e ∷ entries) job =
     ap (λ o. cond (bytes_eq job e.0.name) (Some e.1) o) (looked_up entries job)
 
-put_by : (key : Job) (counts : Counts) (e : Job × Counts) (entries : List (Job × Counts)) (t : Bool)
+put_by : (key : JobKey) (counts : TaskCounts) (e : JobKey × TaskCounts)
+    (entries : List (JobKey × TaskCounts)) (t : Bool)
     → bytes_eq key.name e.0.name ≡ t
     → map shown (insert_entry same_job entries key counts)
     ≡ with_tally key.name counts (map shown entries)
@@ -349,7 +351,7 @@ put_by key counts e entries false h rest =
     (shown e ∷ with_tally key.name counts (map shown entries))) h)
 
 -- What a job's entry leaves of the tallies.
-pub put_in : (entries : List (Job × Counts)) (key : Job) (counts : Counts)
+pub put_in : (entries : List (JobKey × TaskCounts)) (key : JobKey) (counts : TaskCounts)
     → map shown (insert_entry same_job entries key counts)
     ≡ with_tally key.name counts (map shown entries)
 put_in [] key counts = refl
@@ -358,24 +360,24 @@ put_in (e ∷ entries) key counts =
 
 -- ---- the lines
 
-lines_next : (tallies : List Tally) (i : ℕ) (tally : Tally)
+lines_next : (tallies : List JobTally) (i : ℕ) (tally : JobTally)
     → slice_get tallies i ≡ Some tally
-    → reply_lines (map said.Tally (take (suc i) tallies))
-    ≡ reply_lines (map said.Tally (take i tallies)) ++ reply_line (said.Tally tally)
+    → reply_lines (map printed.Tally (take (suc i) tallies))
+    ≡ reply_lines (map printed.Tally (take i tallies)) ++ reply_line (printed.Tally tally)
 lines_next [] i tally h = absurd (grind (arith, h))
 lines_next (x ∷ xs) zero tally h =
-    append-nil (reply_line (said.Tally x))
-    ∙ ap (λ o. reply_line (said.Tally (unwrap_or o x))) h
+    append-nil (reply_line (printed.Tally x))
+    ∙ ap (λ o. reply_line (printed.Tally (unwrap_or o x))) h
 lines_next (x ∷ xs) (suc i) tally h =
-    ap (λ text. reply_line (said.Tally x) ++ text) (lines_next xs i tally h)
-    ∙ sym (append_assoc (reply_line (said.Tally x)) (reply_lines (map said.Tally (take i xs)))
-    (reply_line (said.Tally tally)))
+    ap (λ text. reply_line (printed.Tally x) ++ text) (lines_next xs i tally h)
+    ∙ sym (append_assoc (reply_line (printed.Tally x)) (reply_lines (map printed.Tally (take i xs)))
+    (reply_line (printed.Tally tally)))
 
 -- The lines of the first tallies, and of one more.
-pub lines_more : (tallies : List Tally) (i : ℕ) (tally : Tally)
+pub lines_more : (tallies : List JobTally) (i : ℕ) (tally : JobTally)
     → slice_get tallies i ≡ Some tally
-    → reply_lines (map said.Tally (take (i + 1) tallies))
-    ≡ reply_lines (map said.Tally (take i tallies)) ++ reply_line (said.Tally tally)
+    → reply_lines (map printed.Tally (take (i + 1) tallies))
+    ≡ reply_lines (map printed.Tally (take i tallies)) ++ reply_line (printed.Tally tally)
 lines_more tallies i tally h =
-    ap (λ n. reply_lines (map said.Tally (take n tallies))) (add-one i)
+    ap (λ n. reply_lines (map printed.Tally (take n tallies))) (add-one i)
     ∙ lines_next tallies i tally h

@@ -11,11 +11,12 @@ use Rattle.run_model.specs.declared.refusals.Refusal.TheVariants.{BadName, BadTe
 use Rattle.run_model.specs.Texts.{is_name, is_text}
 use Rattle.console_lines.specs.Numbers.{number_of}
 use Rattle.console_lines.specs.Moments.{moment_of}
-use Rattle.console_lines.specs.declared.asked.Asked.TheVariants.{Refused}
-use Rattle.console_lines.specs.Asked.{Wished, wished, refused_after, judged, derived, asks_judged}
-use Rattle.console_lines.specs.Asked.{asks_derive}
+use Rattle.console_lines.specs.declared.line_requests.LineRequest.TheVariants.{Refused}
+use Rattle.console_lines.specs.LineRequests.{Wished, wished, refused_after, judged, derived}
+use Rattle.console_lines.specs.LineRequests.{asks_judged}
+use Rattle.console_lines.specs.LineRequests.{asks_derive}
 use Rattle.console_lines.specs.Checked.{names_in_wish, texts_in_wish}
-use Rattle.console_lines.specs.Asked.{deadline_at, deadline_wish, timeout_wish, value_wish}
+use Rattle.console_lines.specs.LineRequests.{deadline_at, deadline_wish, timeout_wish, value_wish}
 use Rattle.console_lines.specs.Words.{words_of, words_in, rest_of}
 use Rattle.console_lines.proofs.WordLemmas.{rest_is}
 

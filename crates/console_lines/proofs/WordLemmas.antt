@@ -12,9 +12,9 @@ use Rattle.std.proofs.lemmas.List.Splits.{slice_split_first, slice_split_none}
 use Rattle.std.proofs.lemmas.List.Sums.{position_or_len_is, fails_before_first}
 use Rattle.run_model.specs.declared.commands.Wish.{Wish}
 use Rattle.console_lines.specs.Words.{words_of, words_in, rest_of, only_word}
-use Rattle.console_lines.specs.Asked.{alone}
+use Rattle.console_lines.specs.LineRequests.{alone}
 use Rattle.console_lines.specs.TaskLines.{asks_alone}
-use Rattle.console_lines.specs.declared.asked.Asked.{Asked}
+use Rattle.console_lines.specs.declared.line_requests.LineRequest.{LineRequest}
 
 -- A line has at least one word.
 has_words : (line : List ℕ) → 0 < length (words_of line)
@@ -70,13 +70,13 @@ alone_words wish (word ∷ words) h = refl
 pub alone_more : (wish : Wish) (line : List ℕ) → alone wish (words_of line) ≡ None
 alone_more wish line = alone_words wish (words_of line) (has_words line)
 
-asks_alone_words : (a : Asked) (words : List (List ℕ)) → 0 < length words
+asks_alone_words : (a : LineRequest) (words : List (List ℕ)) → 0 < length words
     → asks_alone a words ≡ None
 asks_alone_words a [] h = absurd (omega (arith, h))
 asks_alone_words a (word ∷ words) h = refl
 
 -- A line that no word may follow is none where a word is left over.
-pub asks_alone_more : (a : Asked) (line : List ℕ) → asks_alone a (words_of line) ≡ None
+pub asks_alone_more : (a : LineRequest) (line : List ℕ) → asks_alone a (words_of line) ≡ None
 asks_alone_more a line = asks_alone_words a (words_of line) (has_words line)
 
 only_word_words : (word : List ℕ) (words : List (List ℕ)) → 0 < length words

@@ -8,11 +8,11 @@ use Rattle.run_model.specs.declared.commands.Command.{Command}
 use Rattle.run_model.specs.declared.commands.Step.TheVariants as step
 use Rattle.run_model.specs.declared.refusals.Refusal.TheVariants as refusal
 use Rattle.run_model.specs.Texts.{is_name, is_text}
-use Rattle.console_lines.specs.declared.asked.Asked.{Asked}
-use Rattle.console_lines.specs.declared.asked.Asked.TheVariants as asked
+use Rattle.console_lines.specs.declared.line_requests.LineRequest.{LineRequest}
+use Rattle.console_lines.specs.declared.line_requests.LineRequest.TheVariants as asked
 use Rattle.console_lines.specs.Words.{only_word}
 
--- The words of a wish that stand in the place of names.
+-- The words of a wish in the places of names.
 abbrev pub names_in_wish : Wish → List (List ℕ)
 names_in_wish (wish.Value key text) = key ∷ []
 names_in_wish _ = []
@@ -24,30 +24,31 @@ texts_in_wish (wish.Timeout seconds cause) = option_to_list cause
 texts_in_wish (wish.Value key text) = text ∷ []
 texts_in_wish _ = []
 
--- A word in the place of a name that is not a name is refused first, and then a text that is not a
--- text. What else refuses a line by itself comes after these.
-abbrev pub checked : List (List ℕ) → List (List ℕ) → Asked → Asked
+-- First, a word in the place of a name is refused if it isn't a name, and then a text if it isn't a
+-- text. Everything else that refuses a line in every state comes after these.
+abbrev pub checked : List (List ℕ) → List (List ℕ) → LineRequest → LineRequest
 checked names texts asks =
     if not (list_all is_name names) then asked.Refused refusal.BadName
     else if not (list_all is_text texts) then asked.Refused refusal.BadText
     else asks
 
--- A command that is asked for.
-abbrev pub asks : Command → Asked
+-- A request for a command.
+abbrev pub asks : Command → LineRequest
 asks call = asked.Step (step.Command call)
 
--- A line of one name, which may be any bytes, asks for this. Of any other form it is no such line.
-abbrev pub of_one : (List ℕ → Asked) → List (List ℕ) → Option Asked
+-- The request in a line with one name, which may be any bytes. A line of another form is a bad
+-- line.
+abbrev pub of_one : (List ℕ → LineRequest) → List (List ℕ) → Option LineRequest
 of_one asks words = option_map (λ name. checked (name ∷ []) [] (asks name)) (only_word words)
 
 -- A line of two names.
-abbrev pub of_two : (List ℕ → List ℕ → Asked) → List (List ℕ) → Option Asked
+abbrev pub of_two : (List ℕ → List ℕ → LineRequest) → List (List ℕ) → Option LineRequest
 of_two asks (name ∷ words) =
     option_map (λ more. checked (name ∷ more ∷ []) [] (asks name more)) (only_word words)
 of_two asks _ = None
 
 -- A line of three names.
-abbrev pub of_three : (List ℕ → List ℕ → List ℕ → Asked) → List (List ℕ) → Option Asked
+abbrev pub of_three : (List ℕ → List ℕ → List ℕ → LineRequest) → List (List ℕ) → Option LineRequest
 of_three asks (name ∷ more ∷ words) =
     option_map (λ last. checked (name ∷ more ∷ last ∷ []) [] (asks name more last))
     (only_word words)

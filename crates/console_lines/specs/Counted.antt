@@ -3,26 +3,26 @@ use Rattle.std.specs.Prelude.{ℕ, ◌+◌, min, if◌then◌else◌, List, [], 
 use Rattle.std.specs.Str.{bytes_eq}
 use Rattle.run_model.specs.declared.tasks.Phase.{Phase}
 use Rattle.run_model.specs.declared.tasks.Phase.TheVariants as phase
-use Rattle.console_lines.specs.declared.tallies.Counts.{Counts}
-use Rattle.console_lines.specs.declared.tallies.Tally.{Tally}
-use Rattle.console_lines.specs.declared.job_keys.Job.{Job}
+use Rattle.console_lines.specs.declared.tallies.TaskCounts.{TaskCounts}
+use Rattle.console_lines.specs.declared.tallies.JobTally.{JobTally}
+use Rattle.console_lines.specs.declared.job_keys.JobKey.{JobKey}
 
 -- A job is counted to this number at most.
 abbrev pub MOST : ℕ
 MOST = 65535
 
 -- An entry of the table is a tally.
-abbrev pub shown : Job × Counts → Tally
+abbrev pub shown : JobKey × TaskCounts → JobTally
 shown entry = record { job = entry.0.name; counts = entry.1 }
 
 -- What is counted of a job; none if none of its tasks was counted.
-abbrev pub counted_at : List ℕ → List Tally → Option Counts
+abbrev pub counted_at : List ℕ → List JobTally → Option TaskCounts
 counted_at job [] = None
 counted_at job (tally ∷ tallies) =
     if bytes_eq job tally.job then Some tally.counts else counted_at job tallies
 
 -- The counts of no task.
-abbrev pub no_tasks : Counts
+abbrev pub no_tasks : TaskCounts
 no_tasks = record { total = 0; success = 0; failure = 0; interrupted = 0 }
 
 -- A count with one more, if it isn't the greatest yet.
@@ -30,7 +30,7 @@ abbrev pub raised : ℕ → ℕ
 raised n = min (n + 1) MOST
 
 -- The counts with one task more, which is in this phase.
-abbrev pub one_more : Phase → Counts → Counts
+abbrev pub one_more : Phase → TaskCounts → TaskCounts
 one_more phase.Success c = record c { total = raised c.total; success = raised c.success }
 one_more (phase.Failure error) c = record c { total = raised c.total; failure = raised c.failure }
 one_more phase.Interrupted c =
@@ -38,7 +38,7 @@ one_more phase.Interrupted c =
 one_more _ c = record c { total = raised c.total }
 
 -- The tallies, with this as what is counted of a job; a new one goes last.
-abbrev pub with_tally : List ℕ → Counts → List Tally → List Tally
+abbrev pub with_tally : List ℕ → TaskCounts → List JobTally → List JobTally
 with_tally job counts [] = record { job = job; counts = counts } ∷ []
 with_tally job counts (tally ∷ tallies) =
     if bytes_eq job tally.job then record { job = tally.job; counts = counts } ∷ tallies

@@ -1,4 +1,4 @@
--- What ends a run, and what is printed of it.
+-- Why a run ended, and how that is printed.
 use Rattle.std.specs.Prelude.{ℕ, List, codes}
 use Rattle.console_lines.specs.declared.faults.RunFault.{RunFault}
 use Rattle.console_lines.specs.declared.faults.RunFault.TheVariants.{Input, Output, InputTooLong}
@@ -8,7 +8,7 @@ use Rattle.run_model.specs.declared.faults.Fault.TheVariants as of_store
 use Rattle.run_model.specs.declared.faults.Trouble.TheVariants.{Faulty}
 use Rattle.run_model.specs.Faults.{trouble_text}
 
--- Why a run ended before its input did.
+-- The text of each reason.
 abbrev pub stop_text : RunFault → List ℕ
 stop_text Input = codes "input"
 stop_text Output = codes "output"
@@ -16,7 +16,7 @@ stop_text InputTooLong = codes "input too long"
 stop_text Memory = codes "fault 1 Memory"
 stop_text (Store why) = trouble_text why
 
--- What a fault of a store is to a run: want of memory is kept apart from all else.
+-- The fault of a run for a fault of its store: lack of memory is one of its own.
 abbrev pub stopped : Fault → RunFault
 stopped of_store.Memory = Memory
 stopped why = Store (Faulty why)

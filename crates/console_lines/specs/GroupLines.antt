@@ -5,8 +5,8 @@ use Rattle.std.specs.Str.{bytes_eq}
 use Rattle.run_model.specs.declared.bounds.TheConstants.{GREATEST_LIMIT}
 use Rattle.run_model.specs.declared.commands.Command.TheVariants as command
 use Rattle.console_lines.specs.Numbers.{number_of}
-use Rattle.console_lines.specs.declared.asked.Asked.{Asked}
-use Rattle.console_lines.specs.declared.asked.Asked.TheVariants as asked
+use Rattle.console_lines.specs.declared.line_requests.LineRequest.{LineRequest}
+use Rattle.console_lines.specs.declared.line_requests.LineRequest.TheVariants as asked
 use Rattle.console_lines.specs.Checked.{asks, checked, of_one, of_two, of_three}
 use Rattle.console_lines.specs.TaskLines.{task_line_of}
 use Rattle.console_lines.specs.Words.{only_word}
@@ -22,14 +22,14 @@ limit_of word =
     else option_and_then limit_at (number_of word)
 
 -- limit GROUP NUMBER, limit GROUP none
-abbrev pub limit_line : List (List ℕ) → Option Asked
+abbrev pub limit_line : List (List ℕ) → Option LineRequest
 limit_line (group ∷ words) =
     option_map (λ limit. checked (group ∷ []) [] (asks (command.SetLimit group limit)))
     (option_and_then limit_of (only_word words))
 limit_line _ = None
 
 -- What a line asks of groups, by its first word; else it asks something of tasks.
-abbrev pub group_line_of : List ℕ → List (List ℕ) → Option Asked
+abbrev pub group_line_of : List ℕ → List (List ℕ) → Option LineRequest
 group_line_of first words =
     if bytes_eq first (codes "group") then
     of_two (λ name parent. asks (command.Group name parent)) words

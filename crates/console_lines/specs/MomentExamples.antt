@@ -5,18 +5,18 @@ use Rattle.run_model.specs.declared.refusals.Refusal.TheVariants.{MomentOutOfRan
 use Rattle.console_lines.specs.Dates.{moment_text}
 use Rattle.console_lines.specs.Moments.{moment_of}
 
--- The word writes the moment of so many seconds.
+-- The word stands for the moment at this many seconds.
 abbrev pub Writes : String → ℕ → Type 0
 Writes word seconds = moment_of (codes word) ≡ Some (Ok seconds)
 
--- The word writes a moment that is out of range.
+-- The word stands for a moment that is out of range.
 abbrev pub IsOutOfRange : String → Type 0
 IsOutOfRange word = moment_of (codes word) ≡ Some (Err MomentOutOfRange)
 
--- The word writes no moment.
+-- The word stands for no moment.
 abbrev pub IsNoMoment : String → Type 0
 IsNoMoment word = moment_of (codes word) ≡ None
 
--- So many seconds have this text.
+-- The moment at this many seconds has this text.
 abbrev pub HasText : ℕ → String → Type 0
 HasText seconds word = moment_text seconds ≡ codes word

@@ -39,12 +39,12 @@ abbrev pub seconds_of : {E : Type 0} → Result ℤ E → Option ℤ
 seconds_of (Ok instant) = Some (int_div instant (pos 1_000_000_000))
 seconds_of (Err why) = None
 
--- The instant of a date and time is what jiff states of its reading. jiff may refuse one, such as a
--- day that its month doesn't have.
+-- The instant of a date and time, as jiff states it. jiff may refuse one, such as a day that its
+-- month doesn't have.
 abbrev pub instant_of : List ℕ → Option ℤ
 instant_of word = seconds_of (parse_timestamp word)
 
--- The moment of so many seconds since 1970-01-01T00:00:00Z, if that is a moment.
+-- The moment at this many seconds since 1970-01-01T00:00:00Z, if that is a moment.
 unfoldable pub moment_at : ℤ → Result ℕ Refusal
 moment_at (pos seconds) =
     if nat_le seconds GREATEST_MOMENT then Ok seconds else Err refusal.MomentOutOfRange
@@ -58,7 +58,8 @@ date_time_of word =
     else if not (is_in 1969 9987 (take 4 word)) then Some (Err refusal.MomentOutOfRange)
     else option_map moment_at (instant_of word)
 
--- The moment that a word writes: a number is its seconds, all else is a date and time.
+-- The moment that a word stands for. A number is its seconds. Any other word has to be a date and
+-- time.
 abbrev pub moment_of : List ℕ → Option (Result ℕ Refusal)
 moment_of word =
     option_map_or (λ seconds. Some (moment_at (pos seconds))) (number_of word) (date_time_of word)

@@ -8,17 +8,26 @@ use Rattle.run_model.specs.declared.tasks.Phase.TheVariants as phase
 use Rattle.run_model.specs.declared.answers.Answer.{Answer}
 use Rattle.run_model.specs.declared.answers.Answer.TheVariants as answer
 use Rattle.run_model.specs.declared.answers.GroupLook.{GroupLook}
-use Rattle.run_model.specs.declared.answers.Reply.{Reply as Told}
-use Rattle.run_model.specs.declared.answers.Reply.TheVariants as told
+use Rattle.run_model.specs.declared.answers.Reply.{Reply as Answered}
+use Rattle.run_model.specs.declared.answers.Reply.TheVariants as answered
 use Rattle.run_model.specs.declared.answers.TaskInfo.{TaskInfo}
 use Rattle.run_model.specs.Faults.{fault_text, trouble_text}
 use Rattle.run_model.specs.Refusals.{refusal_text}
 use Rattle.run_model.specs.Reasons.{reason_text}
-use Rattle.console_lines.specs.declared.replies.Reply.{Reply}
-use Rattle.console_lines.specs.declared.replies.Reply.TheVariants as reply
-use Rattle.console_lines.specs.declared.tallies.Tally.{Tally}
+use Rattle.console_lines.specs.declared.line_replies.LineReply.{LineReply}
+use Rattle.console_lines.specs.declared.line_replies.LineReply.TheVariants as reply
+use Rattle.console_lines.specs.declared.tallies.JobTally.{JobTally}
 
--- How far a task is.
+-- The word of a phase. That of a task that has failed is `error`, whatever its error is.
+abbrev pub phase_word : Phase → List ℕ
+phase_word phase.Held = codes "held"
+phase_word phase.Ready = codes "ready"
+phase_word phase.Running = codes "running"
+phase_word phase.Success = codes "success"
+phase_word (phase.Failure error) = codes "error"
+phase_word phase.Interrupted = codes "interrupted"
+
+-- The text of a phase.
 abbrev pub phase_text : Phase → List ℕ
 phase_text phase.Held = codes "held"
 phase_text phase.Ready = codes "ready"
@@ -27,11 +36,11 @@ phase_text phase.Success = codes "success"
 phase_text (phase.Failure error) = codes "error " ++ error
 phase_text phase.Interrupted = codes "interrupted"
 
--- A task's number, and how far it is.
+-- The number of a task, and its phase.
 abbrev pub task_text : ℕ → Phase → List ℕ
 task_text n phase = codes "task " ++ decimal n ++ codes " " ++ phase_text phase
 
--- The answer of an accepted command.
+-- The text of the answer to an accepted command.
 abbrev pub answer_text : Answer → List ℕ
 answer_text (answer.Scope s) = codes "scope " ++ decimal s
 answer_text (answer.Group g None) = codes "group " ++ decimal g
@@ -85,7 +94,7 @@ group_text look =
     ++ (codes "; error " ++ error_text look.error)
 
 -- A job, how many tasks it has, and how many of them have ended in each way.
-abbrev pub tally_text : Tally → List ℕ
+abbrev pub tally_text : JobTally → List ℕ
 tally_text tally =
     codes "tally " ++ tally.job
     ++ (codes " total " ++ decimal tally.counts.total)
@@ -93,17 +102,17 @@ tally_text tally =
     ++ (codes "; failure " ++ decimal tally.counts.failure)
     ++ (codes "; interrupted " ++ decimal tally.counts.interrupted)
 
--- What a step's answer prints.
-abbrev pub step_text : Told → List ℕ
-step_text (told.Answer answer) = answer_text answer
-step_text (told.Started started) = started_text started.info
-step_text (told.Finished event) = codes "ok"
-step_text (told.Acked count) = codes "acked " ++ decimal count
-step_text (told.Refused why) = refusal_text why
-step_text (told.Faulty why) = fault_text why
+-- The text of the reply to a step.
+abbrev pub step_text : Answered → List ℕ
+step_text (answered.Answer answer) = answer_text answer
+step_text (answered.Started started) = started_text started.info
+step_text (answered.Finished event) = codes "ok"
+step_text (answered.Acked count) = codes "acked " ++ decimal count
+step_text (answered.Refused why) = refusal_text why
+step_text (answered.Faulty why) = fault_text why
 
--- What a reply prints, without its LF.
-abbrev pub reply_text : Reply → List ℕ
+-- The text of a reply, without its LF.
+abbrev pub reply_text : LineReply → List ℕ
 reply_text reply.BadLine = codes "bad line"
 reply_text (reply.Refused why) = refusal_text why
 reply_text (reply.Step answer) = step_text answer
@@ -115,10 +124,10 @@ reply_text (reply.Tally tally) = tally_text tally
 reply_text (reply.Failed why) = trouble_text why
 
 -- A reply is written as one line: its text, and an LF.
-abbrev pub reply_line : Reply → List ℕ
+abbrev pub reply_line : LineReply → List ℕ
 reply_line reply = reply_text reply ++ 10 ∷ []
 
 -- Some replies, one line after the other.
-abbrev pub reply_lines : List Reply → List ℕ
+abbrev pub reply_lines : List LineReply → List ℕ
 reply_lines [] = []
 reply_lines (reply ∷ replies) = reply_line reply ++ reply_lines replies

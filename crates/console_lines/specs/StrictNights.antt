@@ -1,25 +1,25 @@
--- The examples of strict runs over a newly opened store. The lines after the one that strays have
+-- The examples of strict runs over a newly opened store. The lines after the rejected one have
 -- no reply.
 use Prim.Native.String.{String}
 use Rattle.std.specs.Prelude.{◌≡◌, ℕ, [], ◌∷◌, ◌++◌, codes, Some, None}
 use Rattle.run_model.specs.declared.layouts.Layout.TheVariants.{Small}
 use Rattle.run_model.specs.Session.{opened}
-use Rattle.console_lines.specs.declared.strays.Stray.{Stray}
-use Rattle.console_lines.specs.Nights.{Night, shown, told, typed}
-use Rattle.console_lines.specs.Strict.{stray_in, strict_script}
+use Rattle.console_lines.specs.declared.rejections.Rejection.{Rejection}
+use Rattle.console_lines.specs.Nights.{Night, shown, replied, typed}
+use Rattle.console_lines.specs.Strict.{rejection_in, strict_script}
 
--- The lines are replied to as expected, this is the closing line, and none of them strays.
+-- The lines are replied to as expected, this is the closing line, and none of them is rejected.
 abbrev pub IsWhole : Night → String → Type 0
 IsWhole night last =
-    (strict_script (opened Small) (typed night) ≡ told night ++ shown (codes last))
-    × (stray_in (opened Small) (typed night) ≡ None)
+    (strict_script (opened Small) (typed night) ≡ replied night ++ shown (codes last))
+    × (rejection_in (opened Small) (typed night) ≡ None)
 
 -- The lines are replied to as expected, this is the closing line, and the line of this number
--- strays, for this reason.
-abbrev pub EndsAt : Night → String → ℕ → Stray → Type 0
+-- is rejected, for this reason.
+abbrev pub EndsAt : Night → String → ℕ → Rejection → Type 0
 EndsAt night last number why =
-    (strict_script (opened Small) (typed night) ≡ told night ++ shown (codes last))
-    × (stray_in (opened Small) (typed night) ≡ Some (record { number = number; why = why }))
+    (strict_script (opened Small) (typed night) ≡ replied night ++ shown (codes last))
+    × (rejection_in (opened Small) (typed night) ≡ Some (record { number = number; why = why }))
 
 -- The third of five lines is refused.
 abbrev pub third_is_refused : Night
@@ -35,16 +35,16 @@ third_is_refused =
 abbrev pub first_is_bad : Night
 first_is_bad = ("up", "bad line") ∷ ("derive a root cause", "") ∷ []
 
--- No line strays.
-abbrev pub none_strays : Night
-none_strays =
+-- No line is rejected.
+abbrev pub none_is_rejected : Night
+none_is_rejected =
     ("derive a root cause", "scope 1")
     ∷ ("flush", "acked 2")
     ∷ ("tally", "")
     ∷ ("cancel a disk", "ok")
     ∷ []
 
--- A question that is refused strays, too. The empty lines before it are counted.
+-- A question that is refused is rejected, too. The empty lines before it are counted.
 abbrev pub question_is_refused : Night
 question_is_refused =
     ("", "")

@@ -5,8 +5,8 @@ use Rattle.run_model.specs.declared.tasks.Stage.{Stage}
 use Rattle.run_model.specs.declared.tasks.Stage.TheVariants as stage
 use Rattle.run_model.specs.declared.tasks.Task.{Task}
 use Rattle.run_model.specs.Tasks.{is_interrupted}
-use Rattle.console_lines.specs.declared.tallies.Counts.{Counts}
-use Rattle.console_lines.specs.declared.tallies.Tally.{Tally}
+use Rattle.console_lines.specs.declared.tallies.TaskCounts.{TaskCounts}
+use Rattle.console_lines.specs.declared.tallies.JobTally.{JobTally}
 
 -- Finished without an error.
 abbrev pub is_success : Stage → Bool
@@ -18,12 +18,12 @@ abbrev pub is_failure : Stage → Bool
 is_failure (stage.Failure error) = true
 is_failure _ = false
 
--- How many of these tasks are of the job, and at such a stage.
+-- How many of these tasks belong to the job, and have such a stage.
 abbrev pub tasks_at : (Stage → Bool) → List ℕ → List Task → ℕ
 tasks_at test job tasks = count_by (λ task. bytes_eq job task.job && test task.stage) tasks
 
--- How many of these tasks are of the job, in all and by how they ended.
-abbrev pub counts_of : List Task → List ℕ → Counts
+-- How many of these tasks belong to the job, in all and by how they have ended.
+abbrev pub counts_of : List Task → List ℕ → TaskCounts
 counts_of tasks job = record {
   total = tasks_at (λ stage. true) job tasks;
   success = tasks_at is_success job tasks;
@@ -38,5 +38,5 @@ jobs_of [] = []
 jobs_of (task ∷ tasks) = task.job ∷ filter (λ job. not (bytes_eq task.job job)) (jobs_of tasks)
 
 -- What is counted for each job.
-abbrev pub tallies_of : List Task → List Tally
+abbrev pub tallies_of : List Task → List JobTally
 tallies_of tasks = map (λ job. record { job = job; counts = counts_of tasks job }) (jobs_of tasks)

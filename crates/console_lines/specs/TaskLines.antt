@@ -9,22 +9,22 @@ use Rattle.run_model.specs.declared.tasks.Outcome.{Outcome}
 use Rattle.run_model.specs.declared.tasks.Outcome.TheVariants as outcome
 use Rattle.run_model.specs.Records.{is_row_number}
 use Rattle.console_lines.specs.Numbers.{number_of}
-use Rattle.console_lines.specs.declared.asked.Asked.{Asked}
-use Rattle.console_lines.specs.declared.asked.Asked.TheVariants as asked
+use Rattle.console_lines.specs.declared.line_requests.LineRequest.{LineRequest}
+use Rattle.console_lines.specs.declared.line_requests.LineRequest.TheVariants as asked
 use Rattle.console_lines.specs.Checked.{asks, checked}
 use Rattle.console_lines.specs.Words.{rest_of, only_word}
 
 -- What is asked of the task of a number: no task has one of more than two bytes.
-abbrev pub asks_task : (ℕ → Asked) → ℕ → Asked
+abbrev pub asks_task : (ℕ → LineRequest) → ℕ → LineRequest
 asks_task asks number =
     if is_row_number number then asks number else asked.Refused refusal.NoSuchTask
 
 -- A line of a retry.
-abbrev pub asks_retry : ℕ → Asked
+abbrev pub asks_retry : ℕ → LineRequest
 asks_retry number = asks_task (λ n. asks (command.Retry n)) number
 
 -- A line of the question how far a task is.
-abbrev pub asks_phase : ℕ → Asked
+abbrev pub asks_phase : ℕ → LineRequest
 asks_phase number = asks_task asked.Task number
 
 -- The texts of an outcome.
@@ -33,23 +33,23 @@ texts_in_outcome outcome.Success = []
 texts_in_outcome (outcome.Failure error) = error ∷ []
 
 -- A line of a finish, whose error may be any bytes: a number that no task has is refused after it.
-abbrev pub asks_finish : ℕ → Outcome → Asked
+abbrev pub asks_finish : ℕ → Outcome → LineRequest
 asks_finish number outcome =
     checked [] (texts_in_outcome outcome)
     (asks_task (λ n. asked.Step (step.Finish n outcome)) number)
 
 -- A line that no word may follow.
-abbrev pub asks_alone : Asked → List (List ℕ) → Option Asked
+abbrev pub asks_alone : LineRequest → List (List ℕ) → Option LineRequest
 asks_alone asks [] = Some asks
 asks_alone asks _ = None
 
 -- What a line of one number asks for.
-abbrev pub asks_number : (ℕ → Asked) → List (List ℕ) → Option Asked
+abbrev pub asks_number : (ℕ → LineRequest) → List (List ℕ) → Option LineRequest
 asks_number asks words = option_map asks (option_and_then number_of (only_word words))
 
 -- How the task of a number ends: ok, which no word may follow, or error TEXT, whose text may be any
 -- bytes.
-abbrev pub outcome_line : ℕ → List (List ℕ) → Option Asked
+abbrev pub outcome_line : ℕ → List (List ℕ) → Option LineRequest
 outcome_line number (first ∷ words) =
     if bytes_eq first (codes "ok") then asks_alone (asks_finish number outcome.Success) words
     else if bytes_eq first (codes "error") then
@@ -58,12 +58,12 @@ outcome_line number (first ∷ words) =
 outcome_line number [] = None
 
 -- finish NUMBER ok, finish NUMBER error TEXT
-abbrev pub finish_line : List (List ℕ) → Option Asked
+abbrev pub finish_line : List (List ℕ) → Option LineRequest
 finish_line (number ∷ words) = option_and_then (λ n. outcome_line n words) (number_of number)
 finish_line _ = None
 
 -- What a line asks of tasks or of the store, by its first word. No other word begins a line.
-abbrev pub task_line_of : List ℕ → List (List ℕ) → Option Asked
+abbrev pub task_line_of : List ℕ → List (List ℕ) → Option LineRequest
 task_line_of first words =
     if bytes_eq first (codes "start") then asks_alone (asked.Step step.Start) words
     else if bytes_eq first (codes "finish") then finish_line words

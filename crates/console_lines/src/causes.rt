@@ -1,4 +1,4 @@
-//! A cause is the rest of its line, and may be missing with the space before it.
+//! A cause is the rest of its line. It may be missing, together with the space before it.
 
 ghost use Rattle.std.specs.List.{list_all};
 ghost use Rattle.std.specs.Option.{option_to_list};

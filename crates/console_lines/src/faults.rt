@@ -1,4 +1,4 @@
-//! What ends a run of the console before its input does.
+//! A [`RunFault`] ends a run of the console before the end of its input.
 
 ghost use Rattle.std.specs.Prelude.{◌≡◌, Some};
 ghost use Rattle.console_lines.specs.Faults.{stop_text, stopped};
@@ -7,19 +7,19 @@ use run_model::{Fault, Trouble};
 use std::error::Error;
 use std::fmt;
 
-/// Why a run ended before its input did. It is shown as `input`, `output`, `input too long`,
-/// `fault 3 NotAStore` and likewise.
+/// Says why a run ended before the end of its input. It is printed as `input`, `output`,
+/// `input too long`, or a fault such as `fault 3 NotAStore`.
 #[derive(Clone, Copy, Debug, PartialEq, Eq)]
 pub enum RunFault {
-    /// The input could not be read.
+    /// The input couldn't be read.
     Input,
-    /// A reply could not be written.
+    /// A reply couldn't be written.
     Output,
-    /// The input has more bytes than a run takes.
+    /// The input has more bytes than a run reads.
     InputTooLong,
-    /// There was no memory for the words, the book or a reply.
+    /// Memory for the words, the book or a reply was refused.
     Memory,
-    /// The store could not be read, or did not take a flush or a checkpoint.
+    /// The store couldn't be read, or a flush or a checkpoint failed.
     Store(Trouble),
 }
 
@@ -39,12 +39,14 @@ impl fmt::Display for RunFault {
 
 impl Error for RunFault {}
 
-/// What a fault of a store is to a run: want of memory is kept apart from all else.
-pub fn stopped(fault: Fault) -> RunFault
-    ensures { result ≡ stopped fault }
-{
-    match fault {
-        Fault::Memory => RunFault::Memory,
-        _ => RunFault::Store(Trouble::Faulty(fault)),
+/// Lack of memory ends a run as `Memory`, and each other fault of a store as `Store`.
+impl From<Fault> for RunFault {
+    ghost from_gives = { λ fault result. result ≡ stopped fault };
+
+    fn from(fault: Fault) -> RunFault {
+        match fault {
+            Fault::Memory => RunFault::Memory,
+            _ => RunFault::Store(Trouble::Faulty(fault)),
+        }
     }
 }

@@ -1,18 +1,18 @@
-//! The lines that ask something of groups.
+//! The requests about groups.
 
 ghost use Rattle.std.specs.Prelude.{◌≡◌, if◌then◌else◌};
 ghost use Rattle.console_lines.specs.Checked.{asks, of_one, of_three, of_two};
 ghost use Rattle.console_lines.specs.GroupLines.{group_line_of, limit_line, limit_of};
 ghost use Rattle.console_lines.specs.Words.{words_in, lent};
 
-use crate::asked::Asked;
+use crate::line_requests::LineRequest;
 use crate::numbers::read_number;
 use crate::task_lines::read_task_line;
 use crate::words::{last_word, next_word};
 use run_model::{Command, Limit, Name, Refusal, Step, is_spelled};
 
 /// What a line with this first word asks of groups or, else, of tasks or of the store.
-pub(crate) fn read_group_line(word: &[u8], left: Option<&[u8]>) -> Option<Asked>
+pub(crate) fn read_group_line(word: &[u8], left: Option<&[u8]>) -> Option<LineRequest>
     ensures { result ≡ group_line_of word.now (words_in (lent left.entry)) }
 {
     if is_spelled(word, b"group") {
@@ -35,7 +35,7 @@ pub(crate) fn read_group_line(word: &[u8], left: Option<&[u8]>) -> Option<Asked>
 }
 
 /// `group NAME PARENT`, and `bare NAME SCOPE` if it is `bare`.
-fn read_group(bare: bool, left: Option<&[u8]>) -> Option<Asked>
+fn read_group(bare: bool, left: Option<&[u8]>) -> Option<LineRequest>
     ensures { result ≡ of_two (λ name scope. asks (if bare then Command.Bare name scope
         else Command.Group name scope)) (words_in (lent left.entry)) }
 {
@@ -43,24 +43,24 @@ fn read_group(bare: bool, left: Option<&[u8]>) -> Option<Asked>
     let scope = last_word(left)?;
     match (Name::read(name), Name::read(scope)) {
         (Some(name), Some(scope)) => Some(group(bare, name, scope)),
-        _ => Some(Asked::Refused(Refusal::BadName)),
+        _ => Some(LineRequest::Refused(Refusal::BadName)),
     }
 }
 
 /// `limit GROUP NUMBER`, `limit GROUP none`
-fn read_limit(left: Option<&[u8]>) -> Option<Asked>
+fn read_limit(left: Option<&[u8]>) -> Option<LineRequest>
     ensures { result ≡ limit_line (words_in (lent left.entry)) }
 {
     let (group, left) = next_word(left)?;
     let limit = limit_of(last_word(left)?)?;
     match Name::read(group) {
-        Some(group) => Some(Asked::Step(Step::Command(Command::SetLimit { group, limit }))),
-        None => Some(Asked::Refused(Refusal::BadName)),
+        Some(group) => Some(LineRequest::Step(Step::Command(Command::SetLimit { group, limit }))),
+        None => Some(LineRequest::Refused(Refusal::BadName)),
     }
 }
 
 /// `go GROUP JOB ARG`, and `try GROUP JOB ARG` if it is `tried`.
-fn read_go(tried: bool, left: Option<&[u8]>) -> Option<Asked>
+fn read_go(tried: bool, left: Option<&[u8]>) -> Option<LineRequest>
     ensures { result ≡ of_three (λ group job argument. asks (if tried
         then Command.TryGo group job argument else Command.Go group job argument))
         (words_in (lent left.entry)) }
@@ -70,35 +70,35 @@ fn read_go(tried: bool, left: Option<&[u8]>) -> Option<Asked>
     let argument = last_word(left)?;
     match (Name::read(group), Name::read(job), Name::read(argument)) {
         (Some(group), Some(job), Some(argument)) => Some(go(tried, group, job, argument)),
-        _ => Some(Asked::Refused(Refusal::BadName)),
+        _ => Some(LineRequest::Refused(Refusal::BadName)),
     }
 }
 
 /// `wait GROUP`
-fn read_wait(left: Option<&[u8]>) -> Option<Asked>
+fn read_wait(left: Option<&[u8]>) -> Option<LineRequest>
     ensures { result ≡ of_one (λ group. asks (Command.Wait group)) (words_in (lent left.entry)) }
 {
     match Name::read(last_word(left)?) {
-        Some(group) => Some(Asked::Step(Step::Command(Command::Wait { group }))),
-        None => Some(Asked::Refused(Refusal::BadName)),
+        Some(group) => Some(LineRequest::Step(Step::Command(Command::Wait { group }))),
+        None => Some(LineRequest::Refused(Refusal::BadName)),
     }
 }
 
 /// `result GROUP`
-fn read_result(left: Option<&[u8]>) -> Option<Asked>
-    ensures { result ≡ of_one Asked.Result (words_in (lent left.entry)) }
+fn read_result(left: Option<&[u8]>) -> Option<LineRequest>
+    ensures { result ≡ of_one LineRequest.Result (words_in (lent left.entry)) }
 {
     match Name::read(last_word(left)?) {
-        Some(group) => Some(Asked::Result(group)),
-        None => Some(Asked::Refused(Refusal::BadName)),
+        Some(group) => Some(LineRequest::Result(group)),
+        None => Some(LineRequest::Refused(Refusal::BadName)),
     }
 }
 
 /// A group is made in this scope; if it is `bare`, without one of its own.
-fn group(bare: bool, name: Name, scope: Name) -> Asked
+fn group(bare: bool, name: Name, scope: Name) -> LineRequest
     ensures { result ≡ asks (if bare then Command.Bare name scope else Command.Group name scope) }
 {
-    Asked::Step(Step::Command(if bare {
+    LineRequest::Step(Step::Command(if bare {
         Command::Bare { name, scope }
     } else {
         let parent = scope;
@@ -107,18 +107,18 @@ fn group(bare: bool, name: Name, scope: Name) -> Asked
 }
 
 /// A task is submitted to a group; if it is `tried`, only if the limit admits it now.
-fn go(tried: bool, group: Name, job: Name, argument: Name) -> Asked
+fn go(tried: bool, group: Name, job: Name, argument: Name) -> LineRequest
     ensures { result ≡ asks (if tried
         then Command.TryGo group job argument else Command.Go group job argument) }
 {
     if tried {
-        Asked::Step(Step::Command(Command::TryGo {
+        LineRequest::Step(Step::Command(Command::TryGo {
             group,
             job,
             argument,
         }))
     } else {
-        Asked::Step(Step::Command(Command::Go {
+        LineRequest::Step(Step::Command(Command::Go {
             group,
             job,
             argument,

@@ -13,25 +13,25 @@ use std::hash::{Hash, Hasher};
 
 /// A job. Two tasks share it if its name is the same.
 #[derive(Drop)]
-pub struct Job {
+pub struct JobKey {
     pub name: Name,
 }
 
-impl PartialEq for Job {
+impl PartialEq for JobKey {
     ghost eq = { λ a b. bytes_eq a.name b.name };
 
     ghost laws = { Prim.search (comparing, rules) };
 
-    fn eq(&self, other: &Job) -> bool {
+    fn eq(&self, other: &JobKey) -> bool {
         self.name == other.name
     }
 }
 
-impl Eq for Job {
+impl Eq for JobKey {
     ghost laws = { Prim.search (comparing, rules) };
 }
 
-impl Hash for Job {
+impl Hash for JobKey {
     ghost hash_input = { λ job. fed.slice fed.u8 job.name };
 
     ghost respects_eq = { Prim.search (hashing, rules) };

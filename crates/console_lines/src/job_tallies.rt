@@ -1,4 +1,4 @@
-//! The [`Tallies`] of some tasks: what is counted for each job, in the order of their first tasks.
+//! [`Tallies`] counts tasks: one count for each job, in the order of the jobs' first tasks.
 
 ghost use Rattle.std.specs.Prelude.{◌≡◌, ◌<◌, ◌++◌, ◌∷◌, [], Bool, List, length, map};
 ghost use Rattle.std.specs.Prelude.{IfOk, None, OnOk, OnErr, Some, slice_get, unwrap_or};
@@ -7,36 +7,36 @@ ghost use Rattle.run_model.specs.declared.tasks.Task.{Task};
 ghost use Rattle.run_model.specs.Tasks.{phase_by};
 ghost use Rattle.console_lines.specs.Replies.{reply_lines};
 ghost use Rattle.console_lines.specs.Tallies.{tallies_of};
-ghost use Rattle.console_lines.specs.declared.replies.Reply.TheVariants as said;
+ghost use Rattle.console_lines.specs.declared.line_replies.LineReply.TheVariants as printed;
 ghost use Rattle.console_lines.specs.Counted.{MOST, counted_at, no_tasks, one_more, with_tally};
 
-use crate::job_keys::Job;
-use crate::tallies::{Counts, Tally};
+use crate::job_keys::JobKey;
+use crate::tallies::{JobTally, TaskCounts};
 use indexmap::IndexMap;
 use run_model::{Name, Phase};
 use std::alloc::{AllocError, Allocator};
 use std::hash::{BuildHasherDefault, FoldHasher};
 use std::marker::Model;
 
-/// What is counted of some tasks, one tally for each job, in the order of their first tasks. It
-/// takes memory by the number of jobs.
+/// The tallies of some tasks, one for each job, in the order of the jobs' first tasks. They take
+/// memory for each job.
 #[derive(Drop)]
 pub struct Tallies<A: Allocator> {
-    jobs: IndexMap<Job, Counts, BuildHasherDefault<FoldHasher>, A>,
+    jobs: IndexMap<JobKey, TaskCounts, BuildHasherDefault<FoldHasher>, A>,
 }
 
 impl<A: Allocator> Model for Tallies<A> {
     ghost use Rattle.std.specs.Prelude.{List, map};
-    ghost use Rattle.console_lines.specs.declared.tallies.Tally.{Tally};
+    ghost use Rattle.console_lines.specs.declared.tallies.JobTally.{JobTally};
     ghost use Rattle.console_lines.specs.Counted.{shown};
 
-    ghost Value = { List Tally };
+    ghost Value = { List JobTally };
 
     ghost view = { λ t. map shown t.jobs.entries };
 }
 
 impl<A: Allocator + Copy> Tallies<A> {
-    /// The tallies of no task.
+    /// Returns the tallies of no task.
     pub fn new(alloc: A) -> Tallies<A>
         ensures { result ≡ tallies_of [] }
     {
@@ -45,8 +45,9 @@ impl<A: Allocator + Copy> Tallies<A> {
         }
     }
 
-    /// Counts one task more, of this job and this phase. A count stays at 65,535. It fails only for
-    /// want of memory, and only for a job of which nothing was counted: then nothing is counted.
+    /// Counts one more task, of this job and in this phase. A count stays at 65,535. The call fails
+    /// only if memory is refused, and only for a job of which no task was counted yet; then nothing
+    /// is counted.
     pub fn add(&mut self, job: &Name, phase: &Phase) -> Result<(), AllocError>
         ensures added { (tasks : List Task) (task : Task) (admitted : Bool)
             → self.old ≡ tallies_of tasks
@@ -59,16 +60,16 @@ impl<A: Allocator + Copy> Tallies<A> {
         ensures refused { OnErr result (self.new ≡ self.old) }
         ensures absent { OnErr result (counted_at job.now self.old ≡ None) }
     {
-        let job = Job { name: job.copy() };
+        let job = JobKey { name: job.copy() };
         let counts = with_task(self.counted(&job), phase);
         self.put(job, counts)
     }
 
-    /// The lines that a tally of the tasks prints, each with its LF. It fails only for want of
-    /// memory, and only if a task was counted.
+    /// Returns the lines that a tally of the tasks prints, each with its LF. The call fails only if
+    /// memory is refused, and only if a task was counted.
     pub fn to_lines<B: Allocator + Copy>(&self, alloc: B) -> Result<String<B>, AllocError>
         ensures lines { IfOk result (λ lines.
-            string_bytes lines ≡ reply_lines (map said.Tally self.now)) }
+            string_bytes lines ≡ reply_lines (map printed.Tally self.now)) }
         ensures some { OnErr result (0 < length self.now) }
     {
         let mut lines = String::new(alloc);
@@ -80,7 +81,7 @@ impl<A: Allocator + Copy> Tallies<A> {
     }
 
     /// What was counted of a job so far.
-    fn counted(&self, job: &Job) -> Counts
+    fn counted(&self, job: &JobKey) -> TaskCounts
         ensures { result ≡ unwrap_or (counted_at job.now.name self.now) no_tasks }
     {
         match self.jobs.get(job) {
@@ -91,7 +92,7 @@ impl<A: Allocator + Copy> Tallies<A> {
 
     /// Sets what is counted of a job. If the memory for a new one is refused, nothing changes.
     #[tactic(auto, using(crate::proofs::Tallying::put_in))]
-    fn put(&mut self, job: Job, counts: Counts) -> Result<(), AllocError>
+    fn put(&mut self, job: JobKey, counts: TaskCounts) -> Result<(), AllocError>
         ensures put { OnOk result (self.new ≡ with_tally job.name counts self.old) }
         ensures refused { OnErr result (self.new ≡ self.old) }
         ensures absent { OnErr result (counted_at job.name self.old ≡ None) }
@@ -108,12 +109,12 @@ impl<A: Allocator + Copy> Tallies<A> {
     }
 
     /// The tally at this place.
-    fn tally(&self, i: usize) -> Tally
+    fn tally(&self, i: usize) -> JobTally
         requires { i < length self.now }
         ensures { slice_get self.now i ≡ Some result }
     {
         let (job, counts) = self.jobs.get_index(i).unwrap();
-        Tally {
+        JobTally {
             job: job.name.copy(),
             counts: *counts,
         }
@@ -121,7 +122,7 @@ impl<A: Allocator + Copy> Tallies<A> {
 }
 
 /// The counts of no task.
-const NO_TASKS: Counts = Counts {
+const NO_TASKS: TaskCounts = TaskCounts {
     total: 0,
     success: 0,
     failure: 0,
@@ -129,7 +130,7 @@ const NO_TASKS: Counts = Counts {
 };
 
 /// The counts with one task more.
-fn with_task(counts: Counts, phase: &Phase) -> Counts
+fn with_task(counts: TaskCounts, phase: &Phase) -> TaskCounts
     ensures { result ≡ one_more phase.now counts }
 {
     let mut counts = counts;

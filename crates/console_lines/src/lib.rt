@@ -1,68 +1,60 @@
-//! The lines of the console: what each asks for, and what its reply and a state's rows print.
+//! The lines of the console: requests and replies as text.
 //!
-//! [`read_line`] reads a line, and returns what it asks for: an [`Asked`]. A [`Reply`] is gathered
-//! as its line, and so is a [`Row`] of a state. [`Tallies`] count tasks, job by job.
-//! `specs/Script.antt` defines what is replied to a whole input, and `specs/Strict.antt` which of
+//! [`read_line`] reads a line, and returns its request, a [`LineRequest`]. The reply is a
+//! [`LineReply`], which is appended to an [`OutputBuffer`] as one line. If a reply is a bad line or
+//! a refusal, it is a [`Rejection`], and ends a strict run. [`Tallies`] counts the tasks of each
+//! job. `specs/Script.antt` defines the replies to a whole input, and `specs/Strict.antt` which of
 //! its lines a strict run runs.
 //!
-//! Numbers and moments are read as a person writes them. A number is 1 to 12 digits. A moment is a
-//! number of seconds since 1970-01-01T00:00:00Z, or a date and time with an offset, as
-//! `2024-01-01T03:00:00+01:00`, whose instant is what `jiff` returns. [`moment_text`] is the date
-//! and time of a moment.
+//! Numbers and moments are read as a person writes them. A number has 1 to 12 digits. A moment is a
+//! number of seconds since 1970-01-01T00:00:00Z, or a date and time with an offset, such as
+//! `2024-01-01T03:00:00+01:00`, whose instant `jiff` computes. [`moment_text`] returns the date and
+//! time of a moment.
+//!
+//! The functions `push_..` append a part of a line to a fixed array, and the functions `append_..`
+//! a whole line with its LF. None of them takes memory; their preconditions say how much space each
+//! needs.
 #![tactic(auto)]
 
-mod asked;
 mod cancel_lines;
 mod causes;
-mod entries;
-pub mod entry_nights;
 mod faults;
-mod gathers;
 mod group_lines;
 pub mod group_nights;
 mod job_keys;
 mod job_tallies;
-pub mod laws;
+mod line_replies;
+mod line_requests;
 mod lines;
-pub mod listed_nights;
-mod listings;
 pub mod moments;
 pub mod nights;
 mod numbers;
-mod replies;
-mod rows;
+mod output_buffers;
+mod phases;
+mod rejections;
+mod reply_texts;
 mod scope_lines;
-mod strays;
+pub mod script_laws;
 pub mod strict_nights;
-mod summaries;
-pub mod summary_nights;
 mod tallies;
 mod task_lines;
-pub mod tree_nights;
-mod trees;
-mod walks;
 mod wishes;
 mod words;
 
-pub use asked::Asked;
 pub use cancel_lines::{cancel_words, read_cancel};
-pub use entries::{Entry, LONGEST_ENTRY};
-pub use faults::{RunFault, stopped};
-pub use gathers::{LONGEST_REPLY, gather_answer, gather_scope};
+pub use faults::RunFault;
 pub use job_tallies::Tallies;
+pub use line_replies::LineReply;
+pub use line_requests::LineRequest;
 pub use lines::{LONGEST_INPUT, LONGEST_LINE, read_line};
 pub use moments::{moment_text, read_moment};
 pub use numbers::{LONGEST_NUMBER, read_number};
-pub use replies::Reply;
-pub use rows::{LONGEST_ROW, Row};
+pub use output_buffers::{OutputBuffer, append_bytes, make_room, write_out, write_whole};
+pub use phases::phase_word;
+pub use rejections::{RejectedLine, Rejection};
+pub use reply_texts::{
+    LONGEST_REPLY, append_scope, push, push_after, push_count, push_ending, push_group, push_look,
+    push_moment, push_name, push_number, push_phase, push_text,
+};
 pub use scope_lines::scope_word;
-pub use strays::{Stray, StrayLine};
-pub use summaries::{
-    LONGEST_SUMMARY, Phases, gather_group_summary, gather_scope_summary, gather_tree_group,
-    is_in_phase,
-};
-pub use tallies::{Counts, Tally};
-pub use trees::{
-    LONGEST_TREE_HEAD, LONGEST_TREE_SCOPE, Taken, gather_tree_head, gather_tree_scope,
-};
-pub use walks::{Above, MOST_NODES, mark, next_node};
+pub use tallies::{JobTally, TaskCounts};

@@ -1,41 +1,41 @@
-//! A line of the console is its words, the first of which says what is asked; and the lines that
-//! ask something of scopes.
+//! A line of the console consists of words, the first of which says what kind of request it is.
+//! This file also has the requests about scopes.
 
 ghost use Rattle.std.specs.Prelude.{◌≡◌};
-ghost use Rattle.console_lines.specs.Asked.{advance_line, asked_by, asked_of, asks_judged};
-ghost use Rattle.console_lines.specs.Asked.{derive_line};
+ghost use Rattle.console_lines.specs.LineRequests.{advance_line, asked_by, request_of, asks_judged};
+ghost use Rattle.console_lines.specs.LineRequests.{derive_line};
 ghost use Rattle.console_lines.specs.Checked.{of_one, of_two};
 ghost use Rattle.console_lines.specs.Words.{words_in, lent};
 
-use crate::asked::Asked;
 use crate::cancel_lines::cancel_line;
 use crate::group_lines::read_group_line;
+use crate::line_requests::LineRequest;
 use crate::moments::read_moment;
 use crate::wishes::read_wish;
 use crate::words::{last_word, next_word};
 use run_model::{Command, Name, Refusal, Step, Wish, is_spelled};
 
-/// The most bytes of a line, without its end. A longer one is a bad line.
+/// The greatest number of bytes in a line, without its LF. A longer one is a bad line.
 pub const LONGEST_LINE: usize = 256;
 
-/// The most bytes of an input. At most one more is read.
+/// The greatest number of bytes in an input. At most one more is read.
 pub const LONGEST_INPUT: usize = 16_777_216;
 
-/// What this line asks for.
-pub fn read_line(line: &[u8]) -> Asked
-    ensures { result ≡ asked_of line.now }
+/// Returns the request in this line.
+pub fn read_line(line: &[u8]) -> LineRequest
+    ensures { result ≡ request_of line.now }
 {
     if line.len() > LONGEST_LINE {
-        return Asked::BadLine;
+        return LineRequest::BadLine;
     }
     if line.is_empty() {
-        return Asked::Nothing;
+        return LineRequest::Nothing;
     }
-    read_words(Some(line)).unwrap_or(Asked::BadLine)
+    read_words(Some(line)).unwrap_or(LineRequest::BadLine)
 }
 
 /// What the words of a line ask for, and `None` if they are of no form.
-fn read_words(line: Option<&[u8]>) -> Option<Asked>
+fn read_words(line: Option<&[u8]>) -> Option<LineRequest>
     ensures { result ≡ asked_by (words_in (lent line.entry)) }
 {
     let (word, left) = next_word(line)?;
@@ -55,7 +55,7 @@ fn read_words(line: Option<&[u8]>) -> Option<Asked>
 }
 
 /// `derive NAME PARENT KIND`
-fn read_derive(left: Option<&[u8]>) -> Option<Asked>
+fn read_derive(left: Option<&[u8]>) -> Option<LineRequest>
     ensures { result ≡ derive_line (words_in (lent left.entry)) }
 {
     let (name, left) = next_word(left)?;
@@ -65,45 +65,45 @@ fn read_derive(left: Option<&[u8]>) -> Option<Asked>
 }
 
 /// `advance MOMENT`
-fn read_advance(left: Option<&[u8]>) -> Option<Asked>
+fn read_advance(left: Option<&[u8]>) -> Option<LineRequest>
     ensures { result ≡ advance_line (words_in (lent left.entry)) }
 {
     match read_moment(last_word(left)?)? {
-        Ok(moment) => Some(Asked::Step(Step::Command(Command::Advance { moment }))),
-        Err(refusal) => Some(Asked::Refused(refusal)),
+        Ok(moment) => Some(LineRequest::Step(Step::Command(Command::Advance { moment }))),
+        Err(refusal) => Some(LineRequest::Refused(refusal)),
     }
 }
 
 /// `scope SCOPE`
-fn read_scope(left: Option<&[u8]>) -> Option<Asked>
-    ensures { result ≡ of_one Asked.Scope (words_in (lent left.entry)) }
+fn read_scope(left: Option<&[u8]>) -> Option<LineRequest>
+    ensures { result ≡ of_one LineRequest.Scope (words_in (lent left.entry)) }
 {
     match Name::read(last_word(left)?) {
-        Some(scope) => Some(Asked::Scope(scope)),
-        None => Some(Asked::Refused(Refusal::BadName)),
+        Some(scope) => Some(LineRequest::Scope(scope)),
+        None => Some(LineRequest::Refused(Refusal::BadName)),
     }
 }
 
 /// `value SCOPE KEY`
-fn read_value(left: Option<&[u8]>) -> Option<Asked>
-    ensures { result ≡ of_two Asked.Value (words_in (lent left.entry)) }
+fn read_value(left: Option<&[u8]>) -> Option<LineRequest>
+    ensures { result ≡ of_two LineRequest.Value (words_in (lent left.entry)) }
 {
     let (scope, left) = next_word(left)?;
     let key = last_word(left)?;
     match (Name::read(scope), Name::read(key)) {
-        (Some(scope), Some(key)) => Some(Asked::Value { scope, key }),
-        _ => Some(Asked::Refused(Refusal::BadName)),
+        (Some(scope), Some(key)) => Some(LineRequest::Value { scope, key }),
+        _ => Some(LineRequest::Refused(Refusal::BadName)),
     }
 }
 
-fn derive(name: &[u8], parent: &[u8], wish: Result<Wish, Refusal>) -> Asked
+fn derive(name: &[u8], parent: &[u8], wish: Result<Wish, Refusal>) -> LineRequest
     ensures { result ≡ asks_judged name.now parent.now wish }
 {
     match (Name::read(name), Name::read(parent), wish) {
         (Some(name), Some(parent), Ok(wish)) => {
-            Asked::Step(Step::Command(Command::Derive { name, parent, wish }))
+            LineRequest::Step(Step::Command(Command::Derive { name, parent, wish }))
         }
-        (Some(_), Some(_), Err(refusal)) => Asked::Refused(refusal),
-        _ => Asked::Refused(Refusal::BadName),
+        (Some(_), Some(_), Err(refusal)) => LineRequest::Refused(refusal),
+        _ => LineRequest::Refused(Refusal::BadName),
     }
 }

@@ -1,6 +1,6 @@
-//! A moment in a line is its seconds since 1970-01-01T00:00:00Z, or a date and time.
+//! A moment in a line is a number of seconds since 1970-01-01T00:00:00Z, or a date and time.
 //!
-//! A date and time has the form `dddd-dd-ddTdd:dd:dd` with an offset after it: `Z`, `+dd:dd` or
+//! A date and time has the form `dddd-dd-ddTdd:dd:dd`, followed by an offset: `Z`, `+dd:dd` or
 //! `-dd:dd`.
 
 ghost use Rattle.std.specs.Prelude.{◌≡◌, ◌≤◌, length, IsTrue, pos};
@@ -21,10 +21,10 @@ use std::str;
 /// How many bytes of a date and time stand before its offset.
 const LOCAL_LEN: usize = 19;
 
-/// The moment that a word writes, `MomentOutOfRange` if that is before 0 or past the greatest
-/// moment, and `None` if the word has another form or `jiff` refuses it.
+/// Returns the moment that a word stands for; `MomentOutOfRange` if it is before 0 or later than
+/// the greatest moment; and `None` if the word has another form or `jiff` refuses it.
 ///
-/// A date and time of a year before 1969 or after 9987 is out of range, even if there is no such
+/// A date and time in a year before 1969 or after 9987 is out of range, even if there is no such
 /// day.
 pub fn read_moment(word: &[u8]) -> Option<Result<Moment, Refusal>>
     ensures { result ≡ moment_of word.now }

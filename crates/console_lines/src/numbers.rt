@@ -1,4 +1,4 @@
-//! A number in a line is 1 to 12 digits; zeros may stand first.
+//! A number in a line has 1 to 12 digits, and may begin with zeros.
 
 ghost use Rattle.std.specs.Char.{is_ascii_digit};
 ghost use Rattle.std.specs.List.{list_all};
@@ -6,10 +6,10 @@ ghost use Rattle.std.specs.Prelude.{◌≡◌, ◌<◌, ◌≤◌, ◌^◌, IfSo
 ghost use Rattle.std.specs.Str.Parse.{digits_value};
 ghost use Rattle.console_lines.specs.Numbers.{is_number, number_of};
 
-/// The most digits of a number.
+/// The greatest number of digits in a number.
 pub const LONGEST_NUMBER: usize = 12;
 
-/// The number that a word writes, and `None` if it is not a number.
+/// Returns the number that a word stands for; `None` if the word isn't a number.
 #[tactic(auto, unfolding(crate::specs::Numbers::is_number))]
 pub fn read_number(word: &[u8]) -> Option<u64>
     ensures value { result ≡ number_of word.now }

@@ -1,4 +1,5 @@
-//! A line that asks how a scope is, by its bytes: nothing is asked more often.
+//! A line that asks for the state of a scope is recognized by its bytes, because no request is more
+//! frequent.
 
 ghost use Rattle.std.specs.Prelude.{◌≡◌};
 ghost use Rattle.console_lines.specs.ScopeLines.{scope_word};
@@ -6,8 +7,8 @@ ghost use Rattle.console_lines.specs.Words.{lent};
 
 use run_model::is_spelled;
 
-/// What stands after `scope ` at the front of a line, if it begins so. If that is a name, the line
-/// asks how the scope of this name is.
+/// Returns what comes after `scope ` at the beginning of a line; `None` if the line begins
+/// otherwise. If the result is a name, the line asks for the state of the scope with this name.
 pub fn scope_word(line: &[u8]) -> Option<&[u8]>
     ensures { lent result ≡ scope_word line.now }
 {

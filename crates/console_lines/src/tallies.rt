@@ -1,29 +1,29 @@
-//! A [`Tally`] holds how many tasks one job has, and how they ended.
+//! A [`JobTally`] says how many tasks a job has, and how they have ended.
 
 ghost use Rattle.std.specs.Prelude.{◌≡◌, IfOk};
 ghost use Rattle.std.specs.String.{string_bytes};
 ghost use Rattle.console_lines.specs.Replies.{reply_line};
-ghost use Rattle.console_lines.specs.declared.replies.Reply.TheVariants as said;
+ghost use Rattle.console_lines.specs.declared.line_replies.LineReply.TheVariants as printed;
 
-use crate::gathers::{LONGEST_REPLY, push, push_tally};
+use crate::reply_texts::{LONGEST_REPLY, push, push_tally};
 use arrayvec::ArrayVec;
 use run_model::Name;
 use std::alloc::{AllocError, Allocator};
 use std::str;
 
-/// What is counted of the tasks of one job.
+/// How many tasks a job has, and how they have ended.
 #[derive(Drop)]
-pub struct Tally {
+pub struct JobTally {
     /// The job.
     pub job: Name,
-    /// How many tasks it has, and how they ended.
-    pub counts: Counts,
+    /// How many tasks it has, and how they have ended.
+    pub counts: TaskCounts,
 }
 
-impl Tally {
-    /// The line that replies with this tally, with its LF. It fails only for want of memory.
+impl JobTally {
+    /// Returns the line of this tally, with its LF. It fails only if memory is refused.
     pub fn to_line<A: Allocator>(&self, alloc: A) -> Result<String<A>, AllocError>
-        ensures { IfOk result (λ line. string_bytes line ≡ reply_line (said.Tally self.now)) }
+        ensures { IfOk result (λ line. string_bytes line ≡ reply_line (printed.Tally self.now)) }
     {
         // a name, and counts of two bytes each, are written in ASCII
         let _name = self.job.as_bytes();
@@ -44,13 +44,13 @@ impl Tally {
 /// How many tasks there are, and how many of them have ended in each way. The others are held,
 /// ready or running.
 #[derive(Clone, Copy)]
-pub struct Counts {
+pub struct TaskCounts {
     /// All of them.
     pub total: u16,
     /// Those that finished without an error.
     pub success: u16,
     /// Those that finished with an error.
     pub failure: u16,
-    /// Those that were running when the runner stopped.
+    /// Those that were running when the program crashed or ended.
     pub interrupted: u16,
 }

@@ -1,4 +1,4 @@
-//! The lines that ask something of tasks, or of the store.
+//! The requests about tasks, and about the store.
 
 ghost use Rattle.std.specs.List.{list_all};
 ghost use Rattle.std.specs.Prelude.{◌≡◌, true};
@@ -8,17 +8,17 @@ ghost use Rattle.console_lines.specs.TaskLines.{asks_retry, finish_line, outcome
 ghost use Rattle.console_lines.specs.TaskLines.{task_line_of, texts_in_outcome};
 ghost use Rattle.console_lines.specs.Words.{words_in, lent};
 
-use crate::asked::Asked;
+use crate::line_requests::LineRequest;
 use crate::numbers::read_number;
 use crate::words::{last_word, next_word};
 use run_model::{Command, Outcome, Refusal, Step, Text, is_spelled};
 
 /// What a line with this first word asks of tasks or of the store. No other word begins a line.
-pub(crate) fn read_task_line(word: &[u8], left: Option<&[u8]>) -> Option<Asked>
+pub(crate) fn read_task_line(word: &[u8], left: Option<&[u8]>) -> Option<LineRequest>
     ensures { result ≡ task_line_of word.now (words_in (lent left.entry)) }
 {
     if is_spelled(word, b"start") {
-        read_alone(Asked::Step(Step::Start), left)
+        read_alone(LineRequest::Step(Step::Start), left)
     } else if is_spelled(word, b"finish") {
         read_finish(left)
     } else if is_spelled(word, b"retry") {
@@ -26,18 +26,18 @@ pub(crate) fn read_task_line(word: &[u8], left: Option<&[u8]>) -> Option<Asked>
     } else if is_spelled(word, b"task") {
         read_task(left)
     } else if is_spelled(word, b"tally") {
-        read_alone(Asked::Tally, left)
+        read_alone(LineRequest::Tally, left)
     } else if is_spelled(word, b"flush") {
-        read_alone(Asked::Step(Step::Flush), left)
+        read_alone(LineRequest::Step(Step::Flush), left)
     } else if is_spelled(word, b"checkpoint") {
-        read_alone(Asked::Step(Step::Checkpoint), left)
+        read_alone(LineRequest::Step(Step::Checkpoint), left)
     } else {
         None
     }
 }
 
 /// What a line asks for that no word may follow.
-fn read_alone(asked: Asked, left: Option<&[u8]>) -> Option<Asked>
+fn read_alone(asked: LineRequest, left: Option<&[u8]>) -> Option<LineRequest>
     ensures { result ≡ asks_alone asked (words_in (lent left.entry)) }
 {
     match left {
@@ -47,7 +47,7 @@ fn read_alone(asked: Asked, left: Option<&[u8]>) -> Option<Asked>
 }
 
 /// `finish NUMBER ok`, `finish NUMBER error TEXT`
-fn read_finish(left: Option<&[u8]>) -> Option<Asked>
+fn read_finish(left: Option<&[u8]>) -> Option<LineRequest>
     ensures { result ≡ finish_line (words_in (lent left.entry)) }
 {
     let (number, left) = next_word(left)?;
@@ -56,7 +56,7 @@ fn read_finish(left: Option<&[u8]>) -> Option<Asked>
 
 /// `ok`, `error TEXT`
 #[tactic(auto, using(crate::proofs::WordLemmas::rest_is))]
-fn read_outcome(number: u64, left: Option<&[u8]>) -> Option<Asked>
+fn read_outcome(number: u64, left: Option<&[u8]>) -> Option<LineRequest>
     ensures { result ≡ outcome_line number (words_in (lent left.entry)) }
 {
     let (word, left) = next_word(left)?;
@@ -70,41 +70,41 @@ fn read_outcome(number: u64, left: Option<&[u8]>) -> Option<Asked>
 }
 
 /// `retry NUMBER`
-fn read_retry(left: Option<&[u8]>) -> Option<Asked>
+fn read_retry(left: Option<&[u8]>) -> Option<LineRequest>
     ensures { result ≡ asks_number asks_retry (words_in (lent left.entry)) }
 {
     match u16::try_from(read_number(last_word(left)?)?) {
-        Ok(task) => Some(Asked::Step(Step::Command(Command::Retry(task)))),
-        Err(_) => Some(Asked::Refused(Refusal::NoSuchTask)),
+        Ok(task) => Some(LineRequest::Step(Step::Command(Command::Retry(task)))),
+        Err(_) => Some(LineRequest::Refused(Refusal::NoSuchTask)),
     }
 }
 
 /// `task NUMBER`
-fn read_task(left: Option<&[u8]>) -> Option<Asked>
+fn read_task(left: Option<&[u8]>) -> Option<LineRequest>
     ensures { result ≡ asks_number asks_phase (words_in (lent left.entry)) }
 {
     match u16::try_from(read_number(last_word(left)?)?) {
-        Ok(task) => Some(Asked::Task(task)),
-        Err(_) => Some(Asked::Refused(Refusal::NoSuchTask)),
+        Ok(task) => Some(LineRequest::Task(task)),
+        Err(_) => Some(LineRequest::Refused(Refusal::NoSuchTask)),
     }
 }
 
 /// A task ends with this error, whose text is looked at before the number.
-fn fail(number: u64, error: &[u8]) -> Asked
+fn fail(number: u64, error: &[u8]) -> LineRequest
     ensures { result ≡ asks_finish number (Outcome.Failure error.now) }
 {
     match Text::read(error) {
         Some(error) => finish(number, Outcome::Failure(error)),
-        None => Asked::Refused(Refusal::BadText),
+        None => LineRequest::Refused(Refusal::BadText),
     }
 }
 
-fn finish(number: u64, outcome: Outcome) -> Asked
+fn finish(number: u64, outcome: Outcome) -> LineRequest
     requires { list_all is_text (texts_in_outcome outcome) ≡ true }
     ensures { result ≡ asks_finish number outcome }
 {
     match u16::try_from(number) {
-        Ok(task) => Asked::Step(Step::Finish(task, outcome)),
-        Err(_) => Asked::Refused(Refusal::NoSuchTask),
+        Ok(task) => LineRequest::Step(Step::Finish(task, outcome)),
+        Err(_) => LineRequest::Refused(Refusal::NoSuchTask),
     }
 }

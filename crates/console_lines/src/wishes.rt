@@ -1,11 +1,12 @@
-//! A wish is the kind of scope that a `derive` asks for, with what stands after the kind.
+//! A wish is the kind of scope that a `derive` asks for, with the words after the kind.
 //!
-//! `None` is a wish of another form. A refusal is the first that the wish has by itself.
+//! `None` stands for a wish of another form. A refusal is the first one that applies in every
+//! state.
 
 ghost use Rattle.std.specs.Option.{option_map};
 ghost use Rattle.std.specs.Prelude.{◌≡◌, []};
-ghost use Rattle.console_lines.specs.Asked.{wish_of, alone, deadline_wish, deadline_at};
-ghost use Rattle.console_lines.specs.Asked.{timeout_wish, value_wish, wished, judged};
+ghost use Rattle.console_lines.specs.LineRequests.{wish_of, alone, deadline_wish, deadline_at};
+ghost use Rattle.console_lines.specs.LineRequests.{timeout_wish, value_wish, wished, judged};
 ghost use Rattle.console_lines.specs.Checked.{names_in_wish, texts_in_wish};
 ghost use Rattle.console_lines.specs.Words.{words_in, lent};
 

@@ -1,8 +1,8 @@
-//! A line is split into words at each single space, so an empty word is a word.
+//! A line is split into words at each single space, so a word may be empty.
 //!
-//! What is left of a line is the bytes after a space, and `None` after the last word.
+//! The rest of a line is the bytes after a space, and `None` after the last word.
 
-ghost use Rattle.std.specs.Prelude.{◌≡◌, ◌==◌, [], ◌∷◌, MatchOption, position};
+ghost use Rattle.std.specs.Prelude.{◌≡◌, [], ◌∷◌, MatchOption};
 ghost use Rattle.console_lines.specs.Words.{words_in, only_word, lent};
 
 /// The next word and what is left after it, and `None` if no word is left.
@@ -12,7 +12,7 @@ pub(crate) fn next_word(left: Option<&[u8]>) -> Option<(&[u8], Option<&[u8]>)>
         ≡ next.0.now ∷ words_in (lent next.1)) }
 {
     let line = left?;
-    match first_space(line) {
+    match line.iter().position(|byte| *byte == b' ') {
         Some(end) => Some((&line[..end], Some(&line[end + 1..]))),
         None => Some((line, None)),
     }
@@ -27,11 +27,4 @@ pub(crate) fn last_word(left: Option<&[u8]>) -> Option<&[u8]>
         Some(_) => None,
         None => Some(word),
     }
-}
-
-/// The place of the first space.
-fn first_space(line: &[u8]) -> Option<usize>
-    ensures { result ≡ position (λ byte. byte == 32) line.now }
-{
-    line.iter().position(|byte| *byte == b' ')
 }

@@ -3,7 +3,7 @@
 
 use crate::asserts::done;
 use run_book::Book;
-use run_console::{RunFault, StrayLine, line, run, run_strict};
+use run_console::{RejectedLine, RunFault, line, run, run_strict};
 use run_disk::{MemoryDisk, RunDisk, Torn};
 use run_model::{Fault, Layout};
 use std::alloc::{Allocator, Global};
@@ -45,13 +45,13 @@ pub fn ran<A: Allocator + Copy, R: Read, W: Write, D: RunDisk, B: Allocator>(
     run(alloc, input, output, book)
 }
 
-/// Runs an input over a book, up to the first line that strays.
+/// Runs an input over a book, up to the first rejected line.
 pub fn ran_strictly<R: Read, W: Write, D: RunDisk>(
     alloc: Global,
     input: &mut R,
     output: &mut W,
     book: &mut Book<D>,
-) -> Result<Option<StrayLine>, RunFault> {
+) -> Result<Option<RejectedLine>, RunFault> {
     run_strict(alloc, input, output, book)
 }
 
@@ -75,7 +75,7 @@ pub fn records<D: RunDisk>(rt: &impl Abort, alloc: Global, book: &Book<D>) -> Ve
     done(rt, Vec::from_slice(alloc, book.history().rest()), "memory")
 }
 
-/// What a crash after so many calls leaves, torn in this way.
+/// What a crash after this many calls leaves, torn in this way.
 pub fn image(rt: &impl Abort, alloc: Global, disk: &MemoryDisk, calls: u64, torn: Torn) -> Vec<u8> {
     assert!(rt; calls <= disk.calls());
     done(rt, disk.image(alloc, calls, torn), "memory")

@@ -5,8 +5,8 @@ use crate::books::{formatted, image};
 use crate::parts::{Part, whole};
 use crate::runs::night_on;
 use crate::writers::{End, EndingWriter};
-use run_console::{RunFault, crew};
-use run_crew::{Gate, Job, Turn};
+use run_console::RunFault;
+use run_crew::{Gate, Job, Turn, crew};
 use run_disk::{FailOnce, FileDisk, MemoryDisk, RunDisk, Torn};
 use run_model::{Fault, Layout, Name, TaskInfo, Text, Trouble};
 use std::alloc::Global;
@@ -56,7 +56,7 @@ impl Gate for Fixed {
     fn finished(&self, _task: u16) {}
 }
 
-/// What a night of so many workers over a disk answers, at this gate.
+/// What a night of this many workers over a disk answers, at this gate.
 fn worked_at<D: RunDisk + Drop + Send, W: Write, R: Threads + Wait + Sync + Abort>(
     rt: &R,
     alloc: Global,

@@ -1,5 +1,6 @@
-//! Tests of the console over a book on a disk in memory: whole nights, runs that stop, and what a
-//! stop leaves.
+//! Tests of what the console reads and prints, and of a console over a book on a disk in memory:
+//! the words of the command line, lines and replies; whole nights, runs that stop, and what a stop
+//! leaves.
 #![tactic(auto)]
 
 #[cfg(test)]
@@ -15,11 +16,15 @@ mod inspects;
 #[cfg(test)]
 mod limits;
 #[cfg(test)]
+mod lines;
+#[cfg(test)]
 mod nights;
 #[cfg(test)]
 mod parts;
 #[cfg(test)]
 mod readers;
+#[cfg(test)]
+mod replies;
 #[cfg(test)]
 mod restarts;
 #[cfg(test)]
@@ -34,5 +39,7 @@ mod stores;
 mod stricts;
 #[cfg(test)]
 mod times;
+#[cfg(test)]
+mod words;
 #[cfg(test)]
 mod writers;

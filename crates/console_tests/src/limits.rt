@@ -23,7 +23,7 @@ static LONG_LINES: &[Part] = &[
     Times(1, b"", b"live; deadline none\nacked 1\n"),
 ];
 
-/// More replies than are gathered before one write, for lines that are read at once.
+/// More replies than are appended before one write, for lines that are read at once.
 static MANY_REPLIES: &[Part] = &[
     Times(1, b"derive a root cause\n", b"scope 1\n"),
     Times(1, b"cancel a disk\n", b"ok\n"),
@@ -35,7 +35,7 @@ static MANY_REPLIES: &[Part] = &[
     Times(1, b"", b"acked 3\n"),
 ];
 
-/// A tally that is longer than all that is gathered before one write.
+/// A tally that is longer than all that is buffered before one write.
 static LONG_TALLY: &[Part] = &[
     Times(1, b"bare g root\n", b"group 0\n"),
     Typed(0, 200, "go g job", " a"),

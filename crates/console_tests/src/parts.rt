@@ -10,7 +10,7 @@ use std::process::Abort;
 
 /// A part of a night.
 pub enum Part {
-    /// These bytes are typed, and those printed, so many times.
+    /// These bytes are typed, and those printed, this many times.
     Times(usize, &'static [u8], &'static [u8]),
     /// For each number from one on and below another, a line is typed in which it stands between
     /// two words.
@@ -35,7 +35,7 @@ fn add_numbered(
     }
 }
 
-/// Adds the same bytes so many times.
+/// Adds the same bytes this many times.
 fn add_times(rt: &impl Abort, bytes: &mut Vec<u8>, times: usize, more: &[u8]) {
     for _ in 0..times {
         done(rt, bytes.extend_from_slice(more), "memory");

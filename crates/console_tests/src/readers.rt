@@ -38,7 +38,7 @@ impl Read for PartReader<'_> {
     }
 }
 
-/// Gives its bytes, and then `x` again and again, so many times.
+/// Gives its bytes, and then `x` again and again, this many times.
 #[derive(Drop)]
 pub struct RepeatingReader<'a> {
     bytes: &'a [u8],
@@ -68,7 +68,7 @@ impl Read for RepeatingReader<'_> {
     }
 }
 
-/// Gives its bytes. Before the first read it takes the heap's memory, but for so many bytes.
+/// Gives its bytes. Before the first read it takes the heap's memory, but for this many bytes.
 #[derive(Drop)]
 pub struct HoardingReader<'a, 'h> {
     bytes: &'a [u8],

@@ -39,7 +39,7 @@ static STEPS: [(usize, usize, &[u8]); 6] = [
     (68, 42, DONE),
 ];
 
-/// What is replied to the lines that end in the first so many bytes, and how the book is then.
+/// What is replied to the lines that end in the first this many bytes, and how the book is then.
 fn after(given: usize) -> (usize, &'static [u8]) {
     let mut found = (0, NEW);
     for (typed, replied, shown) in STEPS.iter() {
@@ -50,12 +50,12 @@ fn after(given: usize) -> (usize, &'static [u8]) {
     found
 }
 
-/// Says whether a text is the first so many bytes of another.
+/// Says whether a text is the first this many bytes of another.
 fn is_front(text: &[u8], whole: &[u8], count: usize) -> bool {
     text.len() == count && whole.starts_with(text)
 }
 
-/// Asserts how a run ends whose input fails after so many bytes.
+/// Asserts how a run ends whose input fails after this many bytes.
 fn assert_unread(rt: &impl Abort, alloc: Global, part: usize, given: usize) {
     let (replied, shown) = after(given);
     let bytes = TYPED.get(..given).unwrap_or(TYPED);
@@ -76,7 +76,7 @@ fn a_failed_read_leaves_no_whole_line_without_its_reply(rt: HostRuntime) {
     }
 }
 
-/// How a book is that is read by one byte at a time, where so many bytes were written and no more
+/// How a book is that is read by one byte at a time, where this many bytes were written and no more
 /// can be: the line is run whose reply is cut, and none after it.
 fn cut_at(written: usize) -> &'static [u8] {
     for (_, replied, shown) in STEPS.iter() {
@@ -96,7 +96,7 @@ static AT_ONCE: [usize; 3] = [0, 42, 104];
 /// A writer, and what it comes to: how many bytes it takes at a write, how many writes, its end.
 type Writing = (usize, usize, End);
 
-/// Asserts how the night ends, of which so many bytes are written. Where a part of its last line
+/// Asserts how the night ends, of which this many bytes are written. Where a part of its last line
 /// was, that said that all was durable.
 fn assert_written(rt: &impl Abort, alloc: Global, part: usize, writing: Writing, written: usize) {
     let (most, writes, end) = writing;
@@ -174,12 +174,12 @@ const TALLIED: &[u8] = b"group 0 scope 1\ntask 0 ready\ntask 1 ready\ntask 2 rea
     tally copy total 1; success 0; failure 0; interrupted 0\n\
     acked 5\n";
 
-/// A heap of so many bytes.
+/// A heap of this many bytes.
 pub fn heap(rt: &impl Abort, alloc: Global, bytes: usize) -> LocalHeap {
     done(rt, LocalHeap::new(alloc, bytes), "memory")
 }
 
-/// Runs an input over a heap of which so many bytes are spared. Gives what is printed.
+/// Runs an input over a heap of which this many bytes are spared. Gives what is printed.
 fn hoarded(rt: &impl Abort, alloc: Global, typed: &[u8], spared: usize) -> (Ended, Vec<u8>) {
     let heap = heap(rt, alloc, 4_000);
     let mut input = HoardingReader::new(typed, &heap, spared);

@@ -22,7 +22,7 @@ static TEARS: [(Torn, Torn); 3] = [
     (Torn::Front(0), Torn::Front(1)),
 ];
 
-/// Asserts how many events are stored in what a stop after so many calls leaves, torn so that all
+/// Asserts how many events are stored in what a stop after this many calls leaves, torn so that all
 /// that was not synced stays closed, and so that it opens.
 fn assert_stored(
     rt: &impl Abort,
@@ -53,7 +53,7 @@ const LINES: [Night; 6] = [
 /// The last save, and how many device calls it makes.
 static SAVES: [(&[u8], u64); 2] = [(b"flush", 6), (b"checkpoint", 7)];
 
-/// How many events are stored after so many calls of a save, of which the last but one opens a
+/// How many events are stored after this many calls of a save, of which the last but one opens a
 /// gate and the last syncs.
 fn saved_after(made: u64, calls: u64) -> (u64, u64) {
     if made < calls.saturating_sub(1) {
@@ -207,7 +207,7 @@ fn assert_fails<D: RunDisk + Drop>(
     drop(book);
 }
 
-/// Asserts so for a device that fails for good after so many calls of the night, and for one that
+/// Asserts so for a device that fails for good after this many calls of the night, and for one that
 /// fails the next call alone. A format makes no call of these, and an opening 10.
 fn assert_fails_after(
     rt: &impl Abort,
@@ -234,7 +234,7 @@ fn a_failed_device_ends_a_run(rt: HostRuntime) {
     }
 }
 
-/// Runs an input over a device that fails after so many of its calls.
+/// Runs an input over a device that fails after this many of its calls.
 fn fused<W: Write>(
     rt: &impl Abort,
     alloc: Global,

@@ -1,25 +1,25 @@
-//! Strict runs: which line strays, what is printed up to it, and what is left after it.
+//! Strict runs: which line is rejected, what is printed up to it, and what is left after it.
 
 use crate::asserts::{done, holds};
 use crate::books::{counts, formatted, opened, ran_strictly};
 use crate::parts::{Part, whole};
 use crate::readers::{PartReader, Then};
 use crate::writers::{End, EndingWriter};
-use run_console::{RunFault, Stray, StrayLine};
+use run_console::{RejectedLine, Rejection, RunFault};
 use run_disk::{FailOnce, RunDisk};
 use run_model::{Fault, Layout, Refusal, Trouble};
 use std::alloc::Global;
 use std::io::{Read, Write};
 use std::process::Abort;
 
-/// What is typed, what is printed, the number of the line that strays and why it does, and how many
+/// What is typed, what is printed, the number of the rejected line and why it does, and how many
 /// events there are then.
-type Row = (&'static [u8], &'static [u8], Option<(u64, Stray)>, u64);
+type Row = (&'static [u8], &'static [u8], Option<(u64, Rejection)>, u64);
 
 /// The line of this number, where there is one.
-fn line(stray: Option<(u64, Stray)>) -> Option<StrayLine> {
+fn line(stray: Option<(u64, Rejection)>) -> Option<RejectedLine> {
     match stray {
-        Some((number, why)) => Some(StrayLine { number, why }),
+        Some((number, why)) => Some(RejectedLine { number, why }),
         None => None,
     }
 }
@@ -32,7 +32,7 @@ fn run_strictly<R: Read, W: Write, D: RunDisk + Drop>(
     disk: D,
     input: &mut R,
     output: &mut W,
-) -> (Result<Option<StrayLine>, RunFault>, (u64, u64)) {
+) -> (Result<Option<RejectedLine>, RunFault>, (u64, u64)) {
     let mut book = opened(rt, alloc, disk);
     let result = ran_strictly(alloc, input, output, &mut book);
     let counts = counts(&book);
@@ -53,37 +53,37 @@ static ROWS: [Row; 14] = [
     (
         b"up\nderive a root cause\n",
         b"bad line\nacked 1\n",
-        Some((1, Stray::BadLine)),
+        Some((1, Rejection::BadLine)),
         1,
     ),
     (
         b"derive a root cancel\n\ncancel a\ncancel a\nderive b root cause\n",
         b"scope 1\nok\nrefused 12 AlreadyDone\nacked 3\n",
-        Some((4, Stray::Refused(Refusal::AlreadyDone))),
+        Some((4, Rejection::Refused(Refusal::AlreadyDone))),
         3,
     ),
     (
         b"\nscope root\n\nscope a\nderive a root cause\n",
         b"live; deadline none\nrefused 1 NoSuchScope\nacked 1\n",
-        Some((4, Stray::Refused(Refusal::NoSuchScope))),
+        Some((4, Rejection::Refused(Refusal::NoSuchScope))),
         1,
     ),
     (
         b"derive a root cause\nderive b a cancel\nup",
         b"scope 1\nscope 2\nbad line\nacked 3\n",
-        Some((3, Stray::BadLine)),
+        Some((3, Rejection::BadLine)),
         3,
     ),
     (
         b"derive a root cause\nscope A",
         b"scope 1\nrefused 5 BadName\nacked 2\n",
-        Some((2, Stray::Refused(Refusal::BadName))),
+        Some((2, Rejection::Refused(Refusal::BadName))),
         2,
     ),
     (
         b"group g root\ngo g copy a\nwait g\ntally\n",
         b"group 0 scope 1\ntask 0 ready\nrefused 16 Unfinished 1\nacked 3\n",
-        Some((3, Stray::Refused(Refusal::Unfinished(1)))),
+        Some((3, Rejection::Refused(Refusal::Unfinished(1)))),
         3,
     ),
     (
@@ -91,37 +91,37 @@ static ROWS: [Row; 14] = [
         b"group 0 scope 1\ntask 0 ready\n\
           tally copy total 1; success 0; failure 0; interrupted 0\n\
           start 0 copy a\nrefused 19 NothingReady\nacked 4\n",
-        Some((5, Stray::Refused(Refusal::NothingReady))),
+        Some((5, Rejection::Refused(Refusal::NothingReady))),
         4,
     ),
     (
         b"task 0\ngroup g root\n",
         b"refused 3 NoSuchTask\nacked 1\n",
-        Some((1, Stray::Refused(Refusal::NoSuchTask))),
+        Some((1, Rejection::Refused(Refusal::NoSuchTask))),
         1,
     ),
     (
         b"flush\r\nup\n",
         b"bad line\nacked 1\n",
-        Some((1, Stray::CarriageReturn)),
+        Some((1, Rejection::CarriageReturn)),
         1,
     ),
     (
         b"scope root\nflush\r",
         b"live; deadline none\nbad line\nacked 1\n",
-        Some((2, Stray::CarriageReturn)),
+        Some((2, Rejection::CarriageReturn)),
         1,
     ),
     (
         b"checkpoint\nresult g\n",
         b"acked 1\nrefused 2 NoSuchGroup\nacked 1\n",
-        Some((2, Stray::Refused(Refusal::NoSuchGroup))),
+        Some((2, Rejection::Refused(Refusal::NoSuchGroup))),
         1,
     ),
 ];
 
 #[test]
-fn a_strict_run_ends_after_the_first_line_that_strays(rt: HostRuntime) {
+fn a_strict_run_ends_after_the_first_rejected_line(rt: HostRuntime) {
     for part in [1, 7, 4_096] {
         for (n, (typed, wanted, stray, events)) in ROWS.iter().enumerate() {
             let disk = formatted(&rt, rt.alloc(), Layout::Small);
@@ -136,8 +136,8 @@ fn a_strict_run_ends_after_the_first_line_that_strays(rt: HostRuntime) {
 }
 
 /// A run ends after the line of this number, which is refused.
-fn refused(number: u64, why: Refusal) -> Result<Option<StrayLine>, RunFault> {
-    Ok(line(Some((number, Stray::Refused(why)))))
+fn refused(number: u64, why: Refusal) -> Result<Option<RejectedLine>, RunFault> {
+    Ok(line(Some((number, Rejection::Refused(why)))))
 }
 
 /// Questions, a line that is refused, and 5,000 bytes after it. The questions have 13,200 bytes, so
@@ -149,7 +149,7 @@ static LONG: [Part; 3] = [
 ];
 
 #[test]
-fn no_more_is_read_after_the_part_of_the_line_that_strays(rt: HostRuntime) {
+fn no_more_is_read_after_the_part_of_the_rejected_line(rt: HostRuntime) {
     let (typed, wanted) = whole(&rt, rt.alloc(), &LONG);
     let mut input = typed.as_slice();
     let mut printed = Vec::new(rt.alloc());
@@ -163,7 +163,7 @@ fn no_more_is_read_after_the_part_of_the_line_that_strays(rt: HostRuntime) {
     holds(&rt, input.len() == 1_828, "what isn't read", 0);
 }
 
-/// Two lines that are accepted, one that strays, and one after it.
+/// Two lines that are accepted, one that is rejected, and one after it.
 const TYPED: &[u8] = b"derive a root cancel\ncancel a\ncancel a\nderive b root cause\n";
 
 const PRINTED: &[u8] = b"scope 1\nok\nrefused 12 AlreadyDone\nacked 3\n";
@@ -179,7 +179,7 @@ fn after(given: usize) -> (usize, u64) {
 }
 
 #[test]
-fn a_failed_read_before_the_line_that_strays_is_a_fault(rt: HostRuntime) {
+fn a_failed_read_before_the_rejected_line_is_a_fault(rt: HostRuntime) {
     for given in 0..=TYPED.len() {
         let bytes = TYPED.get(..given).unwrap_or(TYPED);
         let disk = formatted(&rt, rt.alloc(), Layout::Small);
@@ -216,7 +216,7 @@ fn cut_at(written: usize, part: usize) -> (u64, u64) {
 }
 
 #[test]
-fn a_failed_write_is_a_fault_and_runs_no_line_after_the_one_that_strays(rt: HostRuntime) {
+fn a_failed_write_is_a_fault_and_runs_no_line_after_the_rejected_one(rt: HostRuntime) {
     for end in [End::Fails, End::TakesNothing] {
         for part in [1, 4_096] {
             for written in 0..PRINTED.len() {
@@ -266,14 +266,14 @@ fn a_failed_flush_acknowledges_nothing(rt: HostRuntime) {
 }
 
 #[test]
-fn a_stray_line_is_told_by_its_number_and_its_reply(rt: HostRuntime) {
-    let bad = StrayLine {
+fn a_rejected_line_is_printed_by_its_number_and_its_reply(rt: HostRuntime) {
+    let bad = RejectedLine {
         number: 7,
-        why: Stray::BadLine,
+        why: Rejection::BadLine,
     };
-    let refused = StrayLine {
+    let refused = RejectedLine {
         number: 16_777_217,
-        why: Stray::Refused(Refusal::Unfinished(2)),
+        why: Rejection::Refused(Refusal::Unfinished(2)),
     };
     let told = done(&rt, format!(in rt.alloc(); "{bad}, {refused}"), "memory");
     assert!(rt; told.as_str() == "line 7: bad line, line 16777217: refused 16 Unfinished 2");

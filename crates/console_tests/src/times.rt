@@ -3,11 +3,10 @@
 use crate::asserts::{done, holds};
 use crate::books::{counts, fresh, ran, ran_strictly};
 use crate::readers::{PartReader, Then};
-use run_console::{RunFault, Stray, StrayLine};
+use run_console::{RejectedLine, Rejection, RunFault, TimedInput};
 use run_model::Moment;
 use std::alloc::Global;
 use std::process::Abort;
-use timed_lines::TimedInput;
 
 /// The moments that the clock tells, one for each line, what is typed, what is printed, and how
 /// many events there are then.
@@ -90,7 +89,7 @@ static ROWS: [Row; 13] = [
 /// How many bytes the inner input gives at a time.
 static PARTS: [usize; 3] = [1, 7, 4096];
 
-/// The moments of so many seconds.
+/// The moments of this many seconds.
 fn moments(rt: &impl Abort, alloc: Global, times: &[u64]) -> Vec<Moment> {
     let mut moments = Vec::new(alloc);
     for seconds in times.iter() {
@@ -145,9 +144,9 @@ fn a_strict_run_counts_the_advances(rt: HostRuntime) {
     let mut lines = TimedInput::new(book.state().clock(), moments.as_slice(), input);
     let end = ran_strictly(rt.alloc(), &mut lines, &mut output, &mut book);
     drop(book);
-    let stray = StrayLine {
+    let stray = RejectedLine {
         number: 5,
-        why: Stray::BadLine,
+        why: Rejection::BadLine,
     };
     holds(&rt, end == Ok(Some(stray)), "end", 0);
     let printed = b"ok\nscope 1\nok\nbad line\nacked 4\n".as_slice();

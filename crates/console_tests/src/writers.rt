@@ -5,7 +5,7 @@ ghost use Rattle.std.specs.Prelude.{Some};
 use std::cell::Cell;
 use std::io::{self, ErrorKind, Write};
 
-/// What a writer does once in place of a write.
+/// What a writer does once instead of a write.
 #[derive(Clone, Copy)]
 pub enum End {
     /// The write fails.

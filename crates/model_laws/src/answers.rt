@@ -1,4 +1,4 @@
-//! The answer to a call is what the questions then return.
+//! The answer to a call agrees with what the questions return after it.
 
 ghost use Rattle.std.specs.Prelude.{◌≡◌, ℕ, List, Option, None, Some, IsSomeAnd};
 ghost use Rattle.run_model.specs.declared.answers.Answer.TheVariants as answer;
@@ -18,9 +18,9 @@ ghost use Rattle.run_model.specs.Rules.{HasRow};
 ghost use Rattle.model_laws.specs.Answers.{Answered, Replied, SeesGroup, SeesStart, SeesWait};
 ghost use Rattle.model_laws.specs.Answers.{seen_name, task_seen};
 
-/// What was made is found at the numbers of the answer, under the name that was given. A
-/// group's own scope has the group's name; a bare group has none, and lives in the scope that
-/// was given.
+/// A new scope or group is found at the number in the answer, under the name that was given. A
+/// group's own scope has the group's name. A bare group has no scope of its own, and belongs to the
+/// scope that was given.
 pub fn what_is_made_is_seen()
     ensures scope { (s : Session) (name parent : List ℕ) (wish : Wish) (n : ℕ) (q : State)
         → Answered s (command.Derive name parent wish) (answer.Scope n) q
@@ -33,9 +33,8 @@ pub fn what_is_made_is_seen()
         → (own ≡ None) × SeesGroup q g name (scope_of s.state scope) }
 {}
 
-/// A submitted task is found at the number of the answer, in the phase of the answer; one that was
-/// tried is ready. A retry is one of the same group, job and argument, and names the task that it
-/// retries.
+/// A submitted task is found at the number and in the phase that the answer gives. After a try that
+/// phase is ready. A retry has the group, the job and the argument of the old task, and names it.
 pub fn what_is_submitted_is_seen()
     ensures go { (s : Session) (group job argument : List ℕ) (n : ℕ) (told : Phase) (q : State)
         → Answered s (command.Go group job argument) (answer.Task n told) q
@@ -49,14 +48,14 @@ pub fn what_is_submitted_is_seen()
         → task_look_of q m ≡ Some (task_seen row.group row.job row.argument told (Some n)) }
 {}
 
-/// A question shows a group that was waited for as such, with the error of the answer.
+/// A group that was waited for is shown as waited for, with the error that the answer gave.
 pub fn what_is_waited_for_is_seen()
     ensures { (s : Session) (group : List ℕ) (error : Option (List ℕ)) (q : State)
         → Answered s (command.Wait group) (answer.Waited error) q
         → SeesWait q (group_of s.state group) error }
 {}
 
-/// A question shows a started task as running.
+/// A started task is shown as running.
 pub fn what_is_started_is_seen()
     ensures { (s : Session) (started : Started) (q : State)
         → Replied s step.Start (reply.Started started) q → SeesStart q started }

@@ -24,23 +24,23 @@ pub fn what_is_decided_is_allowed()
         → decide_finish p n outcome ≡ Ok (Some event) → allowed p event ≡ true }
 {}
 
-/// Conversely, if names are distinct and rows are within their limits, as in each state that a
-/// store can keep, an event that has a record is allowed exactly when some call is decided as it
-/// while the log is empty.
+/// Conversely, take a state that a store can hold: its names are distinct, and its rows are within
+/// their limits. An event that has a record is allowed there exactly if some call, made while the
+/// log is empty, is decided as that event.
 pub fn what_is_allowed_is_decided()
     ensures { (p : State) (event : Event) → AreNumbered p → is_recorded event ≡ true
         → (allowed p event ≡ true) ↔ IsDecided p event }
 {}
 
-/// A command that is decided as an event that has a record is one that a caller can write: each
-/// of its fields is in range, if the names of the rows are.
+/// If a command is decided as an event that has a record, a caller can write that command: its
+/// fields are in range, if the names of the rows are.
 pub fn a_decided_command_can_be_given()
     ensures { (p : State) (log : ℕ) (call : Command) (event : Event) → AreNamed p
         → is_recorded event ≡ true → decide p log call ≡ Ok (Some event) → is_command call ≡ true }
 {}
 
-/// A command cancels cancel, cause and deadline scopes alone, and gives a cause to cause scopes
-/// alone.
+/// A command can cancel only cancel, cause and deadline scopes, and it can give a cause only to a
+/// cause scope.
 pub fn a_cause_is_given_to_a_cause_scope()
     ensures cause { (p : State) (s : ℕ) (text : List ℕ)
         → allowed p (Cancel s (Some text)) ≡ true

@@ -1,5 +1,5 @@
-//! A scope that is done stays as it ended: through every later event, its reason and its cause are
-//! those that it was done with.
+//! A scope that is done keeps its ending: through every later event it has the same reason and the
+//! same cause.
 
 ghost use Rattle.std.specs.Prelude.{◌≡◌, ℕ, List, Some};
 ghost use Rattle.run_model.specs.declared.scopes.Reason.{Reason};
@@ -10,14 +10,14 @@ ghost use Rattle.model_laws.specs.Endings.{EndingsStayThroughRuns};
 ghost use Rattle.model_laws.specs.Endings.{DerivesKeepEndings, CancelsKeepEndings};
 ghost use Rattle.model_laws.specs.Endings.{AdvancesKeepEndings, LevelHitsKeepEndings};
 
-/// A scope that is done keeps its reason and its cause through every event, a restart too.
+/// A scope that is done keeps its reason and its cause through every event, restarts included.
 pub fn endings_stay()
     ensures events { EndingsStayThroughEvents }
     ensures runs { EndingsStayThroughRuns }
 {}
 
-/// If each scope that was done is done by the same hit, it is so for the same reason and with the
-/// same cause.
+/// If each scope that was done is still done by the same hit, it is done for the same reason and
+/// with the same cause.
 pub fn reasons_and_causes_stay()
     ensures reasons { (old new : List Scope) → EndingsStay old new → (s : ℕ) (reason : Reason)
         → reason_of old s ≡ Some reason → reason_of new s ≡ Some reason }
@@ -25,15 +25,16 @@ pub fn reasons_and_causes_stay()
         → cause_of old s ≡ Some cause → cause_of new s ≡ Some cause }
 {}
 
-/// Each change of a tree by an event that comes after all its hits leaves the endings as they are.
+/// If an event comes after all hits of a tree, its change of the tree leaves every ending as it
+/// was.
 pub fn changes_keep_endings()
     ensures derive { DerivesKeepEndings }
     ensures cancel { CancelsKeepEndings }
     ensures advance { AdvancesKeepEndings }
 {}
 
-/// A hit that is equal to those of the same event leaves the endings as they are: so a restart may
-/// end several groups, one after the other.
+/// A hit with the same number and moment as an earlier one leaves every ending as it was. That is
+/// why one restart can end several groups, one after another.
 pub fn a_level_hit_keeps_endings()
     ensures { LevelHitsKeepEndings }
 {}

@@ -1,4 +1,4 @@
-//! The end of a group: what an error or a wait changes of the tree.
+//! The end of a group: what an error or a wait changes in the tree.
 
 ghost use Rattle.std.specs.Prelude.{◌≡◌, ℕ, List, Option, Some, slice_get};
 ghost use Rattle.run_model.specs.declared.tasks.Outcome.TheVariants as outcome;
@@ -8,8 +8,8 @@ ghost use Rattle.run_model.specs.Step.{step, own_scope, after_group_cancel};
 ghost use Rattle.run_model.specs.WorkChanges.{group_of_task};
 ghost use Rattle.model_laws.specs.GroupEnds.{HasGroupEnded};
 
-/// A group cancels its scope once: after its first error or its wait, no error of a task, no
-/// wait, no restart and no other cancel of the group's changes the scope.
+/// A group cancels its scope only once. After its first error or its wait, no error of a task, no
+/// wait, no restart and no other cancel by the group changes the scope.
 pub fn a_group_ends_once()
     ensures errors { (p : State) (n : ℕ) (text : List ℕ) → HasGroupEnded p (group_of_task p.work n)
         → (step p (event.Finish n (outcome.Failure text))).tree ≡ p.tree }

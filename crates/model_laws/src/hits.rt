@@ -1,5 +1,5 @@
-//! How far a hit reaches: every scope with it on its chain is done, and a scope below it escapes
-//! by a detached scope alone.
+//! How far a hit reaches: every scope that has it on its chain is done. Only a detached scope keeps
+//! the scopes below it out of reach.
 
 ghost use Rattle.std.specs.Prelude.{◌≡◌, ℕ, List, IsSome};
 ghost use Rattle.run_model.specs.declared.scopes.Scope.{Scope};
@@ -20,8 +20,9 @@ pub fn a_detached_scope_cuts_chains()
     ensures { (rows : List Scope) (n : ℕ) → IsAttached rows n → IsOnChains rows n }
 {}
 
-/// A hit ends every scope with it on its chain; one below it without it on its chain is detached,
-/// or has a detached scope between. In a consistent state no detached scope was hit.
+/// A hit on a scope ends every scope that has it on its chain. If a scope below it doesn't have it
+/// on its chain, then it is detached, or a detached scope is between the two. In a consistent state
+/// no detached scope was hit.
 pub fn a_hit_reaches_down()
     ensures ends { (rows : List Scope) (n : ℕ) → IsSome (own_hit rows n) → EndsBelow rows n }
     ensures cut { (rows : List Scope) (n : ℕ) → IsAttached rows n → EndsAllButCutOff rows n }

@@ -1,12 +1,12 @@
-//! Laws of the plain state: what every state keeps, what every event leaves, and what a call is
+//! Laws of the plain state: what every state keeps, what every event changes, and how calls are
 //! answered.
 //!
-//! Each function has an empty body, and its clauses are the law. They speak of the definitions of
-//! `run_model` alone, which every promise of the layers above is made in, and of every state that
-//! they don't restrict, whether or not a history leads to it.
+//! Each function has an empty body, and its clauses are the law. The laws rest only on the
+//! definitions of `run_model`, on which every promise of the layers above rests. They hold for
+//! every state that meets their premises, whether or not a history leads to it.
 //!
-//! - Scopes and runs: what holds in every well formed state (parents have lesser numbers, and hits
-//!   are of the past), and through every event.
+//! - Scopes and runs: what holds in every well formed state (parents have lower numbers, and hits
+//!   are in the past), and through every event.
 //! - States: what every event keeps of groups, tasks and retries, and what a restart changes.
 //! - Replies: what is decided is what is allowed, what is refused changes nothing, and the log
 //!   always has room for the finishes.

@@ -9,8 +9,8 @@ ghost use Rattle.run_model.specs.Tasks.{first_ready, is_ready, limit_of};
 ghost use Rattle.run_model.specs.Replies.{decide_start};
 ghost use Rattle.model_laws.specs.Queues.{IsLeastReady, admitted_tasks, unfinished_tasks};
 
-/// A start is of the ready task with the least number. That task is found exactly when there is
-/// one, and none is found exactly when none is ready.
+/// A start always starts the ready task with the lowest number. There is one exactly if some task
+/// is ready.
 pub fn the_least_ready_task_is_started()
     ensures started { (p : State) (log n : ℕ)
         → decide_start p log ≡ Ok (Some (Start n)) → IsLeastReady p.work n }
@@ -28,7 +28,7 @@ pub fn the_first_unfinished_tasks_are_admitted()
         → admitted_tasks w g ≡ unfinished_tasks w g }
 {}
 
-/// A task is started at most once, whatever events come after its start, restarts among them.
+/// A task is started at most once, whatever events come after its start, even restarts.
 pub fn a_task_is_started_once()
     ensures { (p q : State) (n : ℕ) (events : List Event) → allowed p (Start n) ≡ true
         → run (step p (Start n)) events ≡ Some q → allowed q (Start n) ≡ false }

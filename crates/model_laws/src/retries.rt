@@ -1,4 +1,4 @@
-//! Retries: a task is submitted anew at most once, and the new one names the task that it retries.
+//! Retries: a task is retried at most once, and the new task names the one that it retries.
 
 ghost use Rattle.std.specs.Prelude.{◌≡◌, ℕ, List, Some, true, false};
 ghost use Rattle.run_model.specs.declared.tasks.Task.{Task};
@@ -10,7 +10,8 @@ ghost use Rattle.run_model.specs.Step.{step};
 ghost use Rattle.run_model.specs.Rules.{HasRow};
 ghost use Rattle.model_laws.specs.Retries.{IsTriedAnew, KeepsLink};
 
-/// A retry is a task at the end, of the same group, job and argument, not started yet.
+/// A retry is a new task, the last of all, with the group, the job and the argument of the old one.
+/// It isn't started yet.
 pub fn a_retry_is_a_task_of_its_own()
     ensures { (p : State) (n : ℕ) (row : Task) → HasRow p.work.tasks n row
         → IsTriedAnew p n row (step p (event.Retry n)) }
@@ -22,7 +23,7 @@ pub fn a_task_is_retried_once()
         → run (step p (event.Retry n)) events ≡ Some q → allowed q (event.Retry n) ≡ false }
 {}
 
-/// The task that a task is a retry of stays the same, through every event.
+/// A retry names the same old task through every event.
 pub fn links_stay()
     ensures { (p q : State) (event : Event) (n : ℕ) (row : Task) → after p event ≡ Some q
         → HasRow p.work.tasks n row → KeepsLink q n row }

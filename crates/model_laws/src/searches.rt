@@ -1,5 +1,5 @@
-//! What a scope's own row and its parent's answers determine: each search of ancestors is one step
-//! from the parent, and the first hit is the least on the chain.
+//! The row of a scope and the results for its parent determine each search upwards: it is one step
+//! from the parent. The first hit is the first one on the chain.
 
 ghost use Rattle.std.specs.Prelude.{◌≡◌, ℕ, List};
 ghost use Rattle.run_model.specs.declared.scopes.Scope.{Scope};
@@ -13,14 +13,17 @@ pub fn lines_go_up()
     ensures chain { OfEachScope (λ rows s row. chain rows s ≡ chain_from rows s row) }
 {}
 
-/// What is found for a scope is its own, or what is found for its parent.
+/// The result of a search from a scope follows from what the scope itself has, and from the same
+/// search at its parent. The first hit and the deadline are the earlier of the two. A value is the
+/// scope's own, or else the one from above. The first hit and the deadline of a detached scope are
+/// none.
 pub fn searches_go_up()
     ensures first_hit { OfEachScope (λ rows s row. first_hit rows s ≡ first_hit_from rows s row) }
     ensures deadline { OfEachScope (λ rows s row. deadline_of rows s ≡ deadline_from rows row) }
     ensures value { OfEachScope HasValuesFrom }
 {}
 
-/// The hit that made a scope done is the least one on its chain.
+/// The hit that made a scope done is the first one on its chain.
 pub fn the_first_hit_is_the_least()
     ensures { (rows : List Scope) (s : ℕ) → IsFirstTheLeast rows s }
 {}

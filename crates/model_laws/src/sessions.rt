@@ -1,4 +1,4 @@
-//! What a list of steps leaves.
+//! What a list of steps leaves of a session.
 
 ghost use Rattle.std.specs.Prelude.{◌≡◌, ◌≤◌, ℕ, ◌+◌, ◌++◌, true, List, [], ◌∷◌, Some, Ok, length};
 ghost use Rattle.std.specs.List.{sum_by, list_all};
@@ -20,8 +20,8 @@ ghost use Rattle.run_model.specs.Session.{reply_of_step};
 ghost use Rattle.run_model.specs.Tasks.{has_stage, is_running};
 ghost use Rattle.model_laws.specs.Reserves.{HasReserve, can_be_written};
 
-/// The accepted events of a list of steps come to the end of the history. They are allowed one
-/// after another, and they alone make the state and the log that the steps leave.
+/// The accepted events of a list of steps are appended to the history. Each is allowed at its
+/// place. They alone determine the state and the log after the steps.
 pub fn accepted_events_make_the_session()
     ensures start { (s : Session) (steps : List Step) → (session_after s steps).start ≡ s.start }
     ensures history { (s : Session) (steps : List Step)
@@ -46,7 +46,7 @@ pub fn what_is_refused_changes_nothing()
     ensures checkpoint { (s : Session) → session_after s (step.Checkpoint ∷ []) ≡ s }
 {}
 
-/// A finish of a running task is never refused, and the log has room for its record.
+/// A finish of a running task is never refused, and its record fits into the log.
 pub fn a_running_task_can_finish()
     ensures accepted { (p : State) (n : ℕ) (outcome : Outcome)
         → has_stage is_running p.work n ≡ true
@@ -56,8 +56,8 @@ pub fn a_running_task_can_finish()
         → s.log + record_len (Finish n outcome) ≤ SESSION_LEN }
 {}
 
-/// The log has its reserve when a state with no more tasks than there can be is opened, and keeps
-/// it at every step; so it never grows past its greatest length.
+/// When a state is opened that has no more tasks than a store holds, the log has its reserve, and
+/// it keeps the reserve at every step. So the log never grows beyond its greatest length.
 pub fn the_log_keeps_its_reserve()
     ensures opening { (p : State) → length p.work.tasks ≤ MOST_TASKS → HasReserve (begun_at p) }
     ensures steps { (s : Session) (steps : List Step) → list_all can_be_written steps ≡ true

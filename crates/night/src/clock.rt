@@ -1,11 +1,11 @@
-//! A [`SystemClock`] tells the time of a system, as the moment that it is.
+//! A [`SystemClock`] reads the system's time, as seconds since 1970.
 
+use run_console::MachineTime;
 use run_model::Moment;
 use std::time::{Clock, SystemTime, UNIX_EPOCH};
-use timed_lines::MachineTime;
 
-/// The clock of a system. Which moments it will tell isn't known; a time before 1970 or past the
-/// greatest moment is none.
+/// The clock of a system. Nothing is known about the moments that it will return. A time before
+/// 1970 or after the greatest moment counts as none.
 #[derive(Drop)]
 pub struct SystemClock<'a, S> {
     system: &'a S,

@@ -16,22 +16,24 @@ use crate::clock::SystemClock;
 use night_program::{CopyJob, FailJob, SpinJob, Streams, night};
 use night_words::own_words;
 use run_crew::Job;
+use std::env;
 use std::io::IsTerminal;
 use std::process::ExitCode;
 use std::thread::Builder;
-use system_files::{Complaint, Complaints, Errors, Heard, SystemFiles};
+use system_files::{ErrorCell, ErrorCells, Errors, SystemFiles, WatchedStream};
 
-/// The most workers that the words can ask for.
+/// The greatest number of workers that the arguments can ask for.
 const MOST_WORKERS: usize = 8;
 
-/// So many bytes of stack are enough for all that the words can ask for: 512 KiB are.
+/// The number of bytes of stack. It is enough for everything that the arguments can ask for: 512
+/// KiB are.
 const STACK: usize = 4 << 20;
 
 /// Runs in a thread with a stack of its own, since the one that the system gives may be too small.
 fn main(rt: HostRuntime) -> ExitCode {
     let all = move || -> u8 {
         let alloc = rt.alloc();
-        let words = own_words(&rt);
+        let words = own_words(alloc, env::args(&rt));
         // A list for each worker, as far as there is memory: a crew of more is told that it is
         // wanting.
         let mut jobs: Vec<Vec<Box<dyn Job + Send>>> = Vec::new(alloc);
@@ -53,12 +55,12 @@ fn main(rt: HostRuntime) -> ExitCode {
                 break;
             }
         }
-        let complaints = Complaints::new();
-        let mut files = SystemFiles::new(&rt, alloc, &complaints);
+        let error_cells = ErrorCells::new();
+        let mut files = SystemFiles::new(&rt, alloc, &error_cells);
         let mut clock = SystemClock::new(&rt);
-        let (why_input, why_output) = (Complaint::new(), Complaint::new());
-        let mut input = Heard::new(rt.stdin(), &why_input);
-        let mut output = Heard::new(rt.stdout(), &why_output);
+        let (why_input, why_output) = (ErrorCell::new(), ErrorCell::new());
+        let mut input = WatchedStream::new(rt.stdin(), &why_input);
+        let mut output = WatchedStream::new(rt.stdout(), &why_output);
         let streams = Streams {
             input: &why_input,
             output: &why_output,

@@ -1,14 +1,14 @@
-//! Jobs of one's own, worked off by four threads over a store in a file: a program to copy.
+//! Jobs of your own, which four threads run over a store in a file: a program to copy.
 //!
-//! One run of it plays three starts. The first makes the store, runs the lines of standard input,
-//! which submit tasks, and gives the store up while a task runs. The second shows that the task was
-//! interrupted and submits it anew. In the third four workers run what is ready.
+//! One run of it plays several sessions. The first one makes the store, runs the lines of standard
+//! input, which submit tasks, and drops the store while a task runs. The next ones show that the
+//! task was interrupted, retry it, and let four workers run what is ready.
 #![tactic(auto)]
 
 use anyhow::Result;
 use run_book::Book;
-use run_console::{crew, run};
-use run_crew::{Job, OpenGate, Turn};
+use run_console::run;
+use run_crew::{Job, OpenGate, Turn, crew};
 use run_disk::FileDisk;
 use run_model::{Layout, Name, TaskInfo, Text};
 use std::fs;
@@ -16,7 +16,7 @@ use std::fs::OpenOptions;
 use std::io::Read;
 use std::str::from_utf8;
 
-/// Checks a file of this folder: its last line has to be whole.
+/// Checks that the last line of a file in this folder is complete.
 #[derive(Drop)]
 struct Check(HostRuntime);
 
@@ -35,7 +35,7 @@ impl Job for Check {
     }
 }
 
-/// Mails a file in three turns, and fails for each task whose number three divides.
+/// Mails a file in three turns, and fails for each task whose number is divisible by three.
 #[derive(Drop)]
 struct Mail;
 

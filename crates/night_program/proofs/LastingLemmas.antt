@@ -8,11 +8,11 @@ use Rattle.run_disk.proofs.RunLemmas.{leaves_only_more}
 use Rattle.book_model.specs.Books.{CarriesOn, BookView, acked}
 use Rattle.book_model.specs.Openings.{Opens}
 use Rattle.book_model.specs.Standing.{LiesWith}
-use Rattle.book_model.specs.Stores.{StoresFront, StoresOpened, restarted}
+use Rattle.book_model.specs.Stores.{StoresPrefix, StoresOpened, restarted}
 use Rattle.book_model.proofs.BookLemmas.{stores_fewer}
 use Rattle.console_lines.specs.declared.faults.RunFault.{RunFault}
-use Rattle.run_console.specs.Crews.{CrewEnds, StoresNight}
-use Rattle.run_console.proofs.Nights.{opened_night}
+use Rattle.run_crew.specs.Crews.{CrewEnds, StoresNight}
+use Rattle.run_crew.proofs.PrintedNights.{opened_night}
 use Rattle.night_program.specs.Crews.{IsOpen}
 use Rattle.night_program.specs.Lasting.{StoresWork}
 use Rattle.store_words.specs.Lasting.{FindsLeft}
@@ -25,14 +25,14 @@ module _ {D : Type 0} (state : D → DiskState) where
       → StoresNight p c.session.history (state next).now
   cut_is_found given next p b c lies opens on finds =
       let all : LeavesOnly (StoresNight p c.session.history) (state given) (state c.journal.disk) =
-      leaves_only_more (StoresOpened p) (StoresFront c.session.start c.session.history (acked b))
+      leaves_only_more (StoresOpened p) (StoresPrefix c.session.start c.session.history (acked b))
       (StoresNight p c.session.history) (state given) (state b.journal.disk) (state c.journal.disk)
       (opens.any_moment lies.honest lies.rest p lies.stores)
       (on.any_moment (safe_then state given p b lies opens))
       (λ x s. opened_night p c.session.history x s)
       (λ x s.
       inr (stores_fewer (restarted p) c.session.history (acked b) 0 x (omega arith)
-      (subst (λ q. StoresFront q c.session.history (acked b) x)
+      (subst (λ q. StoresPrefix q c.session.history (acked b) x)
       (on.start ∙ start_is state given p b lies opens) s))) in
       all.each (state next).now finds.content
 

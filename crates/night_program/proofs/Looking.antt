@@ -3,8 +3,8 @@ use Rattle.std.specs.Prelude.{◌≡◌, Bool, true, false, Option, None, Result
 use Rattle.std.proofs.Common.{subst, sym}
 use Rattle.run_model.specs.declared.faults.Fault.{Fault}
 use Rattle.run_disk.specs.Disk.{DiskState}
-use Rattle.word_endings.specs.declared.endings.UnknownJob.{UnknownJob}
-use Rattle.store_words.specs.Known.{FindsUnknown}
+use Rattle.store_words.specs.declared.endings.UnknownJob.{UnknownJob}
+use Rattle.night_program.specs.Known.{FindsUnknown}
 use Rattle.night_program.specs.Crews.{IsLooked}
 
 module _ {D : Type 0} (state : D → DiskState) (given : D) where

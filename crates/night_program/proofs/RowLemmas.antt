@@ -15,14 +15,14 @@ use Rattle.book_model.specs.Standing.{Finds, LiesWith}
 use Rattle.book_model.specs.Stores.{Stores, restarted}
 use Rattle.run_crew.specs.Openings.{is_work}
 use Rattle.console_lines.specs.declared.faults.RunFault.{RunFault}
-use Rattle.run_console.specs.Crews.{AcksNight, CrewEnds, StoresNight}
+use Rattle.run_crew.specs.Crews.{AcksNight, CrewEnds, StoresNight}
 use Rattle.night_program.specs.Crews.{IsOpen}
 use Rattle.night_program.specs.Lasting.{CutsCrew, Formatting, Leads, Migrating, Reading, Renewing}
 use Rattle.night_program.specs.Lasting.{Run, RunLeaves, RunsLeave, Scripting, StoresAfterRuns}
 use Rattle.night_program.specs.Lasting.{Working, flushed_by}
 use Rattle.night_program.proofs.LastingLemmas.{crew_is_found}
 use Rattle.store_words.specs.Lasting.{FindsLeft, LeadsBy}
-use Rattle.line_words.proofs.LineLemmas.{lines_led}
+use Rattle.night_program.proofs.LineLemmas.{lines_led}
 use Rattle.store_words.proofs.WordLemmas.{IsLedBy, format_leaves, front_led, lies_read}
 use Rattle.store_words.proofs.WordLemmas.{made_lies, migrate_leaves, opened_led, renew_leaves}
 
@@ -37,7 +37,7 @@ night_led p work x (inl before) = record {
 }
 night_led p work x (inr after) = record {
   state = after.state;
-  leads = front_led p after.state work 0 0 after.front (omega arith);
+  leads = front_led p after.state work 0 0 after.prefix (omega arith);
   stores = after.stores;
 }
 

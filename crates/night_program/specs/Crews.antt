@@ -5,32 +5,32 @@ use Rattle.run_model.specs.declared.faults.Fault.{Fault}
 use Rattle.run_disk.specs.Disk.{DiskState}
 use Rattle.console_lines.specs.declared.faults.RunFault.{RunFault}
 use Rattle.console_lines.specs.Faults.{stopped}
-use Rattle.crew_workers.specs.Courses.{Call, IsGates}
-use Rattle.word_endings.specs.declared.endings.Done.{Done}
-use Rattle.word_endings.specs.declared.endings.Done.TheVariants.{Strayed, Unknown, Well}
-use Rattle.word_endings.specs.declared.failures.Failure.{Failure}
-use Rattle.word_endings.specs.declared.endings.UnknownJob.{UnknownJob}
-use Rattle.word_endings.specs.Failures.{FailsBy, Names}
-use Rattle.store_words.specs.Known.{FindsUnknown}
+use Rattle.run_crew.specs.Courses.{Call, IsGates}
+use Rattle.store_words.specs.declared.endings.Done.{Done}
+use Rattle.store_words.specs.declared.endings.Done.TheVariants.{Strayed, Unknown, Well}
+use Rattle.store_words.specs.declared.failures.Failure.{Failure}
+use Rattle.store_words.specs.declared.endings.UnknownJob.{UnknownJob}
+use Rattle.store_words.specs.Failures.{FailsBy, Names}
+use Rattle.night_program.specs.Known.{FindsUnknown}
 
 -- The gate of a night lets each turn pass.
 abbrev pub IsOpen : Call → Type 0
 IsOpen call = IsGates (λ task turn answer. answer ≡ true) (λ task. ⊤) call
 
--- What the program answers after a night: all is well, the audit strayed, or the same fault ended
--- it.
+-- The result of the program after a night: all is well, the audit found a difference, or the same
+-- fault ended it.
 abbrev pub AnswersCrew :
     (Failure → Type 0) → Result Bool RunFault → Result Done Failure → Type 0
 AnswersCrew Of (Ok true) answer = answer ≡ Ok Well
 AnswersCrew Of (Ok false) answer = answer ≡ Ok Strayed
 AnswersCrew Of (Err why) answer = FailsBy Of why answer
 
--- Before the night the disk wasn't looked at; or it was, and no task of an unknown job was found.
+-- Before the night the disk wasn't read; or it was, and no task with an unknown job was found.
 abbrev pub IsLooked : {D : Type 0} → (D → DiskState) → (known : Bool) → (given begun : D) → Type 0
 IsLooked state false given begun = begun ≡ given
 IsLooked state true given begun = FindsUnknown state given (Ok None) begun
 
--- The look found tasks of an unknown job, or no state.
+-- The reading found tasks with unknown jobs, or no state.
 abbrev pub StopsAt : {D : Type 0} → (D → DiskState) → (store : List ℕ) → (given : D)
     → Result Done Failure → (read : D) → Type 0
 StopsAt state store given answer read =

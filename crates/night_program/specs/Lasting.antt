@@ -18,15 +18,15 @@ use Rattle.book_model.specs.Stores.{Stores}
 use Rattle.run_crew.specs.Openings.{is_work}
 use Rattle.book_model.specs.declared.migrations.MigrateFault.{MigrateFault}
 use Rattle.console_lines.specs.declared.faults.RunFault.{RunFault}
-use Rattle.run_console.specs.Crews.{CrewEnds, StoresNight}
+use Rattle.run_crew.specs.Crews.{CrewEnds, StoresNight}
 use Rattle.night_program.specs.Crews.{IsOpen}
 use Rattle.store_words.specs.declared.renewals.Kept.{Kept}
-use Rattle.line_words.specs.Lasting.{CutsLines}
+use Rattle.night_program.specs.CutScripts.{CutsLines}
 use Rattle.store_words.specs.Lasting.{CutsMaking, FindsLeft, IsReadAlone, LeadsBy}
 use Rattle.store_words.specs.Stores.{FormatEnds, MigratesRead, Remakes}
 
--- The bytes store this state, or what a restart of it and some first ones of a night's starts and
--- finishes lead to.
+-- The bytes store this state, or the state to which its restart and a prefix of a night's starts
+-- and finishes lead.
 pub record StoresWork (p : State) (bytes : List ℕ) : Type 0 where
   pub work : List Event
   pub only : list_all is_work work ≡ true
@@ -34,7 +34,7 @@ pub record StoresWork (p : State) (bytes : List ℕ) : Type 0 where
 
 -- ---- what runs lead to
 
--- What is seen of a run of the program, which may have ended anywhere.
+-- What can be seen of a run of the program, which may have ended at any moment.
 pub data Run : Type 0 where
   -- the store was only read
   Reading : Run
@@ -66,7 +66,7 @@ LeadOn p (run ∷ runs) q = (next : State) × Leads p run next × LeadOn next ru
 
 -- ---- what was done with the disks
 
--- What the last flush of a crew's night acknowledged.
+-- The number of events that the last flush of a crew's night acknowledged.
 abbrev pub flushed_of : Result ℕ Trouble → Option ℕ
 flushed_of (Ok count) = Some count
 flushed_of (Err why) = None

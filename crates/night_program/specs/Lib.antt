@@ -1,4 +1,10 @@
 pub mod Crews
+pub mod CutScripts
+pub mod Demos
 pub mod Jobs
+pub mod Known
 pub mod Lasting
 pub mod Programs
+pub mod Plans
+pub mod Scripts
+pub mod Timed

@@ -1,45 +1,64 @@
--- What the program does by its words.
+-- What the program does, by its arguments.
 use Rattle.std.specs.Prelude.{◌≡◌, ◌⊎◌, ◌<◌, ◌&&◌, ℕ, Bool, true, false, List, Option, None, ⊤}
 use Rattle.std.specs.Prelude.{Result, Ok, Err, IfErr, IfOk}
 use Rattle.std.specs.String.{string_bytes}
 use Rattle.run_disk.specs.Disk.{DiskState}
 use Rattle.console_lines.specs.declared.faults.RunFault.{RunFault}
 use Rattle.console_lines.specs.declared.faults.RunFault.TheVariants.{Memory}
-use Rattle.console_lines.specs.declared.strays.StrayLine.{StrayLine}
-use Rattle.run_console.specs.Crews.{CrewEnds}
+use Rattle.console_lines.specs.declared.rejections.RejectedLine.{RejectedLine}
+use Rattle.run_crew.specs.Crews.{CrewEnds}
 use Rattle.night_words.specs.Commands.{AsksFor, IsAnswer, IsCausedBy, faults_of}
-use Rattle.night_requests.specs.declared.asked.Asked.{Asked}
-use Rattle.night_requests.specs.declared.asked.Asked.TheVariants.{Crew, Demo, Format, Help}
-use Rattle.night_requests.specs.declared.asked.Asked.TheVariants.{Inspect, Migrate, Renew}
-use Rattle.night_requests.specs.declared.asked.Asked.TheVariants.{RenewInPlace, Script}
-use Rattle.night_requests.specs.declared.asked.WordsFault.{WordsFault}
-use Rattle.line_words.specs.Demos.{DemoEnds}
-use Rattle.line_words.specs.Scripts.{DoesScript, until_of}
-use Rattle.line_words.specs.Timed.{DoesTimed}
+use Rattle.night_words.specs.declared.requests.Request.{Request}
+use Rattle.night_words.specs.declared.requests.Request.TheVariants.{Crew, Demo, Format, Help}
+use Rattle.night_words.specs.declared.requests.Request.TheVariants.{Inspect, Migrate, Plan, Renew}
+use Rattle.night_words.specs.declared.requests.Request.TheVariants.{RenewInPlace, Script}
+use Rattle.night_words.specs.declared.faults.WordsFault.{WordsFault}
+use Rattle.night_words.specs.declared.faults.WordsFault.TheVariants as words
+use Rattle.night_words.specs.Faults.{fault_text}
+use Rattle.night_program.specs.Demos.{DemoEnds}
+use Rattle.night_program.specs.Plans.{DoesPlan}
+use Rattle.night_program.specs.Scripts.{DoesScript, until_of}
+use Rattle.night_program.specs.Timed.{DoesTimed}
 use Rattle.night_program.specs.Crews.{AnswersCrew, IsLooked, IsOpen, StopsAt}
-use Rattle.word_endings.specs.declared.endings.Done.{Done}
-use Rattle.word_endings.specs.declared.endings.Ended.{Ended}
-use Rattle.word_endings.specs.declared.failures.Failure.{Failure}
-use Rattle.word_endings.specs.Endings.{EndsBy, Refuses}
-use Rattle.word_endings.specs.Failures.{AnswersAlone, AnswersStrict, HasNoFile, Names}
-use Rattle.word_endings.specs.Hints.{Hints, reads_lines}
+use Rattle.store_words.specs.declared.endings.Done.{Done}
+use Rattle.store_words.specs.declared.endings.Ended.{Ended}
+use Rattle.store_words.specs.declared.failures.Failure.{Failure}
+use Rattle.store_words.specs.Endings.{EndsBy}
+use Rattle.store_words.specs.Failures.{AnswersAlone, AnswersStrict, HasNoFile, Names}
+use Rattle.store_words.specs.Hints.{Hints}
 use Rattle.store_words.specs.Replacements.{DoesRenewInPlace}
 use Rattle.store_words.specs.Stores.{DoesPrint}
 use Rattle.store_words.specs.Words.{DoesFormat, DoesInspect, DoesMigrate, DoesRenew}
-use Rattle.store_files.specs.Tells.{TellState}
+use Rattle.store_files.specs.ErrorSinks.{SinkState, IsPrinted}
 use Rattle.store_files.specs.Files.{FilesView, HoldsAlone, IsSettled}
 
--- whether a crew's night was asked for
-abbrev pub asks_crew : Asked → Bool
+-- A crew was asked for.
+abbrev pub asks_crew : Request → Bool
 asks_crew (Crew store workers known) = true
 asks_crew asked = false
+
+-- The request reads lines.
+abbrev pub reads_lines : Request → Bool
+reads_lines (Demo strict) = true
+reads_lines (Script store strict is_timed) = true
+reads_lines asked = false
+
+-- The exit status if the arguments ask for nothing.
+abbrev pub refusal_status : WordsFault → ℕ
+refusal_status words.Memory = 4
+refusal_status _ = 2
+
+-- The arguments ask for nothing, and the reason is printed.
+abbrev pub Refuses : WordsFault → Ended → (e0 e1 : SinkState) → Type 0
+Refuses why ended e0 e1 =
+    (ended.status ≡ refusal_status why) × IsPrinted ended.printed (fault_text why) e0 e1
 
 module _ {F D : Type 0} (state : D → DiskState) (seen : FilesView F D) where
   -- ---- crew
 
-  -- The file of this name was opened, and so many workers worked off its tasks. Where it was to be
-  -- known, the store was read first, and has no task of an unknown job that isn't ended. The file
-  -- is the disk that the night left.
+  -- The file of this name was opened, and so many workers worked off its tasks. If their jobs had
+  -- to be known, the store was read first, and has no task of an unknown job that hasn't ended. The
+  -- file is the disk that the night left.
   pub record Works (store : List ℕ) (workers : ℕ) (known : Bool) (answer : Result Done Failure)
       (f0 f1 : F) (w0 w1 : Option (List ℕ)) : Type 0 where
     pub given : D
@@ -52,8 +71,8 @@ module _ {F D : Type 0} (state : D → DiskState) (seen : FilesView F D) where
     pub works : CrewEnds state IsOpen begun workers done left w0 w1
     pub answers : AnswersCrew (Names store) done answer
 
-  -- The file of this name was opened and read alone: it wasn't known what is in it, or it has tasks
-  -- of unknown jobs. Nothing was begun, and the file is the disk that was read.
+  -- The file of this name was opened and only read: no state was found in it, or tasks of unknown
+  -- jobs. Nothing was started, and the file is the disk that was read.
   pub record LooksFirst (store : List ℕ) (answer : Result Done Failure)
       (f0 f1 : F) (w0 w1 : Option (List ℕ)) : Type 0 where
     pub given : D
@@ -63,7 +82,7 @@ module _ {F D : Type 0} (state : D → DiskState) (seen : FilesView F D) where
     pub stops : StopsAt state store given answer read
     pub output : w1 ≡ w0
 
-  -- Where there were fewer lists of jobs than workers, nothing was done.
+  -- If there were fewer lists of jobs than workers, nothing was done.
   abbrev pub DoesCrew : (store : List ℕ) → (workers lists : ℕ) → (known : Bool)
       → Result Done Failure → (f0 f1 : F) → (w0 w1 : Option (List ℕ)) → Type 0
   DoesCrew store workers lists known answer f0 f1 w0 w1 =
@@ -74,19 +93,19 @@ module _ {F D : Type 0} (state : D → DiskState) (seen : FilesView F D) where
 
   -- ---- without a store's file
 
-  -- The input was run over a book in memory, all of it or, in a strict run, up to the first line
-  -- that strays.
+  -- The input was run over a book in memory: all of it, or in a strict run up to the first line
+  -- that is bad or refused.
   abbrev pub DoesDemo : (strict : Bool) → Result Done Failure
       → (r0 r1 w0 w1 : Option (List ℕ)) → Type 0
   DoesDemo strict answer r0 r1 w0 w1 =
-      (done : Result (Option StrayLine) RunFault) × DemoEnds (until_of strict) done r0 r1 w0 w1
+      (done : Result (Option RejectedLine) RunFault) × DemoEnds (until_of strict) done r0 r1 w0 w1
       × AnswersStrict (λ failure. failure.file ≡ None) done answer
 
-  -- ---- all words
+  -- ---- all subcommands
 
-  -- What was asked for was done, with so many lists of jobs, and a clock that tells these moments.
-  -- Input and files are untouched where it needs none.
-  abbrev pub Does : Asked → (lists : ℕ) → (moments : Option (List ℕ)) → Result Done Failure
+  -- What was asked for was done, with so many lists of jobs and a clock that shows these moments. A
+  -- subcommand that needs no input, or no files, leaves them untouched.
+  abbrev pub Does : Request → (lists : ℕ) → (moments : Option (List ℕ)) → Result Done Failure
       → (f0 f1 : F) → (r0 r1 w0 w1 : Option (List ℕ)) → Type 0
   Does (Demo strict) lists moments answer f0 f1 r0 r1 w0 w1 =
       DoesDemo strict answer r0 r1 w0 w1 × (f1 ≡ f0)
@@ -106,6 +125,8 @@ module _ {F D : Type 0} (state : D → DiskState) (seen : FilesView F D) where
       DoesRenew state seen is_new old.now new.now answer f0 f1 w0 w1 × (r1 ≡ r0)
   Does (RenewInPlace store) lists moments answer f0 f1 r0 r1 w0 w1 =
       DoesRenewInPlace state seen store.now answer f0 f1 w0 w1 × (r1 ≡ r0)
+  Does Plan lists moments answer f0 f1 r0 r1 w0 w1 =
+      DoesPlan answer r0 r1 w0 w1 × (f1 ≡ f0)
   Does (Help text) lists moments answer f0 f1 r0 r1 w0 w1 =
       DoesPrint (string_bytes text) answer w0 w1 × (f1 ≡ f0) × (r1 ≡ r0)
 
@@ -113,30 +134,30 @@ module _ {F D : Type 0} (state : D → DiskState) (seen : FilesView F D) where
 abbrev pub IsUntouched : {F : Type 0} → (f0 f1 : F) → (r0 r1 w0 w1 : Option (List ℕ)) → Type 0
 IsUntouched f0 f1 r0 r1 w0 w1 = (f1 ≡ f0) × (r1 ≡ r0) × (w1 ≡ w0)
 
--- The words ask for nothing, and nothing was done but to tell why.
+-- The arguments ask for nothing. The reason was printed, and nothing else was done.
 abbrev pub IsRefused : {F : Type 0} → WordsFault → Ended → (f0 f1 : F)
-    → (r0 r1 w0 w1 : Option (List ℕ)) → (e0 e1 : TellState) → Type 0
+    → (r0 r1 w0 w1 : Option (List ℕ)) → (e0 e1 : SinkState) → Type 0
 IsRefused why ended f0 f1 r0 r1 w0 w1 e0 e1 =
     Refuses why ended e0 e1 × IsUntouched f0 f1 r0 r1 w0 w1
 
 module _ {F D : Type 0} (state : D → DiskState) (seen : FilesView F D) where
-  -- What was read of the words was done, with so many lists of jobs and a clock that tells these
-  -- moments, and told where it failed. A hint was told before it, where a terminal is the input.
-  abbrev pub Obeys : Result Asked WordsFault → (lists : ℕ) → (moments : Option (List ℕ))
+  -- What the arguments ask for was done, with so many lists of jobs and a clock that shows these
+  -- moments, and how it ended was printed. A hint was printed before, if the input is a terminal.
+  abbrev pub Obeys : Result Request WordsFault → (lists : ℕ) → (moments : Option (List ℕ))
       → (is_terminal : Bool) → Ended
-      → (f0 f1 : F) → (r0 r1 w0 w1 : Option (List ℕ)) → (e0 e1 : TellState) → Type 0
+      → (f0 f1 : F) → (r0 r1 w0 w1 : Option (List ℕ)) → (e0 e1 : SinkState) → Type 0
   Obeys (Ok asked) lists moments is_terminal ended f0 f1 r0 r1 w0 w1 e0 e1 =
       (answer : Result Done Failure) × Does state seen asked lists moments answer f0 f1 r0 r1 w0 w1
-      × ((e : TellState) × Hints (is_terminal && reads_lines asked) e0 e
+      × ((e : SinkState) × Hints (is_terminal && reads_lines asked) e0 e
       × EndsBy answer ended e e1)
   Obeys (Err why) lists moments is_terminal ended f0 f1 r0 r1 w0 w1 e0 e1 =
       IsRefused why ended f0 f1 r0 r1 w0 w1 e0 e1
 
-  -- The words were read, and what they ask for was done.
+  -- The arguments were read, and what they ask for was done.
   abbrev pub RunsWords : List (List ℕ) → (lists : ℕ) → (moments : Option (List ℕ))
       → (is_terminal : Bool) → Ended
-      → (f0 f1 : F) → (r0 r1 w0 w1 : Option (List ℕ)) → (e0 e1 : TellState) → Type 0
+      → (f0 f1 : F) → (r0 r1 w0 w1 : Option (List ℕ)) → (e0 e1 : SinkState) → Type 0
   RunsWords words lists moments is_terminal ended f0 f1 r0 r1 w0 w1 e0 e1 =
-      (read : Result Asked WordsFault) × IsAnswer (faults_of words) read
+      (read : Result Request WordsFault) × IsAnswer (faults_of words) read
       × IfOk read (λ asked. AsksFor asked words) × IfErr read (λ why. IsCausedBy why words)
       × Obeys read lists moments is_terminal ended f0 f1 r0 r1 w0 w1 e0 e1

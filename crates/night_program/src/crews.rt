@@ -2,24 +2,23 @@
 
 ghost use Rattle.std.specs.Prelude.{◌≡◌, ◌≤◌, vec_len};
 ghost use Rattle.night_program.specs.Crews.{AnswersCrew};
-ghost use Rattle.word_endings.specs.Failures.{Names};
+ghost use Rattle.store_words.specs.Failures.{Names};
 ghost use Rattle.night_program.specs.Programs.{DoesCrew};
 
-use console_lines::{RunFault, stopped};
-use run_console::crew_over;
-use run_crew::{Job, OpenGate};
+use crate::known::unknown_on;
+use console_lines::RunFault;
+use run_crew::{Job, OpenGate, crew_over};
 use std::alloc::Global;
 use std::io::Write;
 use std::sync::Wait;
 use std::thread::Threads;
-use store_files::{Files, Opened, Why};
-use store_words::unknown_on;
-use word_endings::{Done, Failure, done_alone, failed_over, no_file};
+use store_files::{Files, FirstError, Opened};
+use store_words::{Done, Failure, done_alone, failed_over, no_file};
 
-/// Opens the store in the file of this name, and works off its ready tasks with so many workers,
-/// who take the first of these lists of jobs. `Memory` if there are fewer lists. If the jobs are to
-/// be known, the store is read first, and nothing is begun when a task that isn't ended has another
-/// one.
+/// Opens the store in the file with this name, and runs its ready tasks with `workers` workers.
+/// Each takes one of the lists of jobs; if there are fewer lists than workers, the fault is
+/// `Memory`. With `known` the store is read first, and nothing is started if a task that hasn't
+/// ended has a job that the crew doesn't know.
 pub fn crew_file<'a, F: Files, O: Write, R: Threads + Wait + Sync>(
     rt: &R,
     alloc: Global,
@@ -40,7 +39,7 @@ pub fn crew_file<'a, F: Files, O: Write, R: Threads + Wait + Sync>(
     jobs.truncate(usize::from(workers));
     let Opened { mut disk, why } = match files.open(store) {
         Ok(opened) => opened,
-        Err(reason) => return Err(no_file(store, reason)),
+        Err(error) => return Err(no_file(store, error)),
     };
     if known {
         match unknown_on(alloc, &mut disk) {
@@ -51,7 +50,7 @@ pub fn crew_file<'a, F: Files, O: Write, R: Threads + Wait + Sync>(
             }
             Err(fault) => {
                 files.close(store, disk);
-                return Err(failed_over(stopped(fault), store, &why));
+                return Err(failed_over(RunFault::from(fault), store, &why));
             }
         }
     }
@@ -60,8 +59,8 @@ pub fn crew_file<'a, F: Files, O: Write, R: Threads + Wait + Sync>(
     worked(done, store, &why)
 }
 
-/// What came of a crew's night over the store in the file of this name.
-fn worked<'a, Y: Why>(
+/// The result of a crew's night over the store in the file of this name.
+fn worked<'a, Y: FirstError>(
     done: Result<bool, RunFault>,
     store: &'a str,
     why: &Y,

@@ -2,18 +2,18 @@
 
 ghost use Rattle.std.specs.Prelude.{◌≡◌, bytes_eq, codes};
 ghost use Rattle.run_model.specs.Texts.{IsText};
-ghost use Rattle.crew_workers.specs.declared.jobs.Turn.TheVariants as turn;
+ghost use Rattle.run_crew.specs.declared.jobs.Turn.TheVariants as turn;
 ghost use Rattle.night_program.specs.Jobs.{goes_on, number_in, spin_turn};
 
 use run_crew::{Job, Turn};
 use run_model::{Name, TaskInfo, Text};
 
-/// The longest argument of `spin` has so many digits.
+/// The longest argument of `spin` has this many digits.
 const MOST_DIGITS: usize = 4;
 
-/// Does `spin`: as many turns as its argument says, and one that ends. The argument is 1 to 4
-/// digits, else the task fails as `bad argument`. It fails as `canceled` when it is told that its
-/// scope is done.
+/// Does `spin`: it takes as many turns as its argument says, and one more that ends the task. The
+/// argument has 1 to 4 digits; otherwise the task fails as `bad argument`. If its scope is done,
+/// the task fails as `canceled`.
 #[derive(Drop)]
 pub struct SpinJob;
 
@@ -31,7 +31,7 @@ impl Job for SpinJob {
     }
 }
 
-/// Does `fail`: it fails at once, with its argument as the error.
+/// Does `fail`: it fails at once, and its argument is the error.
 #[derive(Drop)]
 pub struct FailJob;
 

@@ -1,4 +1,4 @@
-//! What one run of the program leaves of a store, and what the next one finds.
+//! Laws about what one run of the program leaves of a store, and what the next one finds.
 
 ghost use Rattle.std.specs.Prelude.{◌≡◌, ℕ, List, Bool, Option, Ok, Result, ⊤};
 ghost use Rattle.std.specs.Io.KnownBytes.{Appends};
@@ -6,24 +6,30 @@ ghost use Rattle.run_model.specs.State.{State, formatted};
 ghost use Rattle.book_model.specs.Books.{CarriesOn, BookView, acked};
 ghost use Rattle.book_model.specs.Openings.{HasFormatted, Opens};
 ghost use Rattle.book_model.specs.Standing.{LiesWith};
-ghost use Rattle.book_model.specs.Stores.{Stores, StoresFront, restarted};
+ghost use Rattle.book_model.specs.Stores.{Stores, StoresPrefix, restarted};
 ghost use Rattle.console_lines.specs.declared.faults.RunFault.{RunFault};
-ghost use Rattle.run_console.specs.Crews.{CrewEnds, StoresNight};
+ghost use Rattle.console_lines.specs.declared.rejections.RejectedLine.{RejectedLine};
+ghost use Rattle.run_crew.specs.Crews.{CrewEnds, StoresNight};
+ghost use Rattle.run_console.specs.declared.untils.Until.{Until};
 ghost use Rattle.night_program.specs.Crews.{IsOpen};
+ghost use Rattle.night_program.specs.CutScripts.{IsRunOver};
 ghost use Rattle.night_program.specs.Lasting.{Run, RunsLeave, StoresAfterRuns, StoresWork};
-ghost use Rattle.night_requests.specs.declared.asked.View.{View};
+ghost use Rattle.night_program.specs.Scripts.{ScriptEnds};
+ghost use Rattle.night_program.specs.Timed.{TimedEnds};
+ghost use Rattle.state_views.specs.declared.views.View.{View};
 ghost use Rattle.store_words.specs.Lasting.{FindsLeft, IsReadAlone};
 ghost use Rattle.store_words.specs.Sources.{Serves};
 ghost use Rattle.store_words.specs.Stores.{InspectEnds, view_text};
 
 use run_disk::RunDisk;
 
-/// What one run of the program leaves of a store, the next one finds, if an opening finds what a
-/// crash of the disk that was last there may have left: after a format the state of root alone;
-/// after a script that was cut at any moment the state that was there, or what a restart of it and
-/// a prefix of the accepted events lead to; if it was cut from some place of its row on, all that
-/// was acknowledged there; after a crew the same, of starts and finishes. And an inspection that is
-/// done prints what its view shows of the state that it finds.
+/// The next run of the program finds what the one before it has left of a store, if each opening
+/// finds what a crash of the disk may have left. After a format this is the state that has no row
+/// but root. After a script that was cut off at any moment it is the state that was there, or the
+/// state after its restart and a prefix of the accepted events; if the script was cut off after
+/// some moment, the prefix contains everything that was acknowledged by then. The same holds after
+/// a crew, whose events are starts and finishes. An inspection that succeeds prints what its view
+/// shows of the state that it finds.
 pub fn a_store_lasts_from_run_to_run<D: RunDisk>()
     ensures format { (given left next : D) → (made : HasFormatted (D.state given) (D.state left))
         → (D.state given).honest → FindsLeft D.state left left next
@@ -35,7 +41,7 @@ pub fn a_store_lasts_from_run_to_run<D: RunDisk>()
     ensures held { (given next : D) (p : State) (b m c : BookView D) → LiesWith D.state given p
         → Opens D.state given (Ok b) → CarriesOn D.state b m → CarriesOn D.state m c
         → FindsLeft D.state m.journal.disk c.journal.disk next
-        → StoresFront (restarted p) c.session.history (acked m) (D.state next).now }
+        → StoresPrefix (restarted p) c.session.history (acked m) (D.state next).now }
     ensures crew { (given left next : D) (p : State) (workers : ℕ) (answer : Result Bool RunFault)
         (w0 w1 : Option (List ℕ)) → LiesWith D.state given p
         → CrewEnds D.state IsOpen given workers answer left w0 w1
@@ -47,13 +53,13 @@ pub fn a_store_lasts_from_run_to_run<D: RunDisk>()
         → Appends w0 w1 (view_text view p) }
 {}
 
-/// Whatever runs of the program come one after another over a store, each ended anywhere, lose
-/// nothing that they printed as acknowledged, if each opening finds what a crash may have left of
-/// the disk that was there: the state after them is the one that was stored, changed run by run. A
-/// script and a crew change it by a restart and a prefix of their events, with every acknowledged
-/// one in it; a format makes root alone of it, a migration the state in the large layout, a renewal
-/// the renewed one. What only reads a store changes nothing: an inspection, and the look at an old
-/// store before a new one is made of it.
+/// Take any number of runs of the program over a store, one after another, each of which may end at
+/// any moment. They lose nothing that they have printed as acknowledged, if each opening finds what
+/// a crash may have left of the disk. The state after them is the one that was stored, changed run
+/// by run. A script and a crew change it by a restart and a prefix of their events, which contains
+/// every acknowledged one. A format makes it a state that has no row but root, a migration puts it
+/// into the large layout, and a renewal renews it. Whatever only reads a store changes nothing: an
+/// inspection, and the reading of an old store before a new one is made of it.
 pub fn many_runs_lose_nothing_acknowledged<D: RunDisk>()
     ensures runs { (given next : D) (p : State) (runs : List Run) → LiesWith D.state given p
         → RunsLeave D.state given runs next → StoresAfterRuns p runs (D.state next).now }
@@ -62,4 +68,19 @@ pub fn many_runs_lose_nothing_acknowledged<D: RunDisk>()
         → IsReadAlone (D.state given) (D.state left) }
     ensures source { (given read : D) → Serves (D.state given) (D.state read)
         → IsReadAlone (D.state given) (D.state read) }
+{}
+
+/// A script runs lines over the store if the store can be opened, as
+/// [`many_runs_lose_nothing_acknowledged`] assumes. This holds for strict runs and others, with the
+/// machine's time before the lines or without.
+pub fn a_script_runs_lines<D: RunDisk>()
+    ensures script { (until : Until) (done : Result (Option RejectedLine) RunFault)
+        (given left : D) (r0 r1 w0 w1 : Option (List ℕ))
+        → ScriptEnds D.state until given done left r0 r1 w0 w1
+        → IsRunOver D.state given left }
+    ensures timed { (moments : Option (List ℕ)) (until : Until)
+        (done : Result (Option RejectedLine) RunFault) (given left : D)
+        (r0 r1 w0 w1 : Option (List ℕ))
+        → TimedEnds moments D.state until given done left r0 r1 w0 w1
+        → IsRunOver D.state given left }
 {}

@@ -1,17 +1,25 @@
-//! All that the program `night` does, over whatever words, files, input and outputs it is given.
+//! Everything that the program `night` does, over any arguments, files, input and outputs.
 //!
-//! [`night`] reads the words and does what they ask for: a word that runs lines by the functions of
-//! `line_words`, another over a store by those of `store_words`, and a crew's night by those of
-//! `run_console`. The jobs of its crews are [`SpinJob`], [`FailJob`] and [`CopyJob`], which the
-//! caller boxes.
+//! [`night`] reads the arguments, and runs the subcommand that they ask for. `demo`, `script` and
+//! `crew` are in this crate: [`script`] runs lines over a store, and `crew` runs a crew over one.
+//! The subcommands that only work on stores are in `store_words`. The jobs of a crew are
+//! [`SpinJob`], [`FailJob`] and [`CopyJob`], which the caller boxes.
 #![tactic(auto)]
 
 mod crews;
+mod demos;
 mod jobs;
+mod known;
 mod lasting;
+mod plans;
 mod programs;
+mod scripts;
+mod timed;
 
 pub use jobs::{CopyJob, FailJob, SpinJob};
-pub use lasting::{a_store_lasts_from_run_to_run, many_runs_lose_nothing_acknowledged};
+pub use lasting::{
+    a_script_runs_lines, a_store_lasts_from_run_to_run, many_runs_lose_nothing_acknowledged,
+};
 pub use programs::night;
-pub use word_endings::{Ended, Streams};
+pub use scripts::script;
+pub use store_words::{Ended, Streams};

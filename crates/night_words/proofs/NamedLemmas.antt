@@ -18,19 +18,20 @@ use Rattle.clap.specs.declared.parser.matches.ArgMatches.TheViews.{out-ArgMatche
 use Rattle.clap.specs.declared.parser.matches.SubCommand.{SubCommand}
 use Rattle.night_words.specs.Commands.{Asks, IsCrew, IsForTwo, IsInspect, IsNamed, IsRenewal}
 use Rattle.night_words.specs.Commands.{IsView, Named, NamesCrew, NamesDemo, NamesFormat}
-use Rattle.night_words.specs.Commands.{NamesInspect, NamesMigration, NamesRenewal, NamesScript}
+use Rattle.night_words.specs.Commands.{NamesInspect, NamesMigration, NamesPlan, NamesRenewal}
+use Rattle.night_words.specs.Commands.{NamesScript}
 use Rattle.night_words.specs.Commands.{command_in, has_flag, is_true, named_by, named_in, new_by}
 use Rattle.night_words.specs.Commands.{word_in, workers_of}
-use Rattle.night_requests.specs.declared.asked.Asked.{Asked}
-use Rattle.night_requests.specs.declared.asked.Asked.TheVariants.{Crew, Inspect, Migrate, Renew}
-use Rattle.night_requests.specs.declared.asked.Asked.TheVariants.{RenewInPlace}
-use Rattle.night_requests.specs.declared.asked.View.{View}
-use Rattle.night_requests.specs.declared.asked.WordsFault.{WordsFault}
-use Rattle.night_requests.specs.declared.asked.WordsFault.TheVariants.{NoTree, Phase, Place}
-use Rattle.night_requests.specs.declared.asked.WordsFault.TheVariants.{SameStores}
-use Rattle.night_requests.specs.declared.asked.WordsFault.TheVariants.{Views, Workers}
-use Rattle.night_words.proofs.PlaceLemmas.{crews, demos, formats, inspects, migrates, renews}
-use Rattle.night_words.proofs.PlaceLemmas.{scripts, word_of}
+use Rattle.night_words.specs.declared.requests.Request.{Request}
+use Rattle.night_words.specs.declared.requests.Request.TheVariants.{Crew, Inspect, Migrate, Renew}
+use Rattle.night_words.specs.declared.requests.Request.TheVariants.{RenewInPlace}
+use Rattle.state_views.specs.declared.views.View.{View}
+use Rattle.night_words.specs.declared.faults.WordsFault.{WordsFault}
+use Rattle.night_words.specs.declared.faults.WordsFault.TheVariants.{NoTree, Phase, Place}
+use Rattle.night_words.specs.declared.faults.WordsFault.TheVariants.{SameStores}
+use Rattle.night_words.specs.declared.faults.WordsFault.TheVariants.{Views, Workers}
+use Rattle.night_words.proofs.PlaceLemmas.{crews, demos, formats, inspects, migrates, plans}
+use Rattle.night_words.proofs.PlaceLemmas.{renews, scripts, word_of}
 use Rattle.night_words.proofs.ViewLemmas.{view_alike}
 
 -- what is read of a subcommand and of its matches
@@ -128,7 +129,11 @@ module _ (m : ArgMatches) (command : Bor Text) (inner : Bor ArgMatches)
     demo_here strict is read =
         (command_here (word_of demos) is, flag_here (codes "strict") strict read)
 
-    -- so it is where it is `format`
+    -- so it is where it is `plan`
+    pub plan_here : command.now ≡ word_of plans → NamesPlan entered
+    plan_here is = command_here (word_of plans) is
+
+    -- and where it is `format`
     pub format_here : (store : Text) (is_new : Bool) → command.now ≡ word_of formats
         → Some store ≡ found (codes "STORE") → is_new ≡ is_true (found (codes "new"))
         → NamesFormat store is_new entered
@@ -151,7 +156,8 @@ module _ (m : ArgMatches) (command : Bor Text) (inner : Bor ArgMatches)
 
     -- and where it is `crew`
     pub crew_here : (store : Text) (count workers : Option Text) (known : Bool)
-        (r : Result Asked WordsFault) → command.now ≡ word_of crews → count ≡ found (codes "STORE")
+        (r : Result Request WordsFault) → command.now ≡ word_of crews
+        → count ≡ found (codes "STORE")
         → store ≡ unwrap_or count [] → workers ≡ found (codes "workers")
         → known ≡ is_true (found (codes "known")) → IsCrew store workers known r → Asks entered r
     crew_here store count workers known r is read whole given knows made = go r made
@@ -166,13 +172,14 @@ module _ (m : ArgMatches) (command : Bor Text) (inner : Bor ArgMatches)
           flag_here (codes "known") known knows ∙ sym same,
         )
 
-        go : (r : Result Asked WordsFault) → IsCrew store workers known r → Asks entered r
+        go : (r : Result Request WordsFault) → IsCrew store workers known r → Asks entered r
         go (Ok (Crew s n k)) made = finds s.now (Some n) k made.0 made.1 made.2
         go (Err Workers) made = (store, (known, finds store None known refl made refl))
         go other made = absurd made
 
     -- and where it is `inspect`
-    pub inspect_here : (store : Text) (r : Result Asked WordsFault) → command.now ≡ word_of inspects
+    pub inspect_here : (store : Text) (r : Result Request WordsFault)
+        → command.now ≡ word_of inspects
         → Some store ≡ found (codes "STORE") → IsInspect store found r → Asks entered r
     inspect_here store r is stored made = go r made
       where
@@ -185,7 +192,7 @@ module _ (m : ArgMatches) (command : Bor Text) (inner : Bor ArgMatches)
           view_alike (λ id. word_in id entered) found word_here view made,
         )
 
-        go : (r : Result Asked WordsFault) → IsInspect store found r → Asks entered r
+        go : (r : Result Request WordsFault) → IsInspect store found r → Asks entered r
         go (Ok (Inspect s view)) made = finds s.now (Ok view) made.0 made.1
         go (Err Views) made = (store, finds store (Err Views) refl made)
         go (Err NoTree) made = (store, finds store (Err NoTree) refl made)
@@ -194,7 +201,7 @@ module _ (m : ArgMatches) (command : Bor Text) (inner : Bor ArgMatches)
 
     -- and where it is `renew`
     pub renewal_here : (store : Text) (new : Option Text) (is_new in_place : Bool)
-        (r : Result Asked WordsFault) → command.now ≡ word_of renews
+        (r : Result Request WordsFault) → command.now ≡ word_of renews
         → Some store ≡ found (codes "STORE") → new ≡ found (codes "NEW")
         → is_new ≡ is_true (found (codes "new"))
         → in_place ≡ is_true (found (codes "in-place")) → IsRenewal store new is_new in_place r
@@ -212,7 +219,8 @@ module _ (m : ArgMatches) (command : Bor Text) (inner : Bor ArgMatches)
           flag_here (codes "in-place") in_place there ∙ set,
         )
 
-        go : (r : Result Asked WordsFault) → IsRenewal store new is_new in_place r → Asks entered r
+        go : (r : Result Request WordsFault) → IsRenewal store new is_new in_place r
+            → Asks entered r
         go (Ok (Renew o n b)) made = (
           finds o.now (Some n.now) b false made.0 made.1 (sym made.2) made.3,
           λ same. made.4 (sym made.0 ∙ same),
@@ -226,7 +234,7 @@ module _ (m : ArgMatches) (command : Bor Text) (inner : Bor ArgMatches)
         go other made = absurd made
 
     -- and where it is `migrate`
-    pub migration_here : (store given : Text) (is_new : Bool) (r : Result Asked WordsFault)
+    pub migration_here : (store given : Text) (is_new : Bool) (r : Result Request WordsFault)
         → command.now ≡ word_of migrates → Some store ≡ found (codes "STORE")
         → Some given ≡ found (codes "NEW") → is_new ≡ is_true (found (codes "new"))
         → IsForTwo false is_new store given r → Asks entered r
@@ -242,7 +250,7 @@ module _ (m : ArgMatches) (command : Bor Text) (inner : Bor ArgMatches)
           flag_here (codes "new") is_new any ∙ sym alone,
         )
 
-        go : (r : Result Asked WordsFault) → IsForTwo false is_new store given r → Asks entered r
+        go : (r : Result Request WordsFault) → IsForTwo false is_new store given r → Asks entered r
         go (Ok (Migrate o n b)) made = (
           finds o.now n.now b made.2 made.3 made.1,
           λ same. made.4 (sym made.2 ∙ (same ∙ made.3)),
@@ -278,40 +286,44 @@ store_clash named name command store none some =
     let bad : false ≡ true = ap has_store (sym none ∙ some) in
     cc
 
--- a command without a store is `demo` or `crew`
+-- a command without a store is `demo`, `plan` or `crew`
 pub no_store : (named : Named) (new : Option Text) (name : Text) → IsNamed named new
-    → named ≡ Some (name, None) → (name ≡ word_of demos → ⊥) → (name ≡ word_of crews → ⊥) → ⊥
-no_store named new name which is no_demo no_crew = go which
+    → named ≡ Some (name, None) → (name ≡ word_of demos → ⊥) → (name ≡ word_of plans → ⊥)
+    → (name ≡ word_of crews → ⊥) → ⊥
+no_store named new name which is no_demo no_plan no_crew = go which
   where
     clash : (command store : Text) → named ≡ Some (command, Some store) → ⊥
     clash command store e = store_clash named name command store is e
 
     go : IsNamed named new → ⊥
     go (inl (first, e)) = no_demo (ap name_in (sym is ∙ e))
-    go (inr (inl (first, e))) = no_crew (ap name_in (sym is ∙ e))
-    go (inr (inr (store, inl e))) = clash (word_of formats) store e
-    go (inr (inr (store, inr (inl e)))) = clash (word_of scripts) store e
-    go (inr (inr (store, inr (inr (inl e))))) = clash (word_of inspects) store e
-    go (inr (inr (store, inr (inr (inr (inl e)))))) = clash (word_of renews) store e
-    go (inr (inr (store, inr (inr (inr (inr (given, n))))))) = clash (word_of migrates) store n.0
+    go (inr (inl (first, e))) = no_plan (ap name_in (sym is ∙ e))
+    go (inr (inr (inl (first, e)))) = no_crew (ap name_in (sym is ∙ e))
+    go (inr (inr (inr (store, inl e)))) = clash (word_of formats) store e
+    go (inr (inr (inr (store, inr (inl e))))) = clash (word_of scripts) store e
+    go (inr (inr (inr (store, inr (inr (inl e)))))) = clash (word_of inspects) store e
+    go (inr (inr (inr (store, inr (inr (inr (inl e))))))) = clash (word_of renews) store e
+    go (inr (inr (inr (store, inr (inr (inr (inr (given, n)))))))) =
+        clash (word_of migrates) store n.0
 
 -- a command over a store that is none of the others is `migrate`
 pub two_left : (named : Named) (new : Option Text) (name store : Text) → IsNamed named new
-    → named ≡ Some (name, Some store) → (name ≡ word_of demos → ⊥) → (name ≡ word_of crews → ⊥)
-    → (name ≡ word_of formats → ⊥) → (name ≡ word_of scripts → ⊥)
+    → named ≡ Some (name, Some store) → (name ≡ word_of demos → ⊥) → (name ≡ word_of plans → ⊥)
+    → (name ≡ word_of crews → ⊥) → (name ≡ word_of formats → ⊥) → (name ≡ word_of scripts → ⊥)
     → (name ≡ word_of inspects → ⊥) → (name ≡ word_of renews → ⊥)
     → (name ≡ word_of migrates) × ((given : Text) × (new ≡ Some given))
-two_left named new name store which is no_demo no_crew no_format no_script no_inspect no_renew =
-    go which
+two_left named new name store which is no_demo no_plan no_crew no_format no_script no_inspect
+    no_renew = go which
   where
     go : IsNamed named new → (name ≡ word_of migrates) × ((given : Text) × (new ≡ Some given))
     go (inl (first, e)) = absurd (no_demo (ap name_in (sym is ∙ e)))
-    go (inr (inl (first, e))) = absurd (no_crew (ap name_in (sym is ∙ e)))
-    go (inr (inr (s, inl e))) = absurd (no_format (ap name_in (sym is ∙ e)))
-    go (inr (inr (s, inr (inl e)))) = absurd (no_script (ap name_in (sym is ∙ e)))
-    go (inr (inr (s, inr (inr (inl e))))) = absurd (no_inspect (ap name_in (sym is ∙ e)))
-    go (inr (inr (s, inr (inr (inr (inl e)))))) = absurd (no_renew (ap name_in (sym is ∙ e)))
-    go (inr (inr (s, inr (inr (inr (inr (given, n))))))) =
+    go (inr (inl (first, e))) = absurd (no_plan (ap name_in (sym is ∙ e)))
+    go (inr (inr (inl (first, e)))) = absurd (no_crew (ap name_in (sym is ∙ e)))
+    go (inr (inr (inr (s, inl e)))) = absurd (no_format (ap name_in (sym is ∙ e)))
+    go (inr (inr (inr (s, inr (inl e))))) = absurd (no_script (ap name_in (sym is ∙ e)))
+    go (inr (inr (inr (s, inr (inr (inl e)))))) = absurd (no_inspect (ap name_in (sym is ∙ e)))
+    go (inr (inr (inr (s, inr (inr (inr (inl e))))))) = absurd (no_renew (ap name_in (sym is ∙ e)))
+    go (inr (inr (inr (s, inr (inr (inr (inr (given, n)))))))) =
         (ap name_in (sym is ∙ n.0), (given, n.1))
 
 -- a new store is there

@@ -32,6 +32,7 @@ pub data Command : Type 0 where
   migrates : Command
   crews : Command
   renews : Command
+  plans : Command
 
 -- the name of each, and its place among them
 abbrev pub entry_of : Command → Text × ℕ
@@ -42,6 +43,7 @@ entry_of inspects = (codes "inspect", 3)
 entry_of migrates = (codes "migrate", 4)
 entry_of crews = (codes "crew", 5)
 entry_of renews = (codes "renew", 6)
+entry_of plans = (codes "plan", 7)
 
 abbrev pub word_of : Command → Text
 word_of c = (entry_of c).0
@@ -114,6 +116,7 @@ formed renews = record {
     ),
   );
 }
+formed plans = record { once = refl; forms = (is_help refl, tt) }
 
 -- no flag and no option of the command is there, by the words that were found; of a crew's words
 -- nothing is shown
@@ -125,6 +128,7 @@ IsUnset scripts word = (is_true (word (codes "strict")) ≡ false)
 IsUnset inspects word = AsksViews false false false false false word
 IsUnset migrates word = is_true (word (codes "new")) ≡ false
 IsUnset crews word = ⊥
+IsUnset plans word = Unit {0}
 IsUnset renews word = (is_true (word (codes "new")) ≡ false)
     × (is_true (word (codes "in-place")) ≡ false)
 
@@ -152,6 +156,7 @@ quiet inspects rows unset =
     (neither _ _ unset.2 (neither _ _ unset.4 (neither _ _ unset.3 refl))))))
 quiet migrates rows unset = neither _ _ unset refl
 quiet crews rows unset = absurd unset
+quiet plans rows unset = refl
 quiet renews rows unset = neither _ _ unset.0 (neither _ _ unset.1 refl)
 
 -- ---- where the walk stands after values alone
@@ -160,6 +165,7 @@ quiet renews rows unset = neither _ _ unset.0 (neither _ _ unset.1 refl)
 abbrev Fits : List Text → Command → Type 0
 Fits [] c = Unit {0}
 Fits (x ∷ []) demos = ⊥
+Fits (x ∷ []) plans = ⊥
 Fits (x ∷ []) c = Unit {0}
 Fits (x ∷ y ∷ []) migrates = Unit {0}
 Fits (x ∷ y ∷ []) renews = Unit {0}
@@ -197,11 +203,13 @@ value_goes : (vs : List Text) (c : Command) (t : Bool) (word : Text)
     × (to_positional (shape c).rules (arg_by_index (shape c).rules (position_by vs)) word
     (placed vs t) (held (rows_by vs) (pending_by vs)) ≡ placed (vs ++ word ∷ []) (t || false))
 value_goes [] demos t word none = cc
+value_goes [] plans t word none = cc
 value_goes [] c t word none = (tt, refl)
 value_goes (x ∷ []) migrates t word none = (tt, refl)
 value_goes (x ∷ []) renews t word none = (tt, refl)
 value_goes (x ∷ []) c t word none = cc
 value_goes (x ∷ y ∷ vs) demos t word none = cc
+value_goes (x ∷ y ∷ vs) plans t word none = cc
 value_goes (x ∷ y ∷ vs) c t word none = cc
 
 -- the words are the program's own name, a command and these values, with the mark among them
@@ -299,6 +307,7 @@ ReadsStore rows = (x : Text) × (first_of (codes "STORE") rows ≡ Some x)
 -- the stores that the command needs were read
 abbrev pub Stored : Command → List Row → Type 0
 Stored demos rows = Unit {0}
+Stored plans rows = Unit {0}
 Stored migrates rows = ReadsStore rows
     × ((x : Text) × (first_of (codes "NEW") rows ≡ Some x))
 Stored c rows = ReadsStore rows
@@ -306,6 +315,7 @@ Stored c rows = ReadsStore rows
 -- the words name what was read alone
 abbrev pub Alone : Command → List Row → List Text → Type 0
 Alone demos rows words = AsksAlone (word_of demos) words
+Alone plans rows words = AsksAlone (word_of plans) words
 Alone migrates rows words = (old given : Text) → first_of (codes "STORE") rows ≡ Some old
     → first_of (codes "NEW") rows ≡ Some given → AsksForTwo (word_of migrates) old given words
 Alone renews rows words = (old given : Text) → first_of (codes "STORE") rows ≡ Some old
@@ -335,6 +345,7 @@ both_given false b none = cc
 stores_read : (c : Command) (rows : List Row) → IsFull rows
     → check_fault (shape c) rows false ≡ [] → Stored c rows
 stores_read demos rows full none = tt
+stores_read plans rows full none = tt
 stores_read migrates rows full none =
     let both = both_given (is_given (codes "STORE") rows) (is_given (codes "NEW") rows) none in (
       given_is_read (codes "STORE") rows full both.0,
@@ -364,8 +375,10 @@ ends_alone : (vs : List Text) (c : Command) (words : List Text) → Fits vs c
     → Alone c (finished (shape c).rules (held (rows_by vs) (pending_by vs))) words
 unfolding clap_on_literals
 ends_alone [] demos words fits none asks = asks
+ends_alone [] plans words fits none asks = asks
 ends_alone [] c words fits none asks = cc
 ends_alone (x ∷ []) demos words fits none asks = absurd fits
+ends_alone (x ∷ []) plans words fits none asks = absurd fits
 ends_alone (x ∷ []) migrates words fits none asks = cc
 ends_alone (x ∷ []) renews words fits none asks = λ old given one two.
     let bad : Some given ≡ None = sym two in

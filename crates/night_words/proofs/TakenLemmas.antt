@@ -16,18 +16,18 @@ use Rattle.night_words.specs.Commands.{AsksForInspect, AsksForScript, AsksForTwo
 use Rattle.night_words.specs.Commands.{IsCausedBy, IsNamed, NamesMigration, NamesRenewal}
 use Rattle.night_words.specs.Commands.{command_in, faults_of, is_true, named_in, new_in, night}
 use Rattle.night_words.specs.Commands.{word_in}
-use Rattle.night_requests.specs.declared.asked.Asked.{Asked}
-use Rattle.night_requests.specs.declared.asked.Asked.TheVariants.{Help, Migrate, Renew}
-use Rattle.night_requests.specs.declared.asked.View.TheVariants.{Whole}
-use Rattle.night_requests.specs.declared.asked.WordsFault.{WordsFault}
-use Rattle.night_requests.specs.declared.asked.WordsFault.TheVariants.{Memory, Mistake, NotText}
-use Rattle.night_requests.specs.declared.asked.WordsFault.TheVariants.{SameStores}
+use Rattle.night_words.specs.declared.requests.Request.{Request}
+use Rattle.night_words.specs.declared.requests.Request.TheVariants.{Help, Migrate, Renew}
+use Rattle.state_views.specs.declared.views.View.TheVariants.{Whole}
+use Rattle.night_words.specs.declared.faults.WordsFault.{WordsFault}
+use Rattle.night_words.specs.declared.faults.WordsFault.TheVariants.{Memory, Mistake, NotText}
+use Rattle.night_words.specs.declared.faults.WordsFault.TheVariants.{SameStores}
 use Rattle.night_words.proofs.LevelLemmas.{first_passes, lower_passes, rest_passes, start}
 use Rattle.night_words.proofs.LevelLemmas.{words_pass}
 use Rattle.night_words.proofs.PlaceLemmas.{Command, IsOver, IsUnset, Passes, ReadsAlone, Reads}
 use Rattle.night_words.proofs.PlaceLemmas.{after_mark, crews, demos, first_alone, formats}
-use Rattle.night_words.proofs.PlaceLemmas.{inspects, migrates, over, reads, renews, scripts, shape}
-use Rattle.night_words.proofs.PlaceLemmas.{text_is, word_of}
+use Rattle.night_words.proofs.PlaceLemmas.{inspects, migrates, over, plans, reads, renews, scripts}
+use Rattle.night_words.proofs.PlaceLemmas.{shape, text_is, word_of}
 use Rattle.night_words.proofs.TurnLemmas.{above, above_is_strict, first_none, mark}
 use Rattle.night_words.proofs.TurnLemmas.{mark_or_value, second_none}
 use Rattle.night_words.proofs.ViewLemmas.{views_alike}
@@ -65,13 +65,13 @@ IsFirst word = ((c : Command) × (word ≡ word_of c)) ⊎ (word ≡ mark)
 first_word : (word : Text) → turn_fault above names start word ≡ [] → IsFirst word
 first_word word none =
     go (eq demos) (eq formats) (eq scripts) (eq inspects) (eq migrates) (eq crews) (eq renews)
-    (bytes_eq (codes "help") word) refl refl refl refl refl refl refl none
+    (eq plans) (bytes_eq (codes "help") word) refl refl refl refl refl refl refl refl none
   where
     eq : Command → Bool
     eq c = bytes_eq (word_of c) word
 
-    met : (d f s i m c r h : Bool) → Option Text
-    met d f s i m c r h = option_map (λ (n : Text × List Text). n.0)
+    met : (d f s i m c r p h : Bool) → Option Text
+    met d f s i m c r p h = option_map (λ (n : Text × List Text). n.0)
         (cond (d || false) (Some (word_of demos, []))
         (cond (f || false) (Some (word_of formats, []))
         (cond (s || false) (Some (word_of scripts, []))
@@ -79,28 +79,33 @@ first_word word none =
         (cond (m || false) (Some (word_of migrates, []))
         (cond (c || false) (Some (word_of crews, []))
         (cond (r || false) (Some (word_of renews, []))
-        (cond (h || false) (Some (codes "help", [])) None))))))))
+        (cond (p || false) (Some (word_of plans, []))
+        (cond (h || false) (Some (codes "help", [])) None)))))))))
 
     is : (c : Command) → bytes_eq (word_of c) word ≡ true → IsFirst word
     is c same = inl (c, sym ((bytes_eq-Decides (word_of c) word).0 same))
 
-    go : (d f s i m c r h : Bool) → bytes_eq (word_of demos) word ≡ d
+    go : (d f s i m c r p h : Bool) → bytes_eq (word_of demos) word ≡ d
         → bytes_eq (word_of formats) word ≡ f → bytes_eq (word_of scripts) word ≡ s
         → bytes_eq (word_of inspects) word ≡ i → bytes_eq (word_of migrates) word ≡ m
         → bytes_eq (word_of crews) word ≡ c → bytes_eq (word_of renews) word ≡ r
-        → or_else (other_fault above (met d f s i m c r h) word nothing_held)
+        → bytes_eq (word_of plans) word ≡ p
+        → or_else (other_fault above (met d f s i m c r p h) word nothing_held)
         (stepped above
-        (subcommand_or_other above.rules (met d f s i m c r h) idle 1 word nothing_held))
+        (subcommand_or_other above.rules (met d f s i m c r p h) idle 1 word nothing_held))
         ≡ [] → IsFirst word
-    go true f s i m c r h same e1 e2 e3 e4 e5 e6 none = is demos same
-    go false true s i m c r h e0 same e2 e3 e4 e5 e6 none = is formats same
-    go false false true i m c r h e0 e1 same e3 e4 e5 e6 none = is scripts same
-    go false false false true m c r h e0 e1 e2 same e4 e5 e6 none = is inspects same
-    go false false false false true c r h e0 e1 e2 e3 same e5 e6 none = is migrates same
-    go false false false false false true r h e0 e1 e2 e3 e4 same e6 none = is crews same
-    go false false false false false false true h e0 e1 e2 e3 e4 e5 same none = is renews same
-    go false false false false false false false true e0 e1 e2 e3 e4 e5 e6 none = cc
-    go false false false false false false false false e0 e1 e2 e3 e4 e5 e6 none =
+    go true f s i m c r p h same e1 e2 e3 e4 e5 e6 e7 none = is demos same
+    go false true s i m c r p h e0 same e2 e3 e4 e5 e6 e7 none = is formats same
+    go false false true i m c r p h e0 e1 same e3 e4 e5 e6 e7 none = is scripts same
+    go false false false true m c r p h e0 e1 e2 same e4 e5 e6 e7 none = is inspects same
+    go false false false false true c r p h e0 e1 e2 e3 same e5 e6 e7 none = is migrates same
+    go false false false false false true r p h e0 e1 e2 e3 e4 same e6 e7 none = is crews same
+    go false false false false false false true p h e0 e1 e2 e3 e4 e5 same e7 none =
+        is renews same
+    go false false false false false false false true h e0 e1 e2 e3 e4 e5 e6 same none =
+        is plans same
+    go false false false false false false false false true e0 e1 e2 e3 e4 e5 e6 e7 none = cc
+    go false false false false false false false false false e0 e1 e2 e3 e4 e5 e6 e7 none =
         let fails : step_fault above 1 nothing_held value ≡ [] → ⊥ = λ bad. cc in
         inr (only_the_mark above word fails
         (mark_or_value above above_is_strict 1 word [] None (first_none _ _ none))
@@ -223,15 +228,18 @@ taken_is_named words (takes c rows e r) = go c e r
     go : (c : Command) → entry words ≡ Some (word_of c, rows) → Reads c rows words
         → IsNamed (named_in (entry words)) (new_in (entry words))
     go demos e r = inl (first, ap named_in e)
-    go crews e r = inr (inl (first, ap named_in e))
-    go formats e r = inr (inr (r.stored.0, inl (store_named _ _ e r.stored.1)))
-    go scripts e r = inr (inr (r.stored.0, inr (inl (store_named _ _ e r.stored.1))))
-    go inspects e r = inr (inr (r.stored.0, inr (inr (inl (store_named _ _ e r.stored.1)))))
-    go renews e r = inr (inr (r.stored.0, inr (inr (inr (inl (store_named _ _ e r.stored.1))))))
+    go plans e r = inr (inl (first, ap named_in e))
+    go crews e r = inr (inr (inl (first, ap named_in e)))
+    go formats e r = inr (inr (inr (r.stored.0, inl (store_named _ _ e r.stored.1))))
+    go scripts e r = inr (inr (inr (r.stored.0, inr (inl (store_named _ _ e r.stored.1)))))
+    go inspects e r =
+        inr (inr (inr (r.stored.0, inr (inr (inl (store_named _ _ e r.stored.1))))))
+    go renews e r =
+        inr (inr (inr (r.stored.0, inr (inr (inr (inl (store_named _ _ e r.stored.1)))))))
     go migrates e r =
         let old = store_named (word_of migrates) r.stored.0.0 e r.stored.0.1 in
         let new = ap new_in e ∙ r.stored.1.1 in
-        inr (inr (r.stored.0.0, inr (inr (inr (inr (r.stored.1.0, (old, new)))))))
+        inr (inr (inr (r.stored.0.0, inr (inr (inr (inr (r.stored.1.0, (old, new))))))))
 
 -- the command that the parser entered is no other one
 not_named : (words : List Text) (rows : List Row) (c d : Command)
@@ -265,7 +273,7 @@ asks_renewal words old given (takes c rows e r) is =
     absurd (not_named words rows c renews refl e is.0)
 
 -- and what asks for it is asked for
-pub taken_asks : (words : List Text) (asked : Asked) → Taken words
+pub taken_asks : (words : List Text) (asked : Request) → Taken words
     → Asks (subcommand_of night words) (Ok asked) → AsksFor asked words
 taken_asks words (Migrate o g false) t is = (asks_migration words o.now g.now t is.0, is.1)
 taken_asks words (Renew o g false) t is = (asks_renewal words o.now g.now t is.0, is.1)

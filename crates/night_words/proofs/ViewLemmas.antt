@@ -5,10 +5,10 @@ use Rattle.std.specs.Borrow.{Bor}
 use Rattle.clap.specs.Walk.{Text}
 use Rattle.night_words.specs.Commands.{AsksSome, AsksViews, IsView, are_two, asks_some, asks_tasks}
 use Rattle.night_words.specs.Commands.{is_true, lacks_tree, names_phase}
-use Rattle.night_requests.specs.declared.asked.View.{View}
-use Rattle.night_requests.specs.declared.asked.View.TheVariants.{Json, Summary, Tasks, Tree, Whole}
-use Rattle.night_requests.specs.declared.asked.WordsFault.{WordsFault}
-use Rattle.night_requests.specs.declared.asked.WordsFault.TheVariants.{NoTree, Phase, Views}
+use Rattle.state_views.specs.declared.views.View.{View}
+use Rattle.state_views.specs.declared.views.View.TheVariants.{Json, Summary, Tasks, Tree, Whole}
+use Rattle.night_words.specs.declared.faults.WordsFault.{WordsFault}
+use Rattle.night_words.specs.declared.faults.WordsFault.TheVariants.{NoTree, Phase, Views}
 
 module _ (a b : Text → Option Text) (same : (id : Text) → a id ≡ b id) where
   flag_alike : (id : Text) → is_true (a id) ≡ is_true (b id)

@@ -15,22 +15,23 @@ use Rattle.clap.specs.declared.error.kind.ErrorKind.{ErrorKind}
 use Rattle.clap.specs.declared.error.kind.ErrorKind.TheVariants.{DisplayHelp, DisplayVersion}
 use Rattle.clap.specs.declared.error.kind.ErrorKind.TheVariants.{OutOfMemory}
 use Rattle.clap.specs.declared.parser.matches.ArgMatches.{ArgMatches}
-use Rattle.night_requests.specs.declared.asked.Asked.{Asked}
-use Rattle.night_requests.specs.declared.asked.Asked.TheVariants.{Crew, Demo, Format, Help}
-use Rattle.night_requests.specs.declared.asked.Asked.TheVariants.{Inspect, Migrate, Renew}
-use Rattle.night_requests.specs.declared.asked.Asked.TheVariants.{RenewInPlace, Script}
-use Rattle.night_requests.specs.declared.asked.View.{View}
-use Rattle.night_requests.specs.declared.asked.View.TheVariants.{Whole, Tasks, Json, Tree}
-use Rattle.night_requests.specs.declared.asked.View.TheVariants.{Summary}
-use Rattle.night_requests.specs.declared.asked.WordsFault.{WordsFault}
-use Rattle.night_requests.specs.declared.asked.WordsFault.TheVariants.{Mistake, NotText, Memory}
-use Rattle.night_requests.specs.declared.asked.WordsFault.TheVariants.{NoTree, Phase, Place}
-use Rattle.night_requests.specs.declared.asked.WordsFault.TheVariants.{SameStores}
-use Rattle.night_requests.specs.declared.asked.WordsFault.TheVariants.{Views, Workers}
+use Rattle.night_words.specs.declared.requests.Request.{Request}
+use Rattle.night_words.specs.declared.requests.Request.TheVariants.{Crew, Demo, Format, Help}
+use Rattle.night_words.specs.declared.requests.Request.TheVariants.{Inspect, Migrate, Plan, Renew}
+use Rattle.night_words.specs.declared.requests.Request.TheVariants.{RenewInPlace, Script}
+use Rattle.state_views.specs.declared.views.View.{View}
+use Rattle.state_views.specs.declared.views.View.TheVariants.{Whole, Tasks, Json, Tree}
+use Rattle.state_views.specs.declared.views.View.TheVariants.{Summary}
+use Rattle.night_words.specs.declared.faults.WordsFault.{WordsFault}
+use Rattle.night_words.specs.declared.faults.WordsFault.TheVariants.{Mistake, NotText, Memory}
+use Rattle.night_words.specs.declared.faults.WordsFault.TheVariants.{NoTree, Phase, Place}
+use Rattle.night_words.specs.declared.faults.WordsFault.TheVariants.{SameStores}
+use Rattle.night_words.specs.declared.faults.WordsFault.TheVariants.{Views, Workers}
 
 -- ---- the command line
 
--- `night` itself: it needs a command, it shows help if there is no word, and it has a version
+-- `night` without a subcommand. It needs one, prints its help if there are no arguments, and has a
+-- version.
 abbrev pub night_alone : Shape
 night_alone = record (new_app (codes "night")).top {
   has_version = true;
@@ -38,23 +39,23 @@ night_alone = record (new_app (codes "night")).top {
   subcommand_required = true;
 }
 
--- a flag, which stands alone
+-- A flag, which takes no value.
 abbrev pub flag : Text → Rule
 flag id = record (new_rule id) { long = Some id; action = Some SetTrue }
 
--- a command that takes a flag, and no word
+-- A subcommand that takes one flag, and nothing else.
 abbrev pub demo_line : App
 demo_line = with_rule (new_app (codes "demo")) (flag (codes "strict"))
 
--- a word that names a store, which is needed; help has one name for it
+-- A required argument that names a store. The help has one name for it.
 abbrev pub wanted : Text → Rule
 wanted id = record (new_rule id) { action = Some Set; required = true; value_names = 1 }
 
--- a command that takes the name of a store
+-- A subcommand that takes the name of a store.
 abbrev pub store_line : Text → App
 store_line name = with_rule (new_app name) (wanted (codes "STORE"))
 
--- two that take a flag, too
+-- Two such subcommands that also take flags: `format` takes one, and `script` two.
 abbrev pub format_line : App
 format_line = with_rule (store_line (codes "format")) (flag (codes "new"))
 
@@ -63,11 +64,11 @@ script_line = with_rule
     (with_rule (store_line (codes "script")) (flag (codes "strict")))
     (flag (codes "now"))
 
--- an option, which takes one value; help has one name for it
+-- An option with one value. The help has one name for it.
 abbrev pub value_option : Text → Rule
 value_option id = record (new_rule id) { long = Some id; action = Some Set; value_names = 1 }
 
--- one that takes five flags, and may be given a phase and a group
+-- `inspect` takes a store, five flags, and two options: a phase and a group.
 abbrev pub inspect_line : App
 inspect_line =
     with_rule
@@ -84,17 +85,17 @@ inspect_line =
     (flag (codes "no-tasks")))
     (flag (codes "summary"))
 
--- one that takes the names of two stores, the old one first, and a flag
+-- `migrate` takes the names of two stores, the old one first, and a flag.
 abbrev pub migrate_line : App
 migrate_line = with_rule
     (with_rule (store_line (codes "migrate")) (wanted (codes "NEW")))
     (flag (codes "new"))
 
--- a word that names a store, without which the command is taken; help has one name for it
+-- An argument that names a store, and may be left out. The help has one name for it.
 abbrev pub free : Text → Rule
 free id = record (new_rule id) { action = Some Set; value_names = 1 }
 
--- one that takes the names of two stores, the new one or none, and two flags
+-- `renew` takes the name of a store, perhaps that of a new one, and two flags.
 abbrev pub renew_line : App
 renew_line =
     with_rule
@@ -103,18 +104,21 @@ renew_line =
     (flag (codes "new")))
     (flag (codes "in-place"))
 
--- a command that takes the name of a store and a flag, and may be given the number of workers
+-- `crew` takes the name of a store, a flag, and an option: the number of workers.
 abbrev pub crew_line : App
 crew_line = with_rule
     (with_rule (store_line (codes "crew")) (value_option (codes "workers")))
     (flag (codes "known"))
 
--- the command line of `night`: the commands are `demo`, over a store `format`, `script` and
--- `inspect`, over two `migrate`, over a store `crew`, and over two or one `renew`; all take a flag,
--- or flags, and `inspect` and `crew` options
+-- `plan` takes nothing.
+abbrev pub plan_line : App
+plan_line = new_app (codes "plan")
+
+-- The command line of `night`: it has these eight subcommands, and no others.
 abbrev pub night : App
 night =
     with_subcommand
+    (with_subcommand
     (with_subcommand
     (with_subcommand
     (with_subcommand
@@ -126,30 +130,31 @@ night =
     inspect_line.top)
     migrate_line.top)
     crew_line.top)
-    renew_line.top
+    renew_line.top)
+    plan_line.top
 
--- what the parser finds in these words, the program's own name first: nothing if they ask for a
--- command; help and the version are found like mistakes
+-- What the parser reports about these words, the first of which is the program's name. It reports
+-- nothing if they ask for a subcommand. A request for help or for the version is reported in the
+-- same way as a mistake.
 abbrev pub faults_of : List Text → Kinds
 faults_of words = fault_of night words
 
--- ---- the commands
+-- ---- the subcommands
 
--- the words ask for this command alone: it stands after the program's own name, and the mark `--`
--- may stand after it
+-- The words are the program's name and this subcommand. The mark `--` may stand at the end.
 abbrev pub AsksAlone : Text → List Text → Type 0
 AsksAlone command words = (name : Text) × ((words ≡ name ∷ command ∷ [])
     ⊎ (words ≡ name ∷ command ∷ codes "--" ∷ []))
 
--- the words ask for this command over this store: they stand after the program's own name, and the
--- mark `--` may stand before or after the store
+-- The words are the program's name, this subcommand and this store. The mark `--` may stand before
+-- or after the store.
 abbrev pub AsksOver : Text → Text → List Text → Type 0
 AsksOver command store words = (name : Text) × ((words ≡ name ∷ command ∷ store ∷ [])
     ⊎ ((words ≡ name ∷ command ∷ codes "--" ∷ store ∷ [])
     ⊎ (words ≡ name ∷ command ∷ store ∷ codes "--" ∷ [])))
 
--- the words ask for this command from this store to that one: the two stand after the program's
--- own name and the command, and the mark `--` may stand before, between or after them
+-- The words are the program's name, this subcommand, the old store and the new one. The mark `--`
+-- may stand before, between or after the stores.
 abbrev pub AsksForTwo : (command old new : Text) → List Text → Type 0
 AsksForTwo command old new words = (name : Text)
     × ((words ≡ name ∷ command ∷ old ∷ new ∷ [])
@@ -157,66 +162,71 @@ AsksForTwo command old new words = (name : Text)
     ⊎ ((words ≡ name ∷ command ∷ old ∷ codes "--" ∷ new ∷ [])
     ⊎ (words ≡ name ∷ command ∷ old ∷ new ∷ codes "--" ∷ []))))
 
--- the command that the parser entered
+-- The subcommand that the parser has found.
 abbrev pub command_in : Option (Text × List Row) → Option Text
 command_in entered = option_map (λ s. s.0) entered
 
--- the word that it found for an argument there
+-- The word that the parser has found for an argument of this name.
 abbrev pub word_in : Text → Option (Text × List Row) → Option Text
 word_in id entered = option_and_then (λ s. first_of id s.1) entered
 
--- whether the words have this flag, as the parser returns it: `true`, and `false` if it stands
--- nowhere
+-- A flag is set if the parser has found the word `true` for it. It finds `false` if the flag isn't
+-- given.
 abbrev pub is_true : Option Text → Bool
 is_true word = option_map_or (λ text. bytes_eq text (codes "true")) word false
 
 abbrev pub has_flag : Text → Option (Text × List Row) → Bool
 has_flag id entered = is_true (word_in id entered)
 
--- so many workers: one digit from 1 to 8, or 4 if there is no word
+-- The number of workers: one digit from 1 to 8, or 4 if the option isn't given.
 abbrev pub workers_of : Option Text → Option ℕ
 workers_of None = Some 4
 workers_of (Some (digit ∷ [])) =
     if nat_le 49 digit && nat_le digit 56 then Some (digit - 48) else None
 workers_of (Some text) = None
 
--- the parser entered `demo`, strict or not
+-- The parser has found `demo`, and whether it is strict.
 abbrev pub NamesDemo : Bool → Option (Text × List Row) → Type 0
 NamesDemo strict entered = (command_in entered ≡ Some (codes "demo"))
     × (has_flag (codes "strict") entered ≡ strict)
 
--- the parser entered `format` with this store, a new one or any
+-- The parser has found `plan`.
+abbrev pub NamesPlan : Option (Text × List Row) → Type 0
+NamesPlan entered = command_in entered ≡ Some (codes "plan")
+
+-- The parser has found `format` with this store, and whether the file has to be new.
 abbrev pub NamesFormat : Text → Bool → Option (Text × List Row) → Type 0
 NamesFormat store is_new entered = (command_in entered ≡ Some (codes "format"))
     × (word_in (codes "STORE") entered ≡ Some store) × (has_flag (codes "new") entered ≡ is_new)
 
--- the parser entered `script` with this store, strict or not, and by the machine's time or not
+-- The parser has found `script` with this store, whether it is strict, and whether it asks for the
+-- machine's time.
 abbrev pub NamesScript : Text → Bool → Bool → Option (Text × List Row) → Type 0
 NamesScript store strict is_timed entered = (command_in entered ≡ Some (codes "script"))
     × (word_in (codes "STORE") entered ≡ Some store)
     × (has_flag (codes "strict") entered ≡ strict) × (has_flag (codes "now") entered ≡ is_timed)
 
--- the words of the phases of a task
+-- The names of the phases of a task.
 abbrev pub phases : List Text
 phases = codes "held" ∷ codes "ready" ∷ codes "running" ∷ codes "success" ∷ codes "error"
     ∷ codes "interrupted" ∷ []
 
--- a phase is asked for by its word, or none is
+-- The word is the name of a phase, or there is no word.
 abbrev pub names_phase : Option Text → Bool
 names_phase word = option_map_or (λ text. list_any (bytes_eq text) phases) word true
 
--- tasks in a phase or of a group are asked for, by one of the two options; here and below `word`
--- gives the word that was found for an argument
+-- One of the options `--phase` and `--group` is given. Here and below, `word` is the word that was
+-- found for an argument.
 abbrev pub asks_some : (word : Text → Option Text) → Bool
 asks_some word = is_some (word (codes "phase")) || is_some (word (codes "group"))
 
--- the lines of tasks alone are asked for, by the flag, or by an option of the two without JSON
+-- The lines of tasks are asked for: `--tasks` is given, or one of those options without `--json`.
 abbrev pub asks_tasks : (word : Text → Option Text) → Bool
 asks_tasks word = is_true (word (codes "tasks"))
     || (asks_some word && not (is_true (word (codes "json"))))
 
--- these views are asked for, and no others: that of tasks, JSON, the tree and the summary; and a
--- tree without tasks is or isn't
+-- Exactly these of the four views are asked for (tasks, JSON, tree, summary), and `--no-tasks` is
+-- given or isn't.
 abbrev pub AsksViews :
     (tasks json tree summary no_tasks : Bool) (word : Text → Option Text) → Type 0
 AsksViews tasks json tree summary no_tasks word = (asks_tasks word ≡ tasks)
@@ -224,24 +234,24 @@ AsksViews tasks json tree summary no_tasks word = (asks_tasks word ≡ tasks)
     × (is_true (word (codes "summary")) ≡ summary)
     × (is_true (word (codes "no-tasks")) ≡ no_tasks)
 
--- a tree without tasks is asked for, but no tree
+-- `--no-tasks` is given, but `--tree` isn't.
 abbrev pub lacks_tree : (word : Text → Option Text) → Bool
 lacks_tree word = is_true (word (codes "no-tasks")) && not (is_true (word (codes "tree")))
 
--- these are the phase and the group that are asked for, and the phase is given by its word
+-- These are the values of `--phase` and `--group`, and that of `--phase` is the name of a phase.
 abbrev pub AsksSome :
     (phase group : Option (Bor Text)) (word : Text → Option Text) → Type 0
 AsksSome phase group word = (word (codes "phase") ≡ option_map (λ text. text.now) phase)
     × (word (codes "group") ≡ option_map (λ text. text.now) group)
     × (names_phase (word (codes "phase")) ≡ true)
 
--- two of four are true, or more
+-- At least two of the four are true.
 abbrev pub are_two : (a b c d : Bool) → Bool
 are_two a b c d = (a && b) || ((c && d) || ((a || b) && (c || d)))
 
--- one view is asked for, or none and all is shown; the two options go with the view of tasks and
--- with JSON. A tree without tasks that is no tree is a mistake, else more than one view is, and
--- else a word that names no phase
+-- If one view is asked for, it is shown, and if none is, everything is shown as lines. The options
+-- `--phase` and `--group` go with the view of tasks and with JSON. The first mistake of these is
+-- reported: `--no-tasks` without `--tree`, two or more views, a word that is the name of no phase.
 abbrev pub IsView : (word : Text → Option Text) → Result View WordsFault → Type 0
 IsView word (Ok Whole) = AsksViews false false false false false word
 IsView word (Ok (Tasks phase group)) =
@@ -259,87 +269,93 @@ IsView word (Err Phase) =
     × (names_phase (word (codes "phase")) ≡ false)
 IsView word (Err why) = ⊥
 
--- the parser entered `inspect` with this store, and with the words of this view
+-- The parser has found `inspect` with this store, and these words ask for this view or make this
+-- mistake.
 abbrev pub NamesInspect : Text → Result View WordsFault → Option (Text × List Row) → Type 0
 NamesInspect store view entered = (command_in entered ≡ Some (codes "inspect"))
     × (word_in (codes "STORE") entered ≡ Some store) × IsView (λ id. word_in id entered) view
 
--- the parser entered `migrate` with these two stores, the second of a new file or of any
+-- The parser has found `migrate` with these two stores, and whether the second file has to be new.
 abbrev pub NamesMigration : (old new : Text) → Bool → Option (Text × List Row) → Type 0
 NamesMigration old new is_new entered = (command_in entered ≡ Some (codes "migrate"))
     × (word_in (codes "STORE") entered ≡ Some old) × (word_in (codes "NEW") entered ≡ Some new)
     × (has_flag (codes "new") entered ≡ is_new)
 
--- the parser entered `renew` with this store, and with this new one or with none, of a new file or
--- of any, in place or not
+-- The parser has found `renew` with this store, perhaps with a new one, whether that file has to be
+-- new, and whether the renewal is in place.
 abbrev pub NamesRenewal : Text → Option Text → (is_new in_place : Bool)
     → Option (Text × List Row) → Type 0
 NamesRenewal old new is_new in_place entered = (command_in entered ≡ Some (codes "renew"))
     × (word_in (codes "STORE") entered ≡ Some old) × (word_in (codes "NEW") entered ≡ new)
     × (has_flag (codes "new") entered ≡ is_new) × (has_flag (codes "in-place") entered ≡ in_place)
 
--- a renewal in place has no new store, and no file that is to be new; any other one has a new store
+-- A renewal is misplaced in two cases: it is in place, and NEW or `--new` is given; or it isn't in
+-- place, and NEW isn't given.
 abbrev pub is_misplaced : Option Text → (is_new in_place : Bool) → Bool
 is_misplaced new is_new true = is_some new || is_new
 is_misplaced new is_new false = not (is_some new)
 
--- the parser entered `crew` with this store, with this number of workers, and of known jobs or not
+-- The parser has found `crew` with this store and this number of workers, and whether all jobs have
+-- to be known.
 abbrev pub NamesCrew : Text → Option ℕ → Bool → Option (Text × List Row) → Type 0
 NamesCrew store workers known entered = (command_in entered ≡ Some (codes "crew"))
     × (unwrap_or (word_in (codes "STORE") entered) [] ≡ store)
     × (workers_of (word_in (codes "workers") entered) ≡ workers)
     × (has_flag (codes "known") entered ≡ known)
 
--- the words ask for `demo`, as the parser reads them: it stands after the program's own name, and
--- `--strict` may stand after it
+-- The parser finds `demo` in the words: `demo` stands after the program's name, and `--strict` may
+-- stand after it.
 abbrev pub AsksForDemo : Bool → List Text → Type 0
 AsksForDemo strict words = NamesDemo strict (subcommand_of night words)
 
--- the words ask for a new store in this file, as the parser reads them: it stands after the
--- program's own name and `format`, and `--new` may stand before or after it
+-- The parser finds `plan` in the words: it stands after the program's name.
+abbrev pub AsksForPlan : List Text → Type 0
+AsksForPlan words = NamesPlan (subcommand_of night words)
+
+-- The parser finds `format` in the words: after it stands the store, and `--new` may stand before
+-- or after the store.
 abbrev pub AsksForFormat : Text → Bool → List Text → Type 0
 AsksForFormat store is_new words = NamesFormat store is_new (subcommand_of night words)
 
--- the words ask for a run over this store, as the parser reads them: it stands after the program's
--- own name and `script`, and before or after it may stand `--strict` and `--now`
+-- The parser finds `script` in the words: after it stands the store, and `--strict` and `--now` may
+-- stand before or after the store.
 abbrev pub AsksForScript : Text → Bool → Bool → List Text → Type 0
 AsksForScript store strict is_timed words =
     NamesScript store strict is_timed (subcommand_of night words)
 
--- the words ask for what this view shows of the store, as the parser reads them: the store stands
--- after the program's own name and `inspect`, and the flag of the view, or its options as
--- `--phase held` or `--phase=held`, may stand before or after it
+-- The parser finds `inspect` in the words, and they ask for this view: after `inspect` stands the
+-- store. The flag of the view, or its options, such as `--phase held` or `--phase=held`, may stand
+-- before or after the store.
 abbrev pub AsksForInspect : Text → View → List Text → Type 0
 AsksForInspect store view words =
     NamesInspect store (Ok view) (subcommand_of night words)
 
--- the words ask for a migration between these stores: they stand after the program's own name and
--- `migrate`, alone but for the mark; to a new file alone it is told as the parser reads them, and
--- `--new` stands before, between or after them
+-- The words ask for a migration between these stores: after the program's name and `migrate` stand
+-- the two stores, with nothing else but perhaps the mark `--`. If the file has to be new, the
+-- parser finds that in the words: `--new` stands before, between or after the stores.
 abbrev pub AsksForMigration : (old new : Text) → (is_new : Bool) → List Text → Type 0
 AsksForMigration old new false words = AsksForTwo (codes "migrate") old new words
 AsksForMigration old new true words = NamesMigration old new true (subcommand_of night words)
 
--- so it is for a renewal, which is not in place
+-- The same for a renewal that isn't in place.
 abbrev pub AsksForRenewal : (old new : Text) → (is_new : Bool) → List Text → Type 0
 AsksForRenewal old new false words = AsksForTwo (codes "renew") old new words
 AsksForRenewal old new true words =
     NamesRenewal old (Some new) true false (subcommand_of night words)
 
--- the words ask for a renewal of this store in its place, as the parser reads them: it stands alone
--- after the program's own name and `renew`, and `--in-place` stands before or after it
+-- The parser finds a renewal in place in the words: after `renew` stands one store, and
+-- `--in-place` stands before or after it.
 abbrev pub AsksForRenewalInPlace : Text → List Text → Type 0
 AsksForRenewalInPlace store words = NamesRenewal store None false true (subcommand_of night words)
 
--- the words ask for a crew of so many workers over this store, as the parser reads them: the store
--- stands after the program's own name and `crew`, and before or after it may stand `--workers N`
--- or `--workers=N`, and `--known`
+-- The parser finds `crew` in the words, with this number of workers: after `crew` stands the store.
+-- `--workers N` or `--workers=N`, and `--known`, may stand before or after the store.
 abbrev pub AsksForCrew : Text → ℕ → Bool → List Text → Type 0
 AsksForCrew store workers known words =
     NamesCrew store (Some workers) known (subcommand_of night words)
 
--- the words ask for this; of a text that is shown nothing is said here
-abbrev pub AsksFor : Asked → List Text → Type 0
+-- The words ask for this. About the text of a help, nothing is said here.
+abbrev pub AsksFor : Request → List Text → Type 0
 AsksFor (Demo strict) words = AsksForDemo strict words
 AsksFor (Format store is_new) words = AsksForFormat store.now is_new words
 AsksFor (Script store strict is_timed) words = AsksForScript store.now strict is_timed words
@@ -350,14 +366,14 @@ AsksFor (Migrate old new is_new) words =
 AsksFor (Renew old new is_new) words =
     AsksForRenewal old.now new.now is_new words × (old.now ≢ new.now)
 AsksFor (RenewInPlace store) words = AsksForRenewalInPlace store.now words
+AsksFor Plan words = AsksForPlan words
 AsksFor (Help text) words = Unit {0}
 
--- the words lead to this fault: to that of equal names if a migration or a renewal is asked for
--- from a store to itself, to that of the workers if a crew of none, of more than 8 or of no number
--- is, to that of the views if more than one is, to that of no tree if a tree without tasks is that
--- is no tree, to that of the phase if the tasks in one are that has no such word, and to that of
--- the place if a renewal is asked for with neither a new store nor `--in-place`, or with both, or
--- in place with `--new`; `IsAnswer` defines the others
+-- The words make this mistake: - SameStores: a migration or a renewal goes from a store to itself.
+-- - Workers: the number of workers isn't a number from 1 to 8. - Views: two or more views are asked
+-- for. - NoTree: `--no-tasks` is given without `--tree`. - Phase: the value of `--phase` is the
+-- name of no phase. - Place: a renewal has neither NEW nor `--in-place`, or has both, or has
+-- `--in-place` and `--new`. `IsAnswer` defines the other faults.
 abbrev pub IsCausedBy : WordsFault → List Text → Type 0
 IsCausedBy SameStores words = (store : Text) × ((is_new : Bool)
     × (AsksForMigration store store is_new words ⊎ AsksForRenewal store store is_new words))
@@ -376,17 +392,18 @@ IsCausedBy why words = Unit {0}
 
 -- ---- what is returned
 
--- help, or the version
+-- The parser reports that help or the version is asked for.
 abbrev pub IsHelp : ErrorKind → Type 0
 IsHelp kind = (kind ≡ DisplayHelp) ⊎ (kind ≡ DisplayVersion)
 
--- a mistake in the words
+-- The parser reports a mistake in the words.
 abbrev pub IsMistake : ErrorKind → Type 0
 IsMistake kind = (kind ≢ DisplayHelp) × (kind ≢ DisplayVersion) × (kind ≢ OutOfMemory)
 
--- what is returned when the parser may find these: a command exactly if it finds nothing, but for
--- equal names, a wrong number of workers, several views or no tree, a wrong phase and a wrong place
-abbrev pub IsAnswer : Kinds → Result Asked WordsFault → Type 0
+-- What is returned when these are all that the parser may report. If it reports nothing, that is a
+-- request, or one of the six mistakes that the parser can't know. Otherwise it is a text for one of
+-- its reports. Memory may be refused in any case.
+abbrev pub IsAnswer : Kinds → Result Request WordsFault → Type 0
 IsAnswer kinds (Ok (Help text)) = (kind : ErrorKind) × IsAmong kind kinds × IsHelp kind
 IsAnswer kinds (Ok command) = kinds ≡ []
 IsAnswer kinds (Err (Mistake text)) = (kind : ErrorKind) × IsAmong kind kinds × IsMistake kind
@@ -399,7 +416,8 @@ IsAnswer kinds (Err Place) = kinds ≡ []
 IsAnswer kinds (Err NotText) = ⊥
 IsAnswer kinds (Err Memory) = Unit {0}
 
--- the words could not be got from the system: that is not a mistake in them
+-- The fault isn't a mistake in what the words ask for: a word is no text in UTF-8, or memory was
+-- refused.
 abbrev pub IsOfSystem : WordsFault → Type 0
 IsOfSystem (Mistake text) = ⊥
 IsOfSystem SameStores = ⊥
@@ -411,10 +429,10 @@ IsOfSystem Place = ⊥
 IsOfSystem NotText = Unit {0}
 IsOfSystem Memory = Unit {0}
 
--- ---- for private functions: no public contract cites what follows
+-- ---- for private functions; no public contract cites the rest
 
--- what is returned when the parser found this
-abbrev pub IsShown : ErrorKind → Result Asked WordsFault → Type 0
+-- What is returned when the parser has reported this.
+abbrev pub IsShown : ErrorKind → Result Request WordsFault → Type 0
 IsShown kind (Ok (Help text)) = IsHelp kind
 IsShown kind (Ok command) = ⊥
 IsShown kind (Err (Mistake text)) = IsMistake kind
@@ -427,31 +445,31 @@ IsShown kind (Err Place) = ⊥
 IsShown kind (Err NotText) = ⊥
 IsShown kind (Err Memory) = Unit {0}
 
--- the name of a command, and its store if it has one
+-- The name of a subcommand, and its store if it has one.
 abbrev pub Named : Type 0
 Named = Option (Text × Option Text)
 
 abbrev pub named_in : Option (Text × List Row) → Named
 named_in entered = option_map (λ s. (s.0, first_of (codes "STORE") s.1)) entered
 
--- what the parser's matches name
+-- The subcommand and the store in the parser's matches.
 abbrev pub named_by : ArgMatches → Named
 named_by matches = named_in (subcommand_rows_of matches)
 
--- the new store of a migration or a renewal
+-- The new store of a migration or a renewal.
 abbrev pub new_in : Option (Text × List Row) → Option Text
 new_in entered = word_in (codes "NEW") entered
 
 abbrev pub new_by : ArgMatches → Option Text
 new_by matches = new_in (subcommand_rows_of matches)
 
--- this command is named, with these two stores
+-- This subcommand is named, with these two stores.
 abbrev pub NamesTwo : (command old given : Text) → Named → Option Text → Type 0
 NamesTwo command old given named new =
     (named ≡ Some (command, Some old)) × (new ≡ Some given)
 
--- what the parser entered is asked for, or the two stores of a migration or a renewal are one
-abbrev pub Asks : Option (Text × List Row) → Result Asked WordsFault → Type 0
+-- The parser has found this request, or one of the six mistakes that it can't know.
+abbrev pub Asks : Option (Text × List Row) → Result Request WordsFault → Type 0
 Asks entered (Ok (Demo strict)) = NamesDemo strict entered
 Asks entered (Ok (Format store is_new)) = NamesFormat store.now is_new entered
 Asks entered (Ok (Script store strict is_timed)) =
@@ -465,6 +483,7 @@ Asks entered (Ok (Migrate old given is_new)) =
 Asks entered (Ok (Renew old given is_new)) =
     NamesRenewal old.now (Some given.now) is_new false entered × (old.now ≢ given.now)
 Asks entered (Ok (RenewInPlace store)) = NamesRenewal store.now None false true entered
+Asks entered (Ok Plan) = NamesPlan entered
 Asks entered (Ok (Help text)) = ⊥
 Asks entered (Err SameStores) = (store : Text) × ((is_new : Bool)
     × (NamesMigration store store is_new entered
@@ -479,32 +498,33 @@ Asks entered (Err Place) = (store : Text) × ((new_one : Option Text)
     × NamesRenewal store new_one is_new in_place entered)))
 Asks entered (Err why) = ⊥
 
--- a command is named, and the stores that it needs
+-- A subcommand is named, with the stores that it needs.
 abbrev pub IsNamed : Named → Option Text → Type 0
 IsNamed named new = ((first : Option Text) × (named ≡ Some (codes "demo", first)))
+    ⊎ (((first : Option Text) × (named ≡ Some (codes "plan", first)))
     ⊎ (((first : Option Text) × (named ≡ Some (codes "crew", first)))
     ⊎ ((store : Text) × ((named ≡ Some (codes "format", Some store))
     ⊎ ((named ≡ Some (codes "script", Some store))
     ⊎ ((named ≡ Some (codes "inspect", Some store))
     ⊎ ((named ≡ Some (codes "renew", Some store))
-    ⊎ ((given : Text) × NamesTwo (codes "migrate") store given named new)))))))
+    ⊎ ((given : Text) × NamesTwo (codes "migrate") store given named new))))))))
 
--- a crew over this store, of as many workers as this word says and of known jobs or not, or the
--- fault of a wrong number
-abbrev pub IsCrew : Text → Option Text → Bool → Result Asked WordsFault → Type 0
+-- A crew over this store, with the number of workers that this word says, and with only known jobs
+-- or with any; or the mistake of a wrong number.
+abbrev pub IsCrew : Text → Option Text → Bool → Result Request WordsFault → Type 0
 IsCrew store workers known (Ok (Crew s n k)) =
     (s.now ≡ store) × (workers_of workers ≡ Some n) × (k ≡ known)
 IsCrew store workers known (Ok asked) = ⊥
 IsCrew store workers known (Err Workers) = workers_of workers ≡ None
 IsCrew store workers known (Err why) = ⊥
 
--- what a view shows of this store, or the fault of several views, of no tree or of a wrong phase
-abbrev pub IsInspect : Text → (word : Text → Option Text) → Result Asked WordsFault → Type 0
+-- A view of this store; or the mistake of several views, of no tree or of a wrong phase.
+abbrev pub IsInspect : Text → (word : Text → Option Text) → Result Request WordsFault → Type 0
 IsInspect store word (Ok (Inspect s v)) = (s.now ≡ store) × IsView word (Ok v)
 IsInspect store word (Ok asked) = ⊥
 IsInspect store word (Err why) = IsView word (Err why)
 
--- the tasks in this phase and of this group, in JSON or alone, or the fault of a wrong phase
+-- The tasks in this phase and of this group, as JSON or as lines; or the mistake of a wrong phase.
 abbrev pub IsTasks : (phase group : Option Text) → (json : Bool) → Result View WordsFault → Type 0
 IsTasks phase group json (Ok (Tasks p g)) = (phase ≡ option_map (λ text. text.now) p)
     × (group ≡ option_map (λ text. text.now) g) × (names_phase phase ≡ true) × (json ≡ false)
@@ -514,9 +534,9 @@ IsTasks phase group json (Ok view) = ⊥
 IsTasks phase group json (Err Phase) = names_phase phase ≡ false
 IsTasks phase group json (Err why) = ⊥
 
--- a renewal or a migration between two names that differ, to a new file or to any, or the fault of
--- equal ones
-abbrev pub IsForTwo : (renews is_new : Bool) (old new : Text) → Result Asked WordsFault → Type 0
+-- A renewal or a migration between two different names, to a new file or to any; or the mistake of
+-- equal names.
+abbrev pub IsForTwo : (renews is_new : Bool) (old new : Text) → Result Request WordsFault → Type 0
 IsForTwo renews is_new old new (Ok (Migrate o n b)) =
     (renews ≡ false) × (b ≡ is_new) × (o.now ≡ old) × (n.now ≡ new) × (old ≢ new)
 IsForTwo renews is_new old new (Ok (Renew o n b)) =
@@ -525,10 +545,10 @@ IsForTwo renews is_new old new (Ok asked) = ⊥
 IsForTwo renews is_new old new (Err SameStores) = old ≡ new
 IsForTwo renews is_new old new (Err why) = ⊥
 
--- a renewal of this store, into this new one or in place, or the fault of neither or both, or that
--- of equal names
+-- A renewal of this store, into this new one or in place; or the mistake of a wrong place, or that
+-- of equal names.
 abbrev pub IsRenewal : (old : Text) (new : Option Text) (is_new in_place : Bool)
-    → Result Asked WordsFault → Type 0
+    → Result Request WordsFault → Type 0
 IsRenewal old new is_new in_place (Ok (Renew o n b)) =
     (o.now ≡ old) × (new ≡ Some n.now) × (b ≡ is_new) × (in_place ≡ false) × (old ≢ n.now)
 IsRenewal old new is_new in_place (Ok (RenewInPlace o)) =

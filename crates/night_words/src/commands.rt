@@ -1,10 +1,11 @@
-//! The command line, as its parser takes it.
+//! The subcommands and flags of `night`, as they are declared to the parser, and their help texts.
 
 ghost use Rattle.std.specs.Prelude.{◌≡◌, [], false, true, IfOk};
 ghost use Rattle.clap.specs.Words.{App, Rule, app_of, rule_of, with_rule, with_subcommand};
 ghost use Rattle.night_words.specs.Commands.{crew_line, demo_line, flag, format_line, free};
 ghost use Rattle.night_words.specs.Commands.{inspect_line, migrate_line, night, night_alone};
-ghost use Rattle.night_words.specs.Commands.{renew_line, script_line, store_line, value_option};
+ghost use Rattle.night_words.specs.Commands.{plan_line, renew_line, script_line, store_line};
+ghost use Rattle.night_words.specs.Commands.{value_option};
 
 use clap::{Arg, ArgAction, Command};
 use std::alloc::{AllocError, Global};
@@ -37,7 +38,7 @@ const LINES: &str = "\
     start                                       starts the ready task of the least number\n  \
     finish NUMBER ok|error TEXT                 ends a running task\n  \
     retry NUMBER                                submits an interrupted task again\n  \
-    wait GROUP                                  how it ended, once all its tasks have\n  \
+    wait GROUP                                  ends it once all its tasks have\n  \
     scope SCOPE                                 whether it is done, and why\n  \
     value SCOPE KEY                             the nearest value of the key\n  \
     task NUMBER                                 how far a task is\n  \
@@ -186,6 +187,38 @@ const RENEW: Page = Page {
     help: "The old store, which is only read unless it is renewed in place",
 };
 
+/// What follows the help of `plan`.
+const PLAN: &str = "\
+    Standard input has a plan, and then rounds of what happens; each ends with an empty\n\
+    line, and is answered on standard output.\n\n\
+    The lines of a plan. Pools, groups and commands are numbered from 0:\n\n  \
+    pool SIZE                                      a pool\n  \
+    group PRIORITY go-on|stop|cancel               a group, and what a failure does to it\n  \
+    command GROUP PRIORITY RETRIES WAIT FACTOR CAP a command, and how it is tried again\n  \
+    need well|failed|ended command|group NUMBER    what the command before it comes after\n  \
+    take POOL AMOUNT                               what the command before it takes\n\n\
+    The lines of a round:\n\n  \
+    now MOMENT                                     the time, in seconds\n  \
+    size POOL SIZE                                 a pool has another size\n  \
+    done GROUP                                     a group was canceled, or is overdue\n  \
+    cancel COMMAND                                 a command was canceled\n  \
+    fresh|busy|ok|interrupted|cut COMMAND          how far a command is\n  \
+    failed COMMAND MOMENT FAILURES                 its last try failed then\n  \
+    group, command, need, take                     the plan grows\n  \
+    standings                                      asks how each command stands\n\n\
+    The answers:\n\n  \
+    plan COMMANDS                                  the plan is taken\n  \
+    unknown COMMAND                                the command names what isn't there\n  \
+    too-much COMMAND                               it takes more than a pool has\n  \
+    circle                                         each `member` comes after the next\n  \
+    begin COMMAND                                  it may begin now\n  \
+    stop COMMAND                                   it runs, and has to stop\n  \
+    later MOMENT                                   when to ask again\n  \
+    stands COMMAND STANDING                        how it stands\n  \
+    bad LINE                                       the line can't be taken\n\n\
+    Example:\n  \
+    printf 'group 0 go-on\\ncommand 0 0 0 0 1 0\\n\\n\\n' | night plan";
+
 /// The command line of the program, with all of its commands.
 pub fn night_command<'a>(alloc: Global) -> Result<Command<'a>, AllocError>
     ensures { IfOk result (λ command. app_of command ≡ night) }
@@ -196,7 +229,8 @@ pub fn night_command<'a>(alloc: Global) -> Result<Command<'a>, AllocError>
     let inspect = with_command(script, inspect_command(alloc));
     let migrate = with_command(inspect, migrate_command(alloc));
     let crew = with_command(migrate, crew_command(alloc));
-    with_command(crew, renew_command(alloc))
+    let renew = with_command(crew, renew_command(alloc));
+    with_command(renew, Ok(plan_command(alloc)))
 }
 
 /// The command line without its commands.
@@ -299,6 +333,15 @@ fn renew_command<'a>(alloc: Global) -> Result<Command<'a>, AllocError>
     let new = with_word(old, place_word(alloc, "NEW", "NEW", false, NEW_FILE));
     let to_new = with_flag(alloc, new, "new", NEW);
     with_flag(alloc, to_new, "in-place", IN_PLACE)
+}
+
+/// The command that answers a plan and its rounds.
+fn plan_command<'a>(alloc: Global) -> Command<'a>
+    ensures { app_of result ≡ plan_line }
+{
+    Command::new(alloc, "plan")
+        .about("Reads a plan and what happens, and answers what may begin; needs no store")
+        .after_help(PLAN)
 }
 
 /// A command over a store.

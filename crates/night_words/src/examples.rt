@@ -1,6 +1,6 @@
-//! Examples of the words that are taken and refused, computed from the definition.
+//! Examples of arguments that are accepted and refused, computed from the definition.
 //!
-//! In each, `name` is the program's own name, as it was started.
+//! In each of them, `name` is the program's own name, as it was started.
 #![tactic(auto, unfolding(clap::proofs::OnLiterals::clap_on_literals))]
 
 ghost use Rattle.std.specs.Prelude.{◌≡◌, ◌∷◌, ℕ, List, None, Some, [], codes, false, true};
@@ -11,13 +11,13 @@ ghost use Rattle.night_words.specs.Commands.{AsksForCrew, AsksForDemo, AsksForFo
 ghost use Rattle.night_words.specs.Commands.{AsksForInspect, AsksForMigration, AsksForRenewal};
 ghost use Rattle.night_words.specs.Commands.{AsksForRenewalInPlace, AsksForScript, IsCausedBy};
 ghost use Rattle.night_words.specs.Commands.{NamesRenewal, faults_of, night};
-ghost use Rattle.night_requests.specs.declared.asked.View.TheVariants.{Json, Summary, Tasks, Tree};
-ghost use Rattle.night_requests.specs.declared.asked.View.TheVariants.{Whole};
-ghost use Rattle.night_requests.specs.declared.asked.WordsFault.TheVariants.{NoTree, Phase, Place};
-ghost use Rattle.night_requests.specs.declared.asked.WordsFault.TheVariants.{SameStores, Views};
-ghost use Rattle.night_requests.specs.declared.asked.WordsFault.TheVariants.{Workers};
+ghost use Rattle.state_views.specs.declared.views.View.TheVariants.{Json, Summary, Tasks, Tree};
+ghost use Rattle.state_views.specs.declared.views.View.TheVariants.{Whole};
+ghost use Rattle.night_words.specs.declared.faults.WordsFault.TheVariants.{NoTree, Phase, Place};
+ghost use Rattle.night_words.specs.declared.faults.WordsFault.TheVariants.{SameStores, Views};
+ghost use Rattle.night_words.specs.declared.faults.WordsFault.TheVariants.{Workers};
 
-/// `demo` is a command, and the mark after which no flag stands is no word of it.
+/// `demo` is a command. The mark that ends the flags isn't one of its words.
 pub fn demo_is_a_command()
     ensures alone { (name : List ℕ) → faults_of (name ∷ codes "demo" ∷ []) ≡ [] }
     ensures marked { (name : List ℕ) → faults_of (name ∷ codes "demo" ∷ codes "--" ∷ []) ≡ [] }
@@ -25,7 +25,7 @@ pub fn demo_is_a_command()
         → faults_of (name ∷ codes "demo" ∷ codes "--strict" ∷ []) ≡ [] }
 {}
 
-/// It is strict if its flag stands there.
+/// `demo` is strict if the flag `--strict` comes after it.
 pub fn demo_may_be_strict()
     ensures alone { (name : List ℕ) → AsksForDemo false (name ∷ codes "demo" ∷ []) }
     ensures marked { (name : List ℕ)
@@ -36,8 +36,8 @@ pub fn demo_may_be_strict()
         → AsksForDemo true (name ∷ codes "demo" ∷ codes "--strict" ∷ codes "--" ∷ []) }
 {}
 
-/// `format`, `script` and `inspect` are commands over a store. After the mark its name may look
-/// like a flag.
+/// `format`, `script` and `inspect` are commands over a store. After the mark that ends the flags,
+/// the name of the store may look like a flag.
 pub fn a_store_is_named()
     ensures format { (name : List ℕ) → faults_of (name ∷ codes "format" ∷ codes "a" ∷ []) ≡ [] }
     ensures script { (name : List ℕ) → faults_of (name ∷ codes "script" ∷ codes "a" ∷ []) ≡ [] }
@@ -48,7 +48,7 @@ pub fn a_store_is_named()
         → faults_of (name ∷ codes "format" ∷ codes "a" ∷ codes "--" ∷ []) ≡ [] }
 {}
 
-/// `format` makes a store of the file, with its flag of a new one alone.
+/// `format` makes a store of the file. With its flag, it does so only if the file is new.
 pub fn a_new_store_is_named()
     ensures alone { (name : List ℕ)
         → AsksForFormat (codes "a") false (name ∷ codes "format" ∷ codes "a" ∷ []) }
@@ -64,8 +64,8 @@ pub fn a_new_store_is_named()
         (name ∷ codes "format" ∷ codes "--" ∷ codes "--new" ∷ []) }
 {}
 
-/// `script` runs over a store, and is strict if its flag stands there, and by the machine's time if
-/// the other one does.
+/// `script` runs over a store. One flag makes it strict, and the other one makes it use the
+/// machine's time.
 pub fn a_script_may_be_strict()
     ensures alone { (name : List ℕ)
         → AsksForScript (codes "a") false false (name ∷ codes "script" ∷ codes "a" ∷ []) }
@@ -79,7 +79,8 @@ pub fn a_script_may_be_strict()
         (name ∷ codes "script" ∷ codes "--now" ∷ codes "a" ∷ codes "--strict" ∷ []) }
 {}
 
-/// `inspect` prints all that a store holds, and with its flag the lines of its tasks alone.
+/// `inspect` prints everything that a store holds. With its flag, it prints only the lines of its
+/// tasks.
 pub fn tasks_may_be_inspected()
     ensures alone { (name : List ℕ)
         → AsksForInspect (codes "a") Whole (name ∷ codes "inspect" ∷ codes "a" ∷ []) }
@@ -91,7 +92,8 @@ pub fn tasks_may_be_inspected()
         (name ∷ codes "inspect" ∷ codes "--" ∷ codes "--tasks" ∷ []) }
 {}
 
-/// The tasks may be those of a phase, or of a group; the flag may be left out then.
+/// `inspect` prints only the tasks of one phase or of one group, if a flag names it. Then `--tasks`
+/// may be left out.
 pub fn some_tasks_may_be_inspected()
     ensures phase { (name : List ℕ) (held : Bor (List ℕ)) → held.now ≡ codes "held"
         → AsksForInspect (codes "a") (Tasks (Some held) None)
@@ -110,7 +112,7 @@ pub fn some_tasks_may_be_inspected()
         (name ∷ codes "inspect" ∷ codes "--phase=Held" ∷ codes "a" ∷ []) }
 {}
 
-/// Or they are those that are printed as JSON.
+/// `inspect --json` prints only the tasks of one phase or of one group in the same way.
 pub fn some_tasks_may_be_printed_as_json()
     ensures phase { (name : List ℕ) (held : Bor (List ℕ)) → held.now ≡ codes "held"
         → AsksForInspect (codes "a") (Json (Some held) None)
@@ -126,8 +128,8 @@ pub fn some_tasks_may_be_printed_as_json()
         ∷ codes "a" ∷ []) }
 {}
 
-/// With another flag it prints all of it as JSON, with others as a tree and a summary, and two
-/// views are a mistake.
+/// `inspect` prints a whole store as JSON, as a tree or as a summary, each with its flag. Two of
+/// these flags together are a mistake.
 pub fn other_views_may_be_printed()
     ensures json { (name : List ℕ) → AsksForInspect (codes "a") (Json None None)
         (name ∷ codes "inspect" ∷ codes "--json" ∷ codes "a" ∷ []) }
@@ -147,7 +149,7 @@ pub fn other_views_may_be_printed()
         (name ∷ codes "inspect" ∷ codes "--group=g" ∷ codes "--tree" ∷ codes "a" ∷ []) }
 {}
 
-/// A tree may be without tasks, and nothing else may.
+/// `--no-tasks` may only be used with `inspect --tree`.
 pub fn a_tree_may_be_without_tasks()
     ensures before { (name : List ℕ) → AsksForInspect (codes "a") (Tree true)
         (name ∷ codes "inspect" ∷ codes "--no-tasks" ∷ codes "--tree" ∷ codes "a" ∷ []) }
@@ -164,7 +166,7 @@ pub fn a_tree_may_be_without_tasks()
         (name ∷ codes "inspect" ∷ codes "--tree" ∷ codes "--no-tasks" ∷ codes "a" ∷ []) ≡ [] }
 {}
 
-/// The words of all of them are taken.
+/// The arguments of all subcommands are accepted together with their flags.
 pub fn flags_are_taken()
     ensures new { (name : List ℕ)
         → faults_of (name ∷ codes "format" ∷ codes "--new" ∷ codes "a" ∷ []) ≡ [] }
@@ -198,7 +200,7 @@ pub fn flags_are_taken()
         → faults_of (name ∷ codes "crew" ∷ codes "--known" ∷ codes "a" ∷ []) ≡ [] }
 {}
 
-/// A flag stands once, after its own command.
+/// A flag may be given once, and only after its own command.
 pub fn other_flags_are_mistakes()
     ensures inspect { (name : List ℕ)
         → faults_of (name ∷ codes "inspect" ∷ codes "--new" ∷ codes "a" ∷ [])
@@ -228,7 +230,7 @@ pub fn other_flags_are_mistakes()
         ≡ kind.UnknownArgument ∷ [] }
 {}
 
-/// One store is needed.
+/// These commands need exactly one store.
 pub fn a_store_is_wanted()
     ensures none { (name : List ℕ) → faults_of (name ∷ codes "script" ∷ [])
         ≡ kind.MissingRequiredArgument ∷ [] }
@@ -241,7 +243,8 @@ pub fn a_store_is_wanted()
         ≡ kind.UnknownArgument ∷ [] }
 {}
 
-/// `migrate` is a command over two stores, which may look like flags after the mark.
+/// `migrate` is a command over two stores. After the mark that ends the flags, their names may look
+/// like flags.
 pub fn two_stores_are_named()
     ensures alone { (name : List ℕ)
         → faults_of (name ∷ codes "migrate" ∷ codes "a" ∷ codes "b" ∷ []) ≡ [] }
@@ -253,7 +256,8 @@ pub fn two_stores_are_named()
         → faults_of (name ∷ codes "migrate" ∷ codes "a" ∷ codes "b" ∷ codes "--" ∷ []) ≡ [] }
 {}
 
-/// `renew` is one, too.
+/// `renew` is a command over two stores. After the mark that ends the flags, their names may look
+/// like flags.
 pub fn two_stores_may_be_renewed()
     ensures alone { (name : List ℕ)
         → faults_of (name ∷ codes "renew" ∷ codes "a" ∷ codes "b" ∷ []) ≡ [] }
@@ -265,8 +269,8 @@ pub fn two_stores_may_be_renewed()
         ≡ kind.MissingRequiredArgument ∷ [] }
 {}
 
-/// Or over one, in its place; with neither another store nor the flag, or with both, it is a
-/// mistake.
+/// `renew --in-place` is a command over one store. `renew` with one store and without this flag is
+/// a mistake, and so is the flag with two stores.
 pub fn a_store_may_be_renewed_in_place()
     ensures before { (name : List ℕ) → AsksForRenewalInPlace (codes "a")
         (name ∷ codes "renew" ∷ codes "--in-place" ∷ codes "a" ∷ []) }
@@ -282,7 +286,7 @@ pub fn a_store_may_be_renewed_in_place()
         (subcommand_of night (name ∷ codes "renew" ∷ codes "a" ∷ codes "b" ∷ [])) }
 {}
 
-/// With its flag of a new one alone, a migration or a renewal is to a file that isn't there.
+/// With `--new`, a migration or a renewal makes the file of the new store, which mustn't exist.
 pub fn a_new_file_may_be_wanted()
     ensures migrate { (name : List ℕ) → AsksForMigration (codes "a") (codes "b") true
         (name ∷ codes "migrate" ∷ codes "--new" ∷ codes "a" ∷ codes "b" ∷ []) }
@@ -298,7 +302,7 @@ pub fn a_new_file_may_be_wanted()
         (name ∷ codes "migrate" ∷ codes "--new" ∷ codes "a" ∷ codes "a" ∷ []) }
 {}
 
-/// Two stores are needed.
+/// These commands need exactly two stores.
 pub fn two_stores_are_wanted()
     ensures one { (name : List ℕ) → faults_of (name ∷ codes "migrate" ∷ codes "a" ∷ [])
         ≡ kind.MissingRequiredArgument ∷ [] }
@@ -307,7 +311,7 @@ pub fn two_stores_are_wanted()
         ≡ kind.UnknownArgument ∷ [] }
 {}
 
-/// `crew` is a command over a store, of 4 workers if no other number is given.
+/// `crew` is a command over a store. It has 4 workers if no other number is given.
 pub fn a_crew_is_named()
     ensures alone { (name : List ℕ)
         → AsksForCrew (codes "a") 4 false (name ∷ codes "crew" ∷ codes "a" ∷ []) }
@@ -323,7 +327,7 @@ pub fn a_crew_is_named()
         (name ∷ codes "crew" ∷ codes "a" ∷ codes "--known" ∷ codes "--workers" ∷ codes "2" ∷ []) }
 {}
 
-/// A crew has 1 to 8 workers, given once, and a store.
+/// A crew has 1 to 8 workers, whose number is given once, and a store.
 pub fn other_crews_are_mistakes()
     ensures none { (name : List ℕ) → IsCausedBy Workers
         (name ∷ codes "crew" ∷ codes "a" ∷ codes "--workers=0" ∷ []) }
@@ -339,14 +343,14 @@ pub fn other_crews_are_mistakes()
         ≡ kind.ArgumentConflict ∷ [] }
 {}
 
-/// No words ask for nothing.
+/// Without arguments, nothing is asked for.
 pub fn no_words_are_a_mistake()
     ensures name { (name : List ℕ) → faults_of (name ∷ [])
         ≡ kind.DisplayHelpOnMissingArgumentOrSubcommand ∷ [] }
     ensures none { faults_of [] ≡ kind.DisplayHelpOnMissingArgumentOrSubcommand ∷ [] }
 {}
 
-/// A word that names no command is a mistake, and so is one that is left over.
+/// An argument that names no command is a mistake, and so is one that is left over.
 pub fn other_words_are_mistakes()
     ensures unknown { (name : List ℕ) → faults_of (name ∷ codes "work" ∷ [])
         ≡ kind.UnknownArgument ∷ kind.InvalidSubcommand ∷ [] }
@@ -362,7 +366,7 @@ pub fn other_words_are_mistakes()
         ≡ kind.UnknownArgument ∷ [] }
 {}
 
-/// Help is asked for by a flag, in its long or its short form; the version likewise.
+/// A flag, in its long or its short form, asks for help, and another one for the version.
 pub fn help_and_the_version_are_shown()
     ensures long { (name : List ℕ) → faults_of (name ∷ codes "--help" ∷ [])
         ≡ kind.DisplayHelp ∷ [] }

@@ -1,19 +1,19 @@
-//! What the words of a command that takes a flag are when they don't have it: the parser's reading
-//! of them, word by word.
+//! Laws of subcommands without flags: the words are then only the name of the subcommand and, if it
+//! takes one, the name of a store, and this is how the parser reads them.
 
 ghost use Rattle.std.specs.Prelude.{◌≡◌, ℕ, List, [], codes, false};
 ghost use Rattle.night_words.specs.Commands.{AsksAlone, AsksForDemo, AsksForFormat};
 ghost use Rattle.night_words.specs.Commands.{AsksForInspect, AsksForScript, AsksOver, faults_of};
-ghost use Rattle.night_requests.specs.declared.asked.View.TheVariants.{Whole};
+ghost use Rattle.state_views.specs.declared.views.View.TheVariants.{Whole};
 
-/// `demo` that isn't strict stands alone.
+/// If `demo` isn't strict, it has no flag.
 pub fn demo_stands_alone()
     ensures { (words : List (List ℕ)) → faults_of words ≡ [] → AsksForDemo false words
         → AsksAlone (codes "demo") words }
 {}
 
-/// A store that needn't be new stands alone after `format`, one whose run isn't strict after
-/// `script`, and one of which all is printed after `inspect`.
+/// The store has no flag after `format` if it needn't be new, after `script` if the run isn't
+/// strict, and after `inspect` if everything in it is printed.
 pub fn a_store_stands_alone()
     ensures format { (store : List ℕ) (words : List (List ℕ)) → faults_of words ≡ []
         → AsksForFormat store false words → AsksOver (codes "format") store words }
@@ -23,7 +23,8 @@ pub fn a_store_stands_alone()
         → AsksForInspect store Whole words → AsksOver (codes "inspect") store words }
 {}
 
-/// And if it stands alone there, it needn't be new, its run isn't strict, and all of it is printed.
+/// Conversely, a store without a flag needn't be new after `format`, its run isn't strict after
+/// `script`, and everything in it is printed after `inspect`.
 pub fn a_store_alone_has_no_flag()
     ensures format { (store : List ℕ) (words : List (List ℕ)) → faults_of words ≡ []
         → AsksOver (codes "format") store words → AsksForFormat store false words }

@@ -1,7 +1,8 @@
-//! Reads the words of the command line.
+//! Reads the arguments of the command line into a request, or says what is wrong with them.
 
 ghost use Rattle.std.specs.Iterator.{Drains};
-ghost use Rattle.std.specs.Prelude.{◌≡◌, ◌↔◌, IfErr, IfOk, Some, map, option_map};
+ghost use Rattle.std.specs.Prelude.{◌≡◌, ◌↔◌, IfErr, IfOk, IsErrAnd, OnErr, Some, map};
+ghost use Rattle.std.specs.Prelude.{option_map};
 ghost use Rattle.std.specs.String.{string_bytes};
 ghost use Rattle.std.specs.Vec.Iter.{into_iter_steps};
 ghost use Rattle.std.specs.declared.io.ErrorKind.TheVariants as system;
@@ -13,20 +14,26 @@ ghost use Rattle.night_words.specs.Commands.{is_true};
 ghost use Rattle.night_words.specs.Commands.{named_by, names_phase, new_by, workers_of};
 
 use crate::commands::night_command;
+use crate::faults::WordsFault;
+use crate::requests::Request;
 use clap::error::ErrorKind;
 use clap::{ArgMatches, Error};
-use night_requests::{Asked, View, WordsFault};
+use state_views::View;
 use std::alloc::Global;
-use std::env::{Args, Env};
-use std::{env, io};
+use std::env::Args;
+use std::io;
 
-/// The words that the program was started with, the program's own name first. `NotText` if one of
-/// them is not text in UTF-8, `Memory` if there was no memory for them.
-pub fn own_words<R: Env + AllocGlobal>(rt: &R) -> Result<Vec<String>, WordsFault>
-    ensures { IfErr result IsOfSystem }
+/// Returns all words of `given`, in their order. `given` is what `std::env::args` returned: the
+/// arguments with which the program was started, of which the first one is its own name. `NotText`
+/// if one of them isn't text in UTF-8, and `Memory` if memory for them was refused.
+pub fn own_words(alloc: Global, given: io::Result<Args>) -> Result<Vec<String>, WordsFault>
+    ensures words { IfOk given (λ words.
+        IfOk result (λ all. Drains into_iter_steps words all.items)) }
+    ensures memory { IfOk given (λ words. IfErr result (λ fault. fault ≡ WordsFault.Memory)) }
+    ensures refused { OnErr given (IsErrAnd result IsOfSystem) }
 {
-    match env::args(rt) {
-        Ok(words) => all_of(rt.alloc(), words),
+    match given {
+        Ok(words) => all_of(alloc, words),
         Err(error) => Err(refusal_of(error.kind())),
     }
 }
@@ -53,8 +60,8 @@ fn refusal_of(kind: io::ErrorKind) -> WordsFault
     }
 }
 
-/// What the words ask for, the program's own name first.
-pub fn read_words<'a>(alloc: Global, words: &'a [String]) -> Result<Asked<'a>, WordsFault>
+/// Returns the request in these arguments, of which the first one is the program's own name.
+pub fn read_words<'a>(alloc: Global, words: &'a [String]) -> Result<Request<'a>, WordsFault>
     ensures answer { IsAnswer (faults_of (map string_bytes words.now)) result }
     ensures asks { IfOk result (λ asked. AsksFor asked (map string_bytes words.now)) }
     ensures cause { IfErr result (λ why. IsCausedBy why (map string_bytes words.now)) }
@@ -63,13 +70,13 @@ pub fn read_words<'a>(alloc: Global, words: &'a [String]) -> Result<Asked<'a>, W
         return Err(WordsFault::Memory);
     };
     match command.try_get_matches_from(words) {
-        Ok(matches) => asked_of(&matches),
+        Ok(matches) => request_of(&matches),
         Err(error) => shown(alloc, &error),
     }
 }
 
 /// What the parser's matches ask for: the command that was used, its stores and its flag.
-fn asked_of<'a>(matches: &ArgMatches<'a>) -> Result<Asked<'a>, WordsFault>
+fn request_of<'a>(matches: &ArgMatches<'a>) -> Result<Request<'a>, WordsFault>
     requires { IsNamed (named_by matches.now) (new_by matches.now) }
     ensures { Asks (subcommand_rows_of matches.now) result }
 {
@@ -79,7 +86,11 @@ fn asked_of<'a>(matches: &ArgMatches<'a>) -> Result<Asked<'a>, WordsFault>
     let demos = command == "demo";
     if demos {
         let strict = is_set(inner, "strict");
-        return Ok(Asked::Demo { strict });
+        return Ok(Request::Demo { strict });
+    }
+    let plans = command == "plan";
+    if plans {
+        return Ok(Request::Plan);
     }
     let crews = command == "crew";
     if crews {
@@ -95,13 +106,13 @@ fn asked_of<'a>(matches: &ArgMatches<'a>) -> Result<Asked<'a>, WordsFault>
     let formats = command == "format";
     if formats {
         let is_new = is_set(inner, "new");
-        return Ok(Asked::Format { store, is_new });
+        return Ok(Request::Format { store, is_new });
     }
     let scripts = command == "script";
     if scripts {
         let strict = is_set(inner, "strict");
         let is_timed = is_set(inner, "now");
-        return Ok(Asked::Script {
+        return Ok(Request::Script {
             store,
             strict,
             is_timed,
@@ -135,11 +146,11 @@ fn is_set(inner: &ArgMatches, id: &str) -> bool
 }
 
 /// What is shown of a store.
-fn inspect<'a>(store: &'a str, inner: &ArgMatches<'a>) -> Result<Asked<'a>, WordsFault>
+fn inspect<'a>(store: &'a str, inner: &ArgMatches<'a>) -> Result<Request<'a>, WordsFault>
     ensures { IsInspect store.now (first_value (found_of inner.now)) result }
 {
     match view_of(inner) {
-        Ok(view) => Ok(Asked::Inspect { store, view }),
+        Ok(view) => Ok(Request::Inspect { store, view }),
         Err(fault) => Err(fault),
     }
 }
@@ -204,11 +215,15 @@ fn is_phase(word: &str) -> bool
 }
 
 /// A crew over a store. Another number of workers than 1 to 8 is a mistake.
-fn crew<'a>(store: &'a str, workers: Option<&'a str>, known: bool) -> Result<Asked<'a>, WordsFault>
+fn crew<'a>(
+    store: &'a str,
+    workers: Option<&'a str>,
+    known: bool,
+) -> Result<Request<'a>, WordsFault>
     ensures { IsCrew store.now (option_map (λ word. word.now) workers.entry) known result }
 {
     match workers_of(workers) {
-        Some(workers) => Ok(Asked::Crew {
+        Some(workers) => Ok(Request::Crew {
             store,
             workers,
             known,
@@ -237,12 +252,12 @@ fn renewal<'a>(
     new: Option<&'a str>,
     is_new: bool,
     in_place: bool,
-) -> Result<Asked<'a>, WordsFault>
+) -> Result<Request<'a>, WordsFault>
     ensures { IsRenewal old.now (option_map (λ word. word.now) new.entry) is_new in_place result }
 {
     match (new, is_new, in_place) {
         (Some(new), _, false) => for_two(old, new, is_new, true),
-        (None, false, true) => Ok(Asked::RenewInPlace(old)),
+        (None, false, true) => Ok(Request::RenewInPlace(old)),
         _ => Err(WordsFault::Place),
     }
 }
@@ -253,20 +268,20 @@ fn for_two<'a>(
     new: &'a str,
     is_new: bool,
     renews: bool,
-) -> Result<Asked<'a>, WordsFault>
+) -> Result<Request<'a>, WordsFault>
     ensures { IsForTwo renews is_new old.now new.now result }
 {
     if old == new {
         Err(WordsFault::SameStores)
     } else if renews {
-        Ok(Asked::Renew { old, new, is_new })
+        Ok(Request::Renew { old, new, is_new })
     } else {
-        Ok(Asked::Migrate { old, new, is_new })
+        Ok(Request::Migrate { old, new, is_new })
     }
 }
 
-/// What the parser answered in place of matches: help that was asked for, or a mistake.
-fn shown<'a>(alloc: Global, error: &Error) -> Result<Asked<'a>, WordsFault>
+/// What the parser answered instead of matches: help that was asked for, or a mistake.
+fn shown<'a>(alloc: Global, error: &Error) -> Result<Request<'a>, WordsFault>
     ensures { IsShown (kind_of error.now) result }
 {
     if error.kind() == ErrorKind::OutOfMemory {
@@ -278,6 +293,6 @@ fn shown<'a>(alloc: Global, error: &Error) -> Result<Asked<'a>, WordsFault>
     if error.use_stderr() {
         Err(WordsFault::Mistake(text))
     } else {
-        Ok(Asked::Help(text))
+        Ok(Request::Help(text))
     }
 }

@@ -6,8 +6,8 @@ use Rattle.run_model.specs.declared.answers.Reply.{Reply}
 use Rattle.run_model.specs.declared.commands.Step.{Step}
 use Rattle.book_model.specs.Steps.{StepsOn}
 use Rattle.night_program.specs.Lasting.{Reading, RunLeaves, Scripting}
-use Rattle.line_words.specs.Lasting.{RunsLines}
-use Rattle.line_words.specs.Scripts.{RunsOver}
+use Rattle.night_program.specs.CutScripts.{RunsLines}
+use Rattle.night_program.specs.Scripts.{RunsOver}
 use Rattle.store_words.specs.Lasting.{FindsLeft, IsReadAlone}
 
 -- The file of this name was opened, for writing or to be read, and given back; and then it was

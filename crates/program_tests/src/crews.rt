@@ -159,7 +159,7 @@ pub fn plain_jobs(rt: &impl Abort, alloc: Global, workers: usize) -> Vec<Vec<Box
     jobs
 }
 
-/// A night over a book, with so many workers that have a plain job each.
+/// A night over a book, with this many workers that have a plain job each.
 pub fn plain_night<D: RunDisk + Drop + Send, G: Gate + Sync, R: Threads + Wait + Sync + Abort>(
     rt: &R,
     alloc: Global,

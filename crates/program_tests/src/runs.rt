@@ -3,7 +3,7 @@
 use crate::asserts::{done, holds};
 use crate::shelves::{Shelf, said};
 use night_program::{CopyJob, Ended, FailJob, SpinJob, Streams, night};
-use night_requests::WordsFault;
+use night_words::WordsFault;
 use run_crew::Job;
 use run_model::Moment;
 use std::alloc::Global;
@@ -11,7 +11,7 @@ use std::io::{Read, Write};
 use std::process::Abort;
 use std::sync::Wait;
 use std::thread::Threads;
-use store_files::{Reason, Why};
+use store_files::{FileError, FirstError};
 use system_files::Errors;
 
 /// How many lists of jobs each run has.
@@ -59,7 +59,7 @@ fn moments_of(rt: &impl Abort, alloc: Global, times: &[u64]) -> Vec<Moment> {
     moments
 }
 
-/// Lists of jobs, for so many workers.
+/// Lists of jobs, for this many workers.
 fn lists(rt: &impl Abort, alloc: Global) -> Vec<Vec<Box<dyn Job + Send>>> {
     let mut jobs = Vec::new(alloc);
     for _ in 0..LISTS {
@@ -81,10 +81,10 @@ fn list(rt: &impl Abort, alloc: Global) -> Vec<Box<dyn Job + Send>> {
 
 /// Tells why calls of a stream failed.
 #[derive(Drop)]
-struct Said(&'static str);
+struct System(&'static str);
 
-impl Why for Said {
-    fn reason(&self) -> Option<Reason> {
+impl FirstError for System {
+    fn first_error(&self) -> Option<FileError> {
         Some(said(self.0))
     }
 }
@@ -104,8 +104,8 @@ pub fn run_over<R: Threads + Wait + Sync + Abort, I: Read, O: Write, E: Write>(
     let jobs = lists(rt, alloc);
     let mut clock = moments;
     let streams = Streams {
-        input: Said("nobody writes"),
-        output: Said("nobody reads"),
+        input: System("nobody writes"),
+        output: System("nobody reads"),
         is_terminal: false,
     };
     let mut errors = Errors::new(errors);
@@ -121,7 +121,7 @@ pub fn run_over<R: Threads + Wait + Sync + Abort, I: Read, O: Write, E: Write>(
         &streams,
         &mut errors,
     );
-    holds(rt, ended.told == (errors.failures() == 0), "told", 0);
+    holds(rt, ended.printed == (errors.failures() == 0), "told", 0);
     ended
 }
 
@@ -174,7 +174,7 @@ pub fn run_words<R: Threads + Wait + Sync + Abort>(
 /// Asserts how a run ended, and that all of it was told.
 fn assert_end(rt: &impl Abort, words: &[&str], printed: &Printed, end: &End) {
     let is_printed = printed.ended.status == end.0
-        && printed.ended.told
+        && printed.ended.printed
         && printed.output.as_str() == end.1
         && printed.errors.as_str() == end.2;
     assert!(rt; is_printed, "{words:?} {printed:?}");

@@ -9,7 +9,7 @@ ghost use Rattle.program_tests.specs.Zeros.{IsOfZeros};
 use arrayvec::ArrayString;
 use run_disk::{DiskFailed, Fuse, MemoryDisk, RunDisk, Torn};
 use std::alloc::Global;
-use store_files::{Files, Made, Opened, Reason, Why};
+use store_files::{FileError, Files, FirstError, Made, Opened};
 
 const NO_FILE: &str = "no such file";
 
@@ -40,7 +40,7 @@ pub struct Shelf {
     pub second: Place,
     /// Whether another program has them open.
     pub is_used: bool,
-    /// So many calls of each disk pass, and then each fails.
+    /// How many calls of each disk pass, and then each fails.
     pub passes: u64,
     /// Whether no file can be replaced.
     pub is_kept: bool,
@@ -54,12 +54,12 @@ impl Kept {
     ghost use Rattle.program_tests.specs.Shelves.{Lies, Nothing, spot_of};
 
     /// The bytes of a file that is not open.
-    fn bytes(&self, alloc: Global) -> Result<Vec<u8>, Reason>
+    fn bytes(&self, alloc: Global) -> Result<Vec<u8>, FileError>
         ensures had { IfOk result (λ bytes. spot_of self.now ≡ Lies bytes.items) }
     {
         match self {
             Kept::File(disk) => bytes_of(alloc, disk),
-            Kept::Open => Err(Reason::InUse),
+            Kept::Open => Err(FileError::InUse),
             Kept::Gone => Err(said(NO_FILE)),
         }
     }
@@ -88,12 +88,12 @@ impl Shelf {
 
     /// A shelf with this disk as the file of this name, which nobody uses, and whose disks are
     /// whole.
-    pub fn new(alloc: Global, name: &str, disk: MemoryDisk) -> Result<Shelf, Reason>
+    pub fn new(alloc: Global, name: &str, disk: MemoryDisk) -> Result<Shelf, FileError>
         ensures has { IfOk result (λ shelf. spot_at shelf name.now
             ≡ Lies (⟦<MemoryDisk as RunDisk>⟧.state disk).now) }
     {
         let Ok(name) = String::from_str(alloc, name) else {
-            return Err(Reason::NoMemory);
+            return Err(FileError::NoMemory);
         };
         let kept = Kept::File(disk);
         Ok(Shelf {
@@ -126,7 +126,7 @@ impl Shelf {
     }
 
     /// The bytes of the file of this name, if it is there and not open.
-    pub fn bytes(&self, name: &str) -> Result<Vec<u8>, Reason>
+    pub fn bytes(&self, name: &str) -> Result<Vec<u8>, FileError>
         ensures had { IfOk result (λ bytes. spot_at self.now name.now ≡ Lies bytes.items) }
     {
         match self.kept_at(name) {
@@ -146,7 +146,7 @@ impl Shelf {
     }
 
     /// A copy of the file of this name, as a disk at rest.
-    fn opened(&self, name: &str) -> Result<Opened<Fuse<MemoryDisk>, Broken>, Reason>
+    fn opened(&self, name: &str) -> Result<Opened<Fuse<MemoryDisk>, Broken>, FileError>
         ensures had { IfOk result (λ opened. spot_at self.now name.now
             ≡ Lies (⟦<Fuse<MemoryDisk> as RunDisk>⟧.state opened.disk).now) }
         ensures rest { IfOk result (λ opened.
@@ -177,7 +177,7 @@ impl Shelf {
 
     /// Puts a disk there as the file of this name. If no place is for it, the second one is taken,
     /// if that is free.
-    pub fn lay(&mut self, name: &str, disk: MemoryDisk) -> Result<(), Reason>
+    pub fn lay(&mut self, name: &str, disk: MemoryDisk) -> Result<(), FileError>
         ensures laid { OnOk result (spot_at self.new name.now
             ≡ Lies (⟦<MemoryDisk as RunDisk>⟧.state disk).now) }
         ensures elsewhere { OnOk result (IsElsewhereSame name.now self.old self.new) }
@@ -195,20 +195,20 @@ impl Shelf {
             return Err(said("no place"));
         }
         let Ok(name) = String::from_str(self.alloc, name) else {
-            return Err(Reason::NoMemory);
+            return Err(FileError::NoMemory);
         };
         let kept = Kept::File(disk);
         self.second = Place { name, kept };
         Ok(())
     }
 
-    /// Makes a file of so many zeros.
+    /// Makes a file of this many zeros.
     fn make(
         &mut self,
         name: &str,
         size: u64,
         is_new: bool,
-    ) -> Result<Made<Fuse<MemoryDisk>, Broken>, Reason>
+    ) -> Result<Made<Fuse<MemoryDisk>, Broken>, FileError>
         ensures laid { IfOk result (λ made. spot_at self.new name.now
             ≡ Lies (⟦<Fuse<MemoryDisk> as RunDisk>⟧.state made.disk).now) }
         ensures elsewhere { OnOk result (IsElsewhereSame name.now self.old self.new) }
@@ -230,7 +230,7 @@ impl Shelf {
 }
 
 /// The bytes of a disk in memory.
-fn bytes_of(alloc: Global, disk: &MemoryDisk) -> Result<Vec<u8>, Reason>
+fn bytes_of(alloc: Global, disk: &MemoryDisk) -> Result<Vec<u8>, FileError>
     ensures whole { IfOk result (λ bytes.
         bytes.items ≡ (⟦<MemoryDisk as RunDisk>⟧.state disk.now).now) }
 {
@@ -241,7 +241,7 @@ fn bytes_of(alloc: Global, disk: &MemoryDisk) -> Result<Vec<u8>, Reason>
 }
 
 /// A disk with the bytes of this one.
-fn copied(alloc: Global, disk: &MemoryDisk) -> Result<MemoryDisk, Reason>
+fn copied(alloc: Global, disk: &MemoryDisk) -> Result<MemoryDisk, FileError>
     ensures same { IfOk result (λ copy. (⟦<MemoryDisk as RunDisk>⟧.state copy).now
         ≡ (⟦<MemoryDisk as RunDisk>⟧.state disk.now).now) }
 {
@@ -251,8 +251,8 @@ fn copied(alloc: Global, disk: &MemoryDisk) -> Result<MemoryDisk, Reason>
     }
 }
 
-/// A disk at rest with so many zeros.
-fn zeros(alloc: Global, size: u64) -> Result<MemoryDisk, Reason>
+/// A disk at rest with this many zeros.
+fn zeros(alloc: Global, size: u64) -> Result<MemoryDisk, FileError>
     ensures made { IfOk result (λ disk.
         IsOfZeros size (⟦<MemoryDisk as RunDisk>⟧.state disk)) }
 {
@@ -267,27 +267,27 @@ impl Files for Shelf {
 
     type Disk = Fuse<MemoryDisk>;
 
-    type Why = Broken;
+    type FirstError = Broken;
 
     ghost seen = { shelf_view (⟦<Fuse<MemoryDisk> as RunDisk>⟧.state) };
 
-    fn open(&mut self, name: &str) -> Result<Opened<Fuse<MemoryDisk>, Broken>, Reason> {
+    fn open(&mut self, name: &str) -> Result<Opened<Fuse<MemoryDisk>, Broken>, FileError> {
         if self.is_used {
-            return Err(Reason::InUse);
+            return Err(FileError::InUse);
         }
         let opened = self.opened(name)?;
         self.put(name, Kept::Open);
         Ok(opened)
     }
 
-    fn open_to_read(&mut self, name: &str) -> Result<Opened<Fuse<MemoryDisk>, Broken>, Reason> {
+    fn open_to_read(&mut self, name: &str) -> Result<Opened<Fuse<MemoryDisk>, Broken>, FileError> {
         if self.is_used {
-            return Err(Reason::InUse);
+            return Err(FileError::InUse);
         }
         self.opened(name)
     }
 
-    fn look(&mut self, name: &str) -> Result<Opened<Fuse<MemoryDisk>, Broken>, Reason> {
+    fn look(&mut self, name: &str) -> Result<Opened<Fuse<MemoryDisk>, Broken>, FileError> {
         self.opened(name)
     }
 
@@ -301,7 +301,11 @@ impl Files for Shelf {
         disk.read_at(0, out)
     }
 
-    fn create(&mut self, name: &str, size: u64) -> Result<Made<Fuse<MemoryDisk>, Broken>, Reason> {
+    fn create(
+        &mut self,
+        name: &str,
+        size: u64,
+    ) -> Result<Made<Fuse<MemoryDisk>, Broken>, FileError> {
         let is_new = !self.has(name);
         self.make(name, size, is_new)
     }
@@ -311,7 +315,7 @@ impl Files for Shelf {
         name: &str,
         _like: Option<&str>,
         size: u64,
-    ) -> Result<Made<Fuse<MemoryDisk>, Broken>, Reason> {
+    ) -> Result<Made<Fuse<MemoryDisk>, Broken>, FileError> {
         if self.has(name) {
             return Err(said("there is one"));
         }
@@ -324,11 +328,11 @@ impl Files for Shelf {
         over: Fuse<MemoryDisk>,
         from: &str,
         to: &str,
-    ) -> Result<(), Reason> {
+    ) -> Result<(), FileError> {
         if self.is_kept {
             self.close(from, disk);
             self.close(to, over);
-            return Err(Reason::InUse);
+            return Err(FileError::InUse);
         }
         self.put(from, Kept::Gone);
         self.close(to, disk);
@@ -341,12 +345,12 @@ impl Files for Shelf {
     }
 }
 
-/// Tells why a call of a disk failed that fails after so many.
+/// Tells why a call of a disk failed that fails after this many.
 #[derive(Drop)]
 pub struct Broken(u64);
 
-impl Why for Broken {
-    fn reason(&self) -> Option<Reason> {
+impl FirstError for Broken {
+    fn first_error(&self) -> Option<FileError> {
         if self.0 < u64::MAX {
             Some(said("broken"))
         } else {
@@ -356,8 +360,8 @@ impl Why for Broken {
 }
 
 /// What a system says.
-pub fn said(text: &str) -> Reason {
+pub fn said(text: &str) -> FileError {
     let mut said = ArrayString::new();
     let _fits = said.try_push_str(text);
-    Reason::Said(said)
+    FileError::System(said)
 }

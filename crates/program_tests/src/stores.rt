@@ -2,7 +2,8 @@
 
 use crate::asserts::done;
 use crate::shelves::Shelf;
-use line_words::{Until, script};
+use night_program::script;
+use run_console::Until;
 use run_disk::{MemoryDisk, Torn};
 use std::alloc::Global;
 use std::process::Abort;

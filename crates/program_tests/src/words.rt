@@ -5,7 +5,7 @@ use crate::closed::Closed;
 use crate::runs::{assert_given, no_times, run_over, run_words, words_of};
 use crate::shelves::Shelf;
 use crate::stores::{shelved, zeros};
-use night_requests::WordsFault;
+use night_words::WordsFault;
 use std::alloc::Global;
 use std::process::Abort;
 use std::sync::Wait;
@@ -141,7 +141,7 @@ fn assert_case<R: Threads + Wait + Sync + Abort>(rt: &R, alloc: Global, case: &C
     let words = case.0;
     let printed = run_words(rt, alloc, words, &mut shelf, "derive a root cause\n");
     let is_printed = printed.ended.status == case.1
-        && printed.ended.told
+        && printed.ended.printed
         && is_shown(case.2, printed.output.as_str())
         && is_shown(case.3, printed.errors.as_str());
     assert!(rt; is_printed, "{words:?} {printed:?}");
@@ -204,9 +204,14 @@ fn assert_untaken<R: Threads + Wait + Sync + Abort>(
         &mut Closed,
         &mut errors,
     );
-    let is_told = errors.as_slice()
+    let is_printed = errors.as_slice()
         == b"night: output\nnight: standard output: nobody reads\n".as_slice();
-    holds(rt, ended.status == 3 && ended.told && is_told, "words", row);
+    holds(
+        rt,
+        ended.status == 3 && ended.printed && is_printed,
+        "words",
+        row,
+    );
     holds(rt, shelf.has_removed == printing.1, "file", row);
 }
 
@@ -231,9 +236,9 @@ fn an_input_that_fails_is_told(rt: HostRuntime) {
         &mut output,
         &mut errors,
     );
-    let is_told = errors.as_slice()
+    let is_printed = errors.as_slice()
         == b"night: input\nnight: standard input: nobody writes\n".as_slice();
-    holds(&rt, ended.status == 3 && is_told, "errors", 0);
+    holds(&rt, ended.status == 3 && is_printed, "errors", 0);
     holds(&rt, output.is_empty(), "output", 0);
 }
 
@@ -260,7 +265,12 @@ fn assert_untold<R: Threads + Wait + Sync + Abort>(
         &mut output,
         &mut Closed,
     );
-    holds(rt, ended.status == telling.1 && !ended.told, "words", row);
+    holds(
+        rt,
+        ended.status == telling.1 && !ended.printed,
+        "words",
+        row,
+    );
 }
 
 #[test]

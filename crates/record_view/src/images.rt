@@ -20,7 +20,7 @@ ghost use Rattle.record_view.specs.ImageExamples.{retried_head, retried_group, r
 ghost use Rattle.row_view.specs.Keeping.{IsImage};
 ghost use Rattle.row_view.specs.RowReading.{head_at, scope_at, group_row_at, task_at};
 
-/// An image of 57 bytes, byte by byte, in both versions, and one with a retry.
+/// Two images of 57 bytes, one in each version, and an image with a retry, byte by byte.
 pub fn an_image_is_its_head_and_rows()
     ensures two { option_map image (run (formatted Small) one_cancelled)
         ≡ Some (2 ∷ one_cancelled_part) }
@@ -38,7 +38,7 @@ pub fn the_greatest_images_have_these_sizes()
     ensures large { greatest_image Two Large ≡ 1913559 }
 {}
 
-/// A state has no two images of one version, and no image has more bytes than the greatest.
+/// A state has only one image of each version, and no image has more bytes than the greatest one.
 pub fn a_state_has_one_image()
     ensures one { (version : ImageVersion) (layout : Layout) (bytes other : List ℕ) (p : State) →
         IsImage version layout bytes p → IsImage version layout other p → bytes ≡ other }
@@ -46,14 +46,14 @@ pub fn a_state_has_one_image()
         IsImage version layout bytes p → length bytes ≤ greatest_image version layout }
 {}
 
-/// In a layout an image has one state, and is of one version.
+/// In a given layout, an image has only one state and one version.
 pub fn an_image_has_one_state()
     ensures { (version other : ImageVersion) (layout : Layout) (bytes : List ℕ) (p q : State) →
         IsImage version layout bytes p → IsImage other layout bytes q →
         (version ≡ other) × (p ≡ q) }
 {}
 
-/// What is written is read, whatever follows it.
+/// Rows that were written are read back, whatever comes after them.
 pub fn written_rows_are_read()
     ensures head { (layout : Layout) (head : ImageHead) (rest : List ℕ) →
         IsTrue (is_kept_head layout head) →
@@ -67,7 +67,7 @@ pub fn written_rows_are_read()
         task_at version (task_bytes version row ++ rest) ≡ Some (row, rest) }
 {}
 
-/// What is read was written so, and the rest is what follows it.
+/// Rows that are read are spelled as they would be written, and the rest is what comes after them.
 pub fn read_rows_are_written()
     ensures head { (layout : Layout) (head : ImageHead) (bytes rest : List ℕ) →
         head_at layout bytes ≡ Some (head, rest) →

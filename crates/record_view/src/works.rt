@@ -9,7 +9,8 @@ ghost use Rattle.run_model.specs.State.{WorkState};
 ghost use Rattle.row_view.specs.declared.heads.ImageHead.{ImageHead};
 ghost use Rattle.row_view.specs.WorkRows.{AreWorkRows, work_at};
 
-/// The rows of the work are read, and what is read is the rows of the work that keeps its rules.
+/// A work that keeps its rules is read back from its rows. Whatever is read as a work comes from
+/// the rows of one that keeps its rules.
 pub fn the_rows_of_the_work_are_read()
     ensures again { (layout : Layout) (head : ImageHead) (bytes rest : List ℕ) (w : WorkState) →
         AreWorkRows layout head bytes w rest → work_at layout head bytes ≡ Some (w, rest) }
@@ -17,7 +18,8 @@ pub fn the_rows_of_the_work_are_read()
         work_at layout head bytes ≡ Some (w, rest) → AreWorkRows layout head bytes w rest }
 {}
 
-/// After one head, no bytes begin with the rows of two works, nor have two rests after them.
+/// After one head, no bytes begin with the rows of two different works, or have two different rests
+/// after them.
 pub fn bytes_begin_with_one_work()
     ensures { (layout : Layout) (head : ImageHead) (bytes : List ℕ) (w v : WorkState)
         (rest other : List ℕ) → AreWorkRows layout head bytes w rest →

@@ -99,7 +99,7 @@ head_bytes head =
 abbrev pub in_version : ImageVersion → ImageHead → ImageHead
 in_version version head = record head { version = version }
 
--- The head of a state. Root has no row.
+-- The head of the image of a state. Root has no row in an image.
 abbrev pub head_of : ImageVersion → State → ImageHead
 head_of version p = record {
   version = version;
@@ -110,7 +110,8 @@ head_of version p = record {
   tasks = length p.work.tasks;
 }
 
--- A state in one of the versions: its head, and its rows in order of number.
+-- The image of a state in one of the versions: the head, and the rows in the order of their
+-- numbers.
 abbrev pub image_in : ImageVersion → State → List ℕ
 image_in version p =
     head_bytes (head_of version p) ++ flat_map scope_bytes (drop 1 p.tree.scopes)
@@ -127,42 +128,42 @@ abbrev pub is_kept_kind : Kind → Bool
 is_kept_kind kind.Group = true
 is_kept_kind other = is_recorded_kind other
 
--- A hit's fields are in range, if there is one. Every reason is.
+-- There is no hit, or its fields are in range. Every reason is in range.
 abbrev pub is_kept_hit : Option Hit → Bool
 is_kept_hit None = true
 is_kept_hit (Some hit) =
     nat_lt hit.event (2 ^ 64) && is_moment hit.moment && true && is_text hit.cause
 
--- A failure has a text.
+-- A stage is in range if the text of a failure is one.
 abbrev pub is_kept_stage : Stage → Bool
 is_kept_stage (stage.Failure text) = is_text text
 is_kept_stage _ = true
 
--- A link is below 65,535. In version 1 there is none.
+-- A link to the task that is retried is below 65,535. In version 1 there is no link.
 abbrev pub is_kept_link : ImageVersion → Option ℕ → Bool
 is_kept_link One link = is_none link
 is_kept_link Two None = true
 is_kept_link Two (Some n) = nat_lt n 65535
 
--- The fields of a scope's row are in range.
+-- The fields of the row of a scope are in range.
 abbrev pub is_kept_scope : Scope → Bool
 is_kept_scope row =
     is_name row.name && is_row_number row.parent && is_kept_kind row.kind && is_kept_hit row.hit
 
--- The fields of a group's row are in range. Every flag is.
+-- The fields of the row of a group are in range. Every flag is in range.
 abbrev pub is_kept_group : Group → Bool
 is_kept_group row =
     is_name row.name && is_row_number row.scope && true && is_limit row.limit && true
     && is_optional_text row.error
 
--- The fields of a task's row are in range.
+-- The fields of the row of a task are in range.
 abbrev pub is_kept_task : ImageVersion → Task → Bool
 is_kept_task version row =
     is_row_number row.group && is_name row.job && is_name row.argument
     && is_kept_stage row.stage && is_kept_link version row.retry_of
 
--- The fields of a head are in range, a count of events being below 2^63, and the rows are within
--- the layout's limits: root, which has no row, counts as a scope.
+-- The fields of a head are in range. The count of events is below 2^63, and the numbers of rows are
+-- within the limits of the layout. Root has no row, but counts as a scope.
 abbrev pub is_kept_head : Layout → ImageHead → Bool
 is_kept_head layout head =
     is_moment head.clock && nat_lt head.count (2 ^ 63) && nat_lt head.scopes (most_scopes layout)

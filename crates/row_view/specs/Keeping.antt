@@ -8,15 +8,15 @@ use Rattle.row_view.specs.declared.heads.ImageVersion.{ImageVersion}
 use Rattle.row_view.specs.Image.{head_of, image_in, is_kept_head, is_kept_scope}
 use Rattle.row_view.specs.Image.{is_kept_group, is_kept_task}
 
--- Each field of the head and of the rows after it is in range, for this version and layout.
+-- The fields of the head, and of the rows after it, are in range for this version and this layout.
 pub record IsInRange (version : ImageVersion) (layout : Layout) (p : State) : Type 0 where
   pub head : IsTrue (is_kept_head layout (head_of version p))
   pub scopes : AllByRecursion (λ row. IsTrue (is_kept_scope row)) (drop 1 p.tree.scopes)
   pub groups : AllByRecursion (λ row. IsTrue (is_kept_group row)) p.work.groups
   pub tasks : AllByRecursion (λ row. IsTrue (is_kept_task version row)) p.work.tasks
 
--- The bytes are the image of this state in this version, and well formed: the state has this
--- layout, its fields are in range, and the seven rules hold of it.
+-- The bytes are the image of this state in this version. The state has this layout, its fields are
+-- in range, and it is consistent.
 pub record IsImage
     (version : ImageVersion) (layout : Layout) (bytes : List ℕ) (p : State) : Type 0 where
   pub is : bytes ≡ image_in version p

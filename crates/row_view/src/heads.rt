@@ -1,15 +1,15 @@
-//! What the head of an image holds. `record_view` reads and writes it.
+//! The head of an image. `record_view` reads and writes it.
 
-/// How an image is spelled. Both are read, and the second alone is written.
+/// The version of an image. Both are read, and only the second one is written.
 #[derive(Clone, Copy, PartialEq, Eq)]
 pub enum ImageVersion {
-    /// Without links: no task is a retry.
+    /// Rows have no links, so no task is a retry.
     One,
     /// The row of each task ends with its link.
     Two,
 }
 
-/// What stands in front of the rows of an image.
+/// The fields before the rows of an image.
 #[derive(Clone, Copy, PartialEq, Eq)]
 pub struct ImageHead {
     /// How the rows are spelled.
@@ -18,7 +18,7 @@ pub struct ImageHead {
     pub clock: u64,
     /// The number of events so far.
     pub count: u64,
-    /// The number of scopes beside root.
+    /// The number of scopes, not counting root.
     pub scopes: u16,
     /// The number of groups.
     pub groups: u16,

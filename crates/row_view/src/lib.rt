@@ -1,17 +1,17 @@
-//! Rows: the bytes of scopes, groups and tasks in an image; and the fields that rows share with
+//! Rows: the bytes of scopes, groups and tasks in an image, and the fields that rows share with
 //! records.
 //!
-//! A row is read as a view, which lends its names and texts from the bytes, and written from a
-//! view, each exactly by the grammar. What is kept of a view is copied by [`copies`]. No call takes
-//! memory. The grammar stands in `specs/Image.antt`, apart from the code. Fields are read by
-//! [`texts`], [`numbers`] and [`kinds`], and written by these and [`puts`]. The crate above,
-//! `record_view`, has records, an image's head, and the laws of both.
+//! A row is read as a view, which lends its names and texts from the bytes, and it is written from
+//! a view. Both follow the grammar exactly. [`copies`] makes values of one's own from what a view
+//! lends. No call takes memory. The grammar is in `specs/Image.antt`, apart from the code.
+//! [`texts`], [`numbers`] and [`kind_bytes`] read fields, and write them together with [`puts`].
+//! The crate above, `record_view`, has records, the head of an image, and the laws of both.
 #![tactic(auto)]
 
 pub mod copies;
 mod group_rows;
 mod heads;
-pub mod kinds;
+pub mod kind_bytes;
 pub mod numbers;
 pub mod puts;
 mod scope_rows;

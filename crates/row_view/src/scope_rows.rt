@@ -24,7 +24,7 @@ ghost use Rattle.row_view.specs.RowViews.{hit_of, scope_of, hit_texts, scope_tex
 ghost use Rattle.row_view.specs.Views.{StandsAt, StandIn, kind_of, kind_texts};
 ghost use Rattle.row_view.specs.Writing.{put_at};
 
-use crate::kinds::{GROUP, put_kind, read_kind};
+use crate::kind_bytes::{GROUP, put_kind, read_kind};
 use crate::numbers::{read_byte, read_moment, read_u16, read_u64};
 use crate::puts::{put_byte, put_u16, put_u64};
 use crate::texts::{put_text, read_name, read_text};

@@ -1,5 +1,5 @@
-//! What a copy of a store begins with: a migration, and the renewal of the crate above, which both
-//! make a store from another one. [`make_rooms`] takes their room, and [`read_stored`] reads the
+//! The first two steps of a copy, which makes a new store from an old one: a migration, or a
+//! renewal in the crate above. [`take_copy_memory`] takes all memory, and [`read_stored`] reads the
 //! state that the old disk stores.
 
 ghost use Rattle.std.specs.Prelude.{◌≡◌, ◌+◌, length, IfOk, IfErr};
@@ -12,34 +12,33 @@ ghost use Rattle.book_model.specs.declared.migrations.MigrateFault.TheVariants a
 ghost use Rattle.book_model.specs.Migrations.{HasReadStore, ReadsNot};
 ghost use Rattle.run_book.specs.Migrating.{of_old};
 
-pub use crate::images::HEAD;
 use crate::openings::{body_len, read_state};
 use book_model::MigrateFault;
 use run_disk::RunDisk;
 use run_model::{Fault, Layout};
-use run_state::State;
+use run_session::State;
 use std::alloc::Allocator;
 
-/// The room of a copy.
+/// The memory of a copy.
 #[derive(Drop)]
-pub struct Rooms<A: Allocator> {
+pub struct CopyMemory<A: Allocator> {
     /// A new state of the old store's layout.
     pub state: State<A>,
-    /// Zeros: room for the greatest image of the new store's layout, and before it, in [`HEAD`]
-    /// bytes, for the journal's head.
+    /// Zeros, with room for the greatest image of the new store's layout after the head of the
+    /// journal, which takes [`HEAD`](run_journal::HEAD) bytes.
     pub body: Vec<u8, A>,
 }
 
-/// Takes the room of a copy, to a store of the second layout from one of the first; or the fault is
-/// `Memory`.
-pub fn make_rooms<A: Allocator + Copy>(
+/// Takes the memory of a copy from a store of the layout `from` to one of the layout `to`. `Memory`
+/// if it is refused.
+pub fn take_copy_memory<A: Allocator + Copy>(
     alloc: A,
     from: Layout,
     to: Layout,
-) -> Result<Rooms<A>, MigrateFault>
-    ensures state { IfOk result (λ rooms. rooms.state ≡ (opened from).state) }
-    ensures body { IfOk result (λ rooms.
-        length rooms.body.items ≡ 12 + greatest_image Two to) }
+) -> Result<CopyMemory<A>, MigrateFault>
+    ensures state { IfOk result (λ memory. memory.state ≡ (opened from).state) }
+    ensures body { IfOk result (λ memory.
+        length memory.body.items ≡ 12 + greatest_image Two to) }
     ensures fault { IfErr result (λ fault. fault ≡ why.Memory) }
 {
     let Ok(body) = vec![in alloc; 0u8; body_len(to)] else {
@@ -48,14 +47,14 @@ pub fn make_rooms<A: Allocator + Copy>(
     let Ok(state) = State::new(alloc, from) else {
         return Err(MigrateFault::Memory);
     };
-    Ok(Rooms { state, body })
+    Ok(CopyMemory { state, body })
 }
 
-/// The state that a store holds, made in a new state of the store's layout, by three reads; nothing
-/// is written.
+/// Returns the state that a store holds, by three reads; nothing is written. It is made in a new
+/// state of the store's layout.
 ///
-/// It reports the first of these faults that holds: `Memory`; the other faults of
-/// [`Book::recover`](crate::Book::recover) of a disk of a store's size, as `Old`; and
+/// It reports the first of these faults that applies: `Memory`; the other faults of
+/// [`Book::recover`](crate::Book::recover) for a disk that has the size of a store, as `Old`; and
 /// `Old(NumbersSpent)` if there were 2^62 events or more.
 pub fn read_stored<D: RunDisk, A: Allocator + Copy>(
     alloc: A,

@@ -1,5 +1,5 @@
-//! A migration: a small store becomes a large one. [`migrate`] reads the one, and makes the other
-//! from the state that it stores.
+//! A migration makes a large store from a small one. [`migrate`] reads the small store, and makes
+//! the large one from the state in it.
 
 ghost use Rattle.std.specs.Prelude.{◌≡◌, ◌<◌, ◌+◌, ◌^◌, length, IfErr, OnOk};
 ghost use Rattle.run_model.specs.declared.faults.Fault.TheVariants.{DiskFailed};
@@ -12,27 +12,27 @@ ghost use Rattle.book_model.specs.declared.migrations.MigrateFault.TheVariants a
 ghost use Rattle.book_model.specs.Migrations.{AreSized, HasMigrated, Migrates, MigratesNot};
 ghost use Rattle.book_model.specs.Migrations.{Writes, widened};
 
-use crate::copies::{Rooms, make_rooms, read_stored};
-use crate::images::{HEAD, fill};
+use crate::copies::{CopyMemory, read_stored, take_copy_memory};
+use crate::images::fill;
 use book_model::MigrateFault;
 use run_disk::RunDisk;
-use run_journal::Journal;
+use run_journal::{HEAD, Journal};
 use run_model::{Fault, Layout};
-use run_state::State;
+use run_session::State;
 use std::alloc::Allocator;
 
-/// Makes a large store from a small one. The new disk has a large store's size, and is given back
-/// with the state that the old disk stores, its number of events and its running tasks included. No
-/// restart is applied. The old disk is read by three calls, and nothing is written to it; the new
-/// one takes the eight calls of a format. All memory is taken before the first of them.
+/// Makes a large store from a small one. The new disk has the size of a large store. It is returned
+/// with the state that the old disk stores, including the number of events and the running tasks:
+/// there is no restart. The old disk is read by three calls, and nothing is written to it. The new
+/// one takes the eight calls of a format. All memory is taken before the first call.
 ///
-/// It reports the first of these faults that holds: `Old(WrongSize)` if the old disk doesn't have
+/// It reports the first of these faults that applies: `Old(WrongSize)` if the old disk doesn't have
 /// the size of a small store; `New(WrongSize)` if the new one doesn't have that of a large store;
 /// `Memory`; the other faults of [`Book::recover`](crate::Book::recover), as `Old`;
-/// `Old(NumbersSpent)` if there were 2^62 events or more; and `New(DiskFailed)` if a call of
-/// the new disk failed: then the new disk may hold no store. The new disk is handed back at each
-/// fault, and was called at the last one alone. If it held zeros, a migration that stops leaves
-/// nothing stored in it, or the new store.
+/// `Old(NumbersSpent)` if there were 2^62 events or more; and `New(DiskFailed)` if a call of the
+/// new disk failed. The new disk is returned with each fault. It is untouched, except after
+/// `New(DiskFailed)`: then it may hold no store. If it held zeros, a migration that ends early
+/// leaves nothing stored in it, or the new store.
 pub fn migrate<D: RunDisk, E: RunDisk, A: Allocator + Copy>(
     alloc: A,
     old: &mut D,
@@ -65,7 +65,7 @@ fn migrate_sized<D: RunDisk, E: RunDisk, A: Allocator + Copy>(
     ensures not { IfErr result (λ fault.
         MigratesNot D.state E.state old.old new.old fault old.new new.new) }
 {
-    let Rooms { state, mut body } = make_rooms(alloc, Layout::Small, Layout::Small)?;
+    let CopyMemory { state, mut body } = take_copy_memory(alloc, Layout::Small, Layout::Small)?;
     let stored = read_stored(alloc, old, state)?;
     let written = write_large(new, &stored, &mut body);
     drop(stored);
@@ -86,7 +86,7 @@ fn write_large<E: RunDisk, A: Allocator>(
     ensures fault { IfErr result (λ fault. fault ≡ why.New DiskFailed) }
 {
     // that the image fits into the buffer
-    let _room = state.image_room();
+    let _bound = state.image_bound();
     let count = fill(state, body);
     match Journal::format(new, &mut body[..HEAD + count]) {
         Ok(()) => Ok(()),

@@ -1,1 +1,10 @@
-pub mod Crews
+pub mod Forward
+pub mod RunProgress
+pub mod SavingLines
+pub mod ScopeQuestions
+pub mod StoreTroubles
+pub mod TakenSteps
+pub mod Timed
+pub mod Times
+pub mod Until
+pub mod Weaving

@@ -3,8 +3,9 @@ use Rattle.std.specs.Prelude.{◌≡◌, ◌⊎◌, ◌<◌, ◌≤◌, ◌+◌,
 use Rattle.run_disk.specs.Contents.{SameOutside, Holds, Follows}
 use Rattle.run_disk.specs.Disk.{DiskState, IsSame, IsSynced, last_moment}
 
--- What each call does, on any disk: it is counted, and so is its failure; a crash inside it leaves
--- what a crash before it or after it may leave; on a spent disk it fails and changes nothing.
+-- What each call does, on any disk. The call is counted, and so is its failure. A crash inside it
+-- leaves what a crash before it or after it may leave. On a spent disk it fails, and changes
+-- nothing.
 pub record Calls {T E : Type 0} (old new : DiskState) (result : Result T E) : Type 0 where
   pub size : new.size ≡ old.size
   pub honest : old.honest → new.honest
@@ -17,16 +18,16 @@ pub record Calls {T E : Type 0} (old new : DiskState) (result : Result T E) : Ty
       (t : ℕ) (x : List ℕ) → t ≤ old.clock → new.since t x → old.since t x ⊎ new.images x
   pub keeps : (t : ℕ) (x : List ℕ) → t ≤ old.clock → old.since t x → new.since t x
 
--- What a read does to an honest disk, even if it fails: reads give the same bytes, a crash leaves
+-- What a read does to an honest disk, even if it fails: reads return the same bytes, a crash leaves
 -- nothing more, and no more places are unsure.
 pub record Reads (old new : DiskState) : Type 0 where
   pub now : new.now ≡ old.now
   pub images : (x : List ℕ) → new.images x → old.images x
   pub unsure : (i : ℕ) → new.unsure i → old.unsure i
 
--- What a write of these bytes does to an honest disk: each of the new images is an old one with
--- anything in the written range. At Ok reads give the bytes there, and no failed write waits there;
--- after a failure what reads give there is unknown until it is written again.
+-- What a write of these bytes does to an honest disk. Each of the new images is an old one with any
+-- bytes in the written range. At Ok reads return the bytes there, and no failed write waits there.
+-- After a failure the bytes there are unknown until they are written again.
 pub record Writes {T E : Type 0}
     (at : ℕ) (bytes : List ℕ) (old new : DiskState) (result : Result T E) : Type 0 where
   pub elsewhere : SameOutside at (length bytes) old.now new.now
@@ -37,7 +38,7 @@ pub record Writes {T E : Type 0}
   pub unsure : OnErr result
       ((i : ℕ) → new.unsure i → old.unsure i ⊎ ((at ≤ i) × (i < at + length bytes)))
 
--- What a sync does to an honest disk: reads give the same bytes, and no image is added. At Ok the
+-- What a sync does to an honest disk: reads return the same bytes, and no image is added. At Ok the
 -- disk is synced.
 pub record Syncs {T E : Type 0} (old new : DiskState) (result : Result T E) : Type 0 where
   pub now : new.now ≡ old.now

@@ -5,22 +5,22 @@ use Rattle.std.specs.Prelude.{◌≡◌, ◌<◌, ◌≤◌, ◌-◌, ◌^◌, �
 pub record DiskState : Type 1 where
   -- the number of its bytes
   pub size : ℕ
-  -- the bytes that reads give
+  -- the bytes that reads return
   pub now : List ℕ
   -- the contents that a crash now may leave
   pub images : List ℕ → Type 0
-  -- the contents that a crash may have left at some moment from that one on, inside calls too
+  -- the contents that a crash at any moment since that one may have left, even inside a call
   pub since : ℕ → List ℕ → Type 0
-  -- the moment: the number of reads, writes and syncs that were made
+  -- the moment: the number of reads, writes and syncs so far
   pub clock : ℕ
-  -- the number of these that failed
+  -- how many of them failed
   pub failures : ℕ
-  -- whether it behaves as the clauses on its bytes say
+  -- whether it keeps the clauses about its bytes
   pub honest : Type 0
-  -- the places of failed writes that were not written again
+  -- the places of failed writes that weren't written again
   pub unsure : ℕ → Type 0
 
--- The last moment: a disk that has reached it is spent, and each further call fails.
+-- The last moment. A disk that has reached it is spent, and each further call fails.
 abbrev pub last_moment : ℕ
 last_moment = 2 ^ 64 - 1
 
@@ -42,18 +42,20 @@ pub record IsDisk (s : DiskState) : Type 0 where
   pub earlier :
       (t u : ℕ) (x : List ℕ) → t ≤ u → u ≤ s.clock → s.since u x → s.since t x
 
--- It is synced: whatever a crash now leaves, each place holds what reads give there, except for the
--- places of failed writes that were not written again.
+-- The disk is synced: whatever a crash now leaves, each place holds the byte that reads return
+-- there, except for the places of failed writes that weren't written again.
 pub record IsSynced (s : DiskState) : Type 0 where
   pub only :
       (x : List ℕ) → s.images x → (i : ℕ) → (s.unsure i → ⊥) → get_or x i 0 ≡ get_or s.now i 0
 
--- It is at rest: a crash leaves what reads give, and no failed write waits to be written again.
+-- The disk is at rest: a crash now leaves exactly the bytes that reads return, and each place of a
+-- failed write was written again.
 pub record IsAtRest (s : DiskState) : Type 0 where
   pub only : (x : List ℕ) → s.images x → x ≡ s.now
   pub sure : (i : ℕ) → s.unsure i → ⊥
 
--- It begins with these bytes: it is honest and at rest, reads give them, and no call was counted.
+-- The disk begins with these bytes: it is honest and at rest, reads return the bytes, and no call
+-- has been counted.
 pub record Begins (bytes : List ℕ) (s : DiskState) : Type 0 where
   pub honest : s.honest
   pub rest : IsAtRest s
@@ -62,7 +64,8 @@ pub record Begins (bytes : List ℕ) (s : DiskState) : Type 0 where
   pub clock : s.clock ≡ 0
   pub failures : s.failures ≡ 0
 
--- Reads and the two counts are the same; a crash leaves nothing more, no more places are unsure.
+-- Reads and the two counts are the same, a crash leaves nothing more, and no more places are
+-- unsure.
 pub record IsSame (old new : DiskState) : Type 0 where
   pub now : new.now ≡ old.now
   pub images : (x : List ℕ) → new.images x → old.images x

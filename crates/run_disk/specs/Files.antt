@@ -2,7 +2,7 @@
 use Rattle.std.specs.Prelude.{◌≤◌, ◌<◌, ◌^◌, ℕ, []}
 use Rattle.run_disk.specs.Disk.{DiskState, IsDisk}
 
--- The state of a disk over a file: it isn't honest, so nothing is said of its bytes.
+-- The state of a disk over a file. It isn't honest, so nothing is said about its bytes.
 abbrev pub file_state : ℕ → ℕ → ℕ → DiskState
 file_state size calls failures = record {
   size = size;
@@ -21,7 +21,7 @@ pub record IsFileDisk (size calls failures : ℕ) : Type 0 where
   pub calls_fit : calls < 2 ^ 64
   pub failures_fit : failures ≤ calls
 
--- Such a state is a disk's.
+-- Such a state is the state of a disk.
 pub is_file_disk : (size calls failures : ℕ) → IsFileDisk size calls failures
     → IsDisk (file_state size calls failures)
 is_file_disk size calls failures kept = record {

@@ -29,7 +29,7 @@ pub record IsKept (h : History) (clock failures : ℕ) : Type 0 where
   pub clock_fits : clock < 2 ^ 64
   pub size_fits : length h.first < 2 ^ 64
 
--- Such a state is a disk's.
+-- Such a state is the state of a disk.
 pub is_memory_disk : (h : History) (clock failures : ℕ)
     → IsKept h clock failures → IsDisk (memory_state h clock failures)
 is_memory_disk h clock failures kept =

@@ -4,20 +4,20 @@ use Rattle.std.proofs.Common.{arith, subst, sym}
 use Rattle.run_disk.specs.Disk.{DiskState, IsDisk, last_moment}
 use Rattle.run_disk.specs.Calls.{Calls}
 
--- One call of such a disk. If it passes the call on, the disk below makes it and its result is the
--- answer; otherwise the call fails, and the disk below stays as it was.
+-- One call of such a disk. If the disk passes the call on, the disk below makes it, and its result
+-- is the result. Otherwise the call fails, and the disk below stays as it was.
 pub record Relays {D T E : Type 0}
     (state : D → DiskState) (passes : Type 0) (old new : D) (result : Result T E) : Type 0 where
   pub passed_on : passes → Calls (state old) (state new) result
   pub cut_off : (passes → ⊥) → IsErr result × (new ≡ old)
 
--- Whatever a crash at some moment from t on may have left of the one disk, a crash from the moment
--- that stands for t on may have left of the other, and the other way round.
+-- Whatever a crash of the one disk at any moment since t may have left, a crash of the other one
+-- since the corresponding moment may have left, and vice versa.
 abbrev pub LeftSame : (ℕ → ℕ) → DiskState → DiskState → Type 0
 LeftSame moment one other = (t : ℕ) (x : List ℕ) → one.since t x ↔ other.since (moment t) x
 
--- Both disks have the same size, reads give the same bytes of them, a crash now may leave the same,
--- and one is honest exactly when the other is.
+-- Both disks have the same size, reads return the same bytes of them, a crash now may leave the
+-- same, and one is honest exactly if the other is.
 pub record ShowsSame (one other : DiskState) : Type 0 where
   pub size : one.size ≡ other.size
   pub now : one.now ≡ other.now
@@ -67,7 +67,7 @@ pub record IsOver (gap : Gap) (first : ℕ) (below : DiskState) (calls failed : 
   pub failed_fit : failed ≤ calls
   pub calls_fit : calls < 2 ^ 64
 
--- Such a state is a disk's.
+-- Such a state is the state of a disk.
 pub over_is_disk : (gap : Gap) (first : ℕ) (below : DiskState) (calls failed : ℕ)
     → IsDisk below → IsOver gap first below calls failed
     → IsDisk (over gap first below calls failed)

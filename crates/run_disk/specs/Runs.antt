@@ -6,7 +6,8 @@ use Rattle.run_model.specs.declared.faults.Fault.TheVariants.{DiskFailed}
 use Rattle.run_disk.specs.Contents.{Holds, Follows}
 use Rattle.run_disk.specs.Disk.{DiskState, IsSynced, last_moment}
 
--- What any run of calls does, on any disk: neither count falls, and size and honesty stay.
+-- What any sequence of calls does, on any disk: neither count falls, and the size and the honesty
+-- stay the same.
 pub record Passed (old new : DiskState) : Type 0 where
   pub size : new.size ≡ old.size
   pub honest : old.honest → new.honest
@@ -14,8 +15,8 @@ pub record Passed (old new : DiskState) : Type 0 where
   pub later : old.clock ≤ new.clock
   pub failures_later : old.failures ≤ new.failures
 
--- What a run that answers for its calls does, on any disk: it is Ok only if no call failed, and
--- a fault only if a call failed or the disk is spent.
+-- What a run does that reports the failures of its calls, on any disk. It is Ok only if no call
+-- failed, and a fault only if a call failed or the disk is spent.
 pub record Ran {T E : Type 0} (old new : DiskState) (result : Result T E) : Type 0 where
   pub size : new.size ≡ old.size
   pub honest : old.honest → new.honest
@@ -25,7 +26,7 @@ pub record Ran {T E : Type 0} (old new : DiskState) (result : Result T E) : Type
   pub fine : OnOk result (new.failures ≡ old.failures)
   pub cause : OnErr result ((old.failures < new.failures) ⊎ (new.clock ≡ last_moment))
 
--- The run makes n calls, and if it faults at most n.
+-- The run makes n calls, or at most n if it ends with a fault.
 pub record Took {T E : Type 0} (n : ℕ) (old new : DiskState) (result : Result T E) : Type 0 where
   pub exactly : OnOk result (new.clock ≡ old.clock + n)
   pub most : new.clock ≤ old.clock + n
@@ -38,15 +39,15 @@ FailedAt n old new =
     ⊎ ((new.clock + 1 ≡ old.clock + n) × (new.clock ≡ last_moment)
     × (new.failures ≡ old.failures))
 
--- No call is made after the one that failed: up to some moment of the run none had failed, and
--- from there on one call was made, which failed.
+-- No call is made after one that has failed: up to some moment of the run none had failed, and
+-- after it only one call was made, which failed.
 pub record FailedLast {D : Type 0} (state : D → DiskState) (old new : DiskState) : Type 0 where
   pub before : D
   pub fine : (state before).failures ≡ old.failures
   pub failed : FailedAt 1 (state before) new
 
--- The result of a run of n calls, on any disk: it makes them all, or those up to the first that
--- fails, and its only fault is that one failed.
+-- The result of a run of n calls, on any disk. It makes all of them, or those up to the first one
+-- that fails. Its only fault is that a call failed.
 pub record MakesCalls {D T : Type 0} (state : D → DiskState) (n : ℕ) (old new : DiskState)
     (result : Result T Fault) : Type 0 where
   pub ran : Ran old new result
@@ -54,32 +55,32 @@ pub record MakesCalls {D T : Type 0} (state : D → DiskState) (n : ℕ) (old ne
   pub last : OnErr result (FailedLast state old new)
   pub fault : IfErr result (λ fault. fault ≡ DiskFailed)
 
--- At the end of the run what reads give, and each content that a crash may leave, comes by this
--- step from what it was before the run.
+-- At the end of the run, the bytes that reads return, and each content that a crash may leave, come
+-- by this step from what they were before the run.
 pub record Ends (step : List ℕ → List ℕ → Type 0) (old new : DiskState) : Type 0 where
   pub now : step old.now new.now
   pub images : Follows step old.images new.images
 
--- At the end of the run and at every moment of it, each content comes by this step from one that a
--- crash before the run might have left.
+-- At every moment of the run, and at its end, each content comes by this step from one that a crash
+-- before the run might have left.
 pub record Leaves (step : List ℕ → List ℕ → Type 0) (old new : DiskState) : Type 0 where
   pub later : old.clock ≤ new.clock
   pub now : step old.now new.now
   pub images : Follows step old.images new.images
   pub each : Follows step old.images (new.since old.clock)
-  -- and so for moments before the run, if it is the later part of a longer one
+  -- and the same for moments before the run, if it is the later part of a longer one
   pub before : (t : ℕ) (x : List ℕ) → t ≤ old.clock → new.since t x
       → old.since t x ⊎ ((y : List ℕ) × old.images y × step y x)
 
--- Each content that a crash at some moment of the run may have left has P.
+-- P holds for each of the contents that a crash at any moment of the run may have left.
 pub record LeavesOnly (P : List ℕ → Type 0) (old new : DiskState) : Type 0 where
   pub later : old.clock ≤ new.clock
   pub each : (x : List ℕ) → new.since old.clock x → P x
-  -- and so for moments before the run, if it is the later part of a longer one
+  -- and the same for moments before the run, if it is the later part of a longer one
   pub before : (t : ℕ) (x : List ℕ) → t ≤ old.clock → new.since t x → old.since t x ⊎ P x
 
--- Reads give the same after the run, at no moment of it does a crash leave anything that one
--- before it would not have left, and no more places are unsure.
+-- After the run, reads return the same bytes, and no more places are unsure. At no moment of it
+-- does a crash leave anything that a crash before it wouldn't have left.
 pub record OnlyReads (old new : DiskState) : Type 0 where
   pub later : old.clock ≤ new.clock
   pub now : new.now ≡ old.now
@@ -92,8 +93,8 @@ pub record OnlyReads (old new : DiskState) : Type 0 where
 abbrev pub IsSurer : DiskState → DiskState → Type 0
 IsSurer old new = (i : ℕ) → new.unsure i → old.unsure i
 
--- What a run leaves of an honest disk: at every moment of it each content comes by `step`, and at
--- Ok by `end`, durably.
+-- What a run leaves of an honest disk: at every moment each content comes by `step`, and at Ok by
+-- `end`, durably.
 pub record LeavesForGood {T E : Type 0} (step end : List ℕ → List ℕ → Type 0)
     (old new : DiskState) (result : Result T E) : Type 0 where
   pub any_moment : old.honest → Leaves step old new
@@ -101,7 +102,8 @@ pub record LeavesForGood {T E : Type 0} (step end : List ℕ → List ℕ → Ty
   pub synced : old.honest → OnOk result (IsSynced new)
   pub sure : old.honest → OnOk result (IsSurer old new)
 
--- Reads give these bytes from `at` on, and no failed write waits there: a sync makes them durable.
+-- Reads return these bytes from `at` on, and no failed write waits there. So a sync makes them
+-- durable.
 pub record Stands (at : ℕ) (bytes : List ℕ) (s : DiskState) : Type 0 where
   pub now : Holds at bytes s.now
   pub sure : (i : ℕ) → i < length bytes → s.unsure (at + i) → ⊥

@@ -15,7 +15,7 @@ pub record History : Type 0 where
   pub writes : List Write
   pub syncs : List ℕ
 
--- The first so many of these bytes, with zeros after them where there are fewer.
+-- The first of these bytes, as many as asked for, with zeros after them if there are fewer.
 abbrev pub filled_up : ℕ → List ℕ → List ℕ
 filled_up size bytes = take size bytes ++ replicate (size - length bytes) 0
 

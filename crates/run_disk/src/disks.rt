@@ -1,8 +1,8 @@
-//! A [`RunDisk`] is a row of bytes that is read, written and synced; a [`DiskFailed`] reports that
-//! it did not do a call.
+//! A [`RunDisk`] is a sequence of bytes that can be read, written and synced. A [`DiskFailed`]
+//! reports that a call failed.
 //!
-//! Between two syncs a written range may hold any bytes after a crash, and the places outside keep
-//! theirs. After a sync a crash leaves what reads give.
+//! Between two syncs, a crash may leave any bytes in a range that was written, and leaves the
+//! places outside as they were. After a sync, a crash leaves what reads return.
 
 ghost use Rattle.std.specs.Prelude.{◌≡◌, ◌≤◌, ◌+◌, length, OnOk, Some, slice_range};
 ghost use Rattle.run_disk.specs.Disk.{DiskState, IsDisk};
@@ -12,7 +12,7 @@ use run_model::Fault;
 use std::error::Error;
 use std::fmt;
 
-/// A call of the device failed. It is printed as the fault that it is: `fault 2 DiskFailed`.
+/// A call of the device failed. It is printed as the fault `fault 2 DiskFailed`.
 #[derive(Clone, Copy, Debug, PartialEq, Eq)]
 pub struct DiskFailed;
 
@@ -39,8 +39,8 @@ impl fmt::Display for DiskFailed {
 
 impl Error for DiskFailed {}
 
-/// A disk of a fixed size. Each read, write and sync is counted, and so is each that fails; at
-/// 2^64 - 1 of them the disk is spent, and each further call fails and changes nothing.
+/// A disk of a fixed size. It counts its reads, writes and syncs, and also those that fail. After
+/// 2^64 - 1 of them the disk is spent: each further call fails and changes nothing.
 pub trait RunDisk {
     /// What contracts see of the disk.
     ghost state: { Self → DiskState };
@@ -49,8 +49,7 @@ pub trait RunDisk {
     fn size(&self) -> u64
         ensures { result ≡ (state self.now).size };
 
-    /// Reads as many bytes as `out` takes, from the place `at` on. After an error `out` may hold
-    /// anything.
+    /// Fills `out` with the bytes from the place `at` on. After an error `out` may hold anything.
     fn read_at(&mut self, at: u64, out: &mut [u8]) -> Result<(), DiskFailed>
         requires { at + length out.old ≤ (state self.old).size }
         ensures call { Calls (state self.old) (state self.new) result }
@@ -58,16 +57,16 @@ pub trait RunDisk {
         ensures bytes { (state self.old).honest
             → OnOk result (out.new ≡ slice_range (state self.old).now at (at + length out.old)) };
 
-    /// Writes these bytes from the place `at` on. Until a sync a crash may leave anything there.
-    /// After an error the bytes there are unknown until they are written again.
+    /// Writes these bytes, beginning at the place `at`. Until a sync, a crash may leave anything
+    /// there. After an error the bytes there are unknown until they are written again.
     fn write_at(&mut self, at: u64, bytes: &[u8]) -> Result<(), DiskFailed>
         requires { at + length bytes.now ≤ (state self.old).size }
         ensures call { Calls (state self.old) (state self.new) result }
         ensures writes { (state self.old).honest
             → Writes at bytes.now (state self.old) (state self.new) result };
 
-    /// Makes what was written durable: after it a crash leaves what reads give, except in ranges of
-    /// failed writes that were not written again.
+    /// Makes what was written durable. After it, a crash leaves what reads return, except in the
+    /// ranges of failed writes that weren't written again.
     fn sync(&mut self) -> Result<(), DiskFailed>
         ensures call { Calls (state self.old) (state self.new) result }
         ensures syncs { (state self.old).honest → Syncs (state self.old) (state self.new) result };

@@ -1,5 +1,5 @@
-//! A [`FailingDisk`] is a disk over another that fails some of its calls by itself: a [`Fuse`]
-//! fails for good after so many calls, a [`FailOnce`] fails a single one.
+//! A [`FailingDisk`] wraps another disk, and makes some of its calls fail. A [`Fuse`] fails all
+//! calls after the first ones, and a [`FailOnce`] fails a single call.
 
 ghost use Rattle.std.specs.Prelude.{◌≡◌, ◌≤◌, ◌+◌, ◌-◌, [], length, OnOk, slice_range, List, ℕ};
 ghost use Rattle.std.specs.Bool.{OnFalse, OnTrue};
@@ -18,14 +18,14 @@ pub struct ForGood;
 /// One call fails.
 pub struct Once;
 
-/// Passes its first calls on to the disk below, and fails each call after them.
+/// Passes its first calls on to the disk below, and fails all calls after them.
 pub type Fuse<D> = FailingDisk<D, ForGood>;
 
-/// Fails one call by itself, and passes all others on to the disk below.
+/// Fails one call, and passes all others on to the disk below.
 pub type FailOnce<D> = FailingDisk<D, Once>;
 
-/// Passes its calls on to the disk below, except for those of one range: each of them fails, and
-/// doesn't reach the disk below. `W` says which calls these are.
+/// Passes its calls on to the disk below, except for one range of calls. Each of these fails, and
+/// doesn't reach the disk below. `W` says which calls they are.
 #[derive(Drop)]
 pub struct FailingDisk<D: RunDisk, W> {
     disk: D,
@@ -43,7 +43,7 @@ pub struct FailingDisk<D: RunDisk, W> {
 impl<D: RunDisk> FailingDisk<D, ForGood> {
     ghost use Rattle.run_disk.specs.FailingDisks.{below, calls_cut, clock_below, state_of};
 
-    /// Makes a fuse over this disk, which passes so many calls on.
+    /// Makes a fuse over this disk, which passes the first `limit` calls on.
     pub fn new(disk: D, limit: u64) -> Fuse<D>
         ensures limit { calls_cut result ≡ record { first = limit; behind = last_moment } }
         ensures below { below result ≡ disk }
@@ -59,7 +59,8 @@ impl<D: RunDisk> FailingDisk<D, ForGood> {
 impl<D: RunDisk> FailingDisk<D, Once> {
     ghost use Rattle.run_disk.specs.FailingDisks.{below, calls_cut, clock_below, state_of};
 
-    /// Makes a disk over this one that fails call `call`, counted from 1; no call has number 0.
+    /// Makes a disk over this one that fails the call with the number `call`. Calls are counted
+    /// from 1, so 0 fails none.
     pub fn new(disk: D, call: u64) -> FailOnce<D>
         ensures call { calls_cut result ≡ record { first = call - 1; behind = call } }
         ensures below { below result ≡ disk }

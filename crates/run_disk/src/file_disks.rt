@@ -1,12 +1,13 @@
 //! A [`FileDisk`] is a disk over a file.
 //!
-//! Nothing is known here of what a file holds, so such a disk isn't called honest: only its
-//! size, its counts and its safety are claimed. A program that relies on it takes as its premise
-//! that nobody else writes the file and that the file behaves as a disk does.
+//! Nothing is known here about the bytes of a file. So such a disk isn't called honest: its
+//! contracts only promise its size, its counts and its safety. A program that relies on it has to
+//! assume that nobody else writes the file, and that the file behaves like a disk.
 //!
-//! A Linux file behaves so only until a sync of it fails. Then the system takes what it could
-//! not write for written: reads still give it, a later sync succeeds and doesn't write it, and a
-//! power failure takes it. So such a file must only be copied from then on.
+//! A Linux file behaves like a disk only until a sync of it fails. After that the system treats the
+//! pages that it couldn't write as if they were written: reads still return them, a later sync
+//! succeeds without writing them, and a power failure loses them. From then on, the only safe use
+//! of such a file is to copy it.
 
 ghost use Rattle.std.specs.Prelude.{◌≡◌, IfOk, is_ok};
 ghost use Rattle.run_disk.specs.Files.{IsFileDisk, file_state, is_file_disk};
@@ -17,8 +18,8 @@ use std::fs::File;
 use std::io;
 use std::os::unix::fs::FileExt;
 
-/// A disk over a file, with the size that the file had when the disk was made. Each failing call of
-/// the file is the device's failure, and so is a read or a write that isn't whole.
+/// A disk over a file. It has the size that the file had when the disk was made. If a call of the
+/// file fails, or a read or a write isn't complete, the device has failed.
 #[derive(Drop)]
 pub struct FileDisk {
     file: File,
@@ -30,13 +31,14 @@ pub struct FileDisk {
 }
 
 impl FileDisk {
-    /// A disk over this file, which must be open for what the disk is to do: if it is open for
-    /// reading alone, each write fails. The file is synced first, in a call that isn't counted: so
-    /// what another program left in the system's memory is on the device before any of it is read.
+    /// Makes a disk over this file, which must be open for reading and writing; if it is open for
+    /// reading only, each write fails. The file is synced first, in a call that isn't counted. So
+    /// whatever another program left in the system's memory is on the device before any of it is
+    /// read.
     ///
-    /// It isn't if an earlier sync of the file failed, in whichever program. Then a copy of the
-    /// file must be opened in its place: what is written to a new file is on the device once a
-    /// sync of it succeeds.
+    /// The sync doesn't help if an earlier sync of the file failed, in whichever program. Then open
+    /// a copy of the file in its place: what is written to a new file is on the device once a sync
+    /// of it has succeeded.
     pub fn new(file: File) -> Result<FileDisk, DiskFailed>
         ensures calls { IfOk result (λ d. (⟦<FileDisk as RunDisk>⟧.state d).clock ≡ 0) }
         ensures failures { IfOk result (λ d. (⟦<FileDisk as RunDisk>⟧.state d).failures ≡ 0) }
@@ -47,7 +49,7 @@ impl FileDisk {
         }
     }
 
-    /// Does the same as [`FileDisk::new`]; the error is the system's.
+    /// Does the same as [`FileDisk::new`], but returns the system's error.
     pub fn settled(file: File) -> io::Result<FileDisk>
         ensures calls { IfOk result (λ d. (⟦<FileDisk as RunDisk>⟧.state d).clock ≡ 0) }
         ensures failures { IfOk result (λ d. (⟦<FileDisk as RunDisk>⟧.state d).failures ≡ 0) }
@@ -56,8 +58,8 @@ impl FileDisk {
         FileDisk::unsettled(file)
     }
 
-    /// Makes a disk over this file as it is: reads may give what another program left in the
-    /// system's memory, and a power failure would take that.
+    /// Makes a disk over this file without a sync. Reads may return bytes that another program left
+    /// in the system's memory, and a power failure would lose these bytes.
     pub fn unsettled(file: File) -> io::Result<FileDisk>
         ensures calls { IfOk result (λ d. (⟦<FileDisk as RunDisk>⟧.state d).clock ≡ 0) }
         ensures failures { IfOk result (λ d. (⟦<FileDisk as RunDisk>⟧.state d).failures ≡ 0) }
@@ -71,7 +73,7 @@ impl FileDisk {
         })
     }
 
-    /// Returns what the system reported of the first call that failed, if one did.
+    /// Returns the system's error for the first call that failed, if one did.
     pub fn error(&self) -> Option<&io::Error> {
         self.error.as_ref()
     }

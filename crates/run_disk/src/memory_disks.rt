@@ -1,5 +1,6 @@
-//! A [`MemoryDisk`] keeps in memory its first bytes, and each write and sync that it did. They give
-//! what it reads, and what a crash after any of its calls leaves.
+//! A [`MemoryDisk`] is a disk in memory. It keeps the bytes with which it began, and each write and
+//! sync since. From these it computes what a read returns, and what a crash after any of its calls
+//! leaves.
 
 ghost use Rattle.std.specs.Prelude.{◌≡◌, ◌≤◌, ◌+◌, length, slice_range, IfOk, IfErr, OnOk, OnErr};
 ghost use Rattle.std.specs.List.{All};
@@ -17,9 +18,9 @@ use crate::tears::Torn;
 use run_model::Fault;
 use std::alloc::{Allocator, Global};
 
-/// A disk in memory. It is honest. A write or a sync fails if memory for it is refused: it is
-/// counted, and leaves the bytes and what a crash may leave as they were. A read looks at each
-/// write so far.
+/// A disk in memory, which is honest. A write or a sync fails if memory for it is refused. Then it
+/// is counted, and changes neither the bytes nor what a crash may leave. A read looks at each write
+/// so far.
 #[derive(Drop)]
 pub struct MemoryDisk<A: Allocator = Global> {
     history: History<A>,
@@ -30,7 +31,7 @@ pub struct MemoryDisk<A: Allocator = Global> {
 impl<A: Allocator + Copy> MemoryDisk<A> {
     ghost use Rattle.run_disk.specs.MemoryDisks.{history_of};
 
-    /// Makes a disk at rest with so many zero bytes.
+    /// Makes a disk at rest with `size` zero bytes.
     pub fn new(alloc: A, size: usize) -> Result<MemoryDisk<A>, Fault>
         ensures begins { IfOk result (λ disk.
             let state = ⟦<MemoryDisk<A> as RunDisk>⟧.state disk in Begins state.now state) }
@@ -62,16 +63,16 @@ impl<A: Allocator + Copy> MemoryDisk<A> {
         })
     }
 
-    /// Returns the number of reads, writes and syncs that were made, the failed ones included.
+    /// Returns the number of reads, writes and syncs so far, including those that failed.
     pub fn calls(&self) -> u64
         ensures { result ≡ (⟦<MemoryDisk<A> as RunDisk>⟧.state self.now).clock }
     {
         self.tally.calls
     }
 
-    /// What a crash after the first `after_calls` calls leaves, if it tears each write that no sync
-    /// followed in this way. It is one of the contents that the disk then said a crash may leave.
-    /// It copies the disk once, and looks for a sync after each write.
+    /// Returns what a crash after the first `after_calls` calls leaves, if it tears each write that
+    /// wasn't synced in this way. It is one of the contents that the disk then said a crash may
+    /// leave. The call copies the disk once, and looks for a sync after each write.
     pub fn image(&self, alloc: A, after_calls: u64, torn: Torn) -> Result<Vec<u8, A>, Fault>
         requires { after_calls ≤ (⟦<MemoryDisk<A> as RunDisk>⟧.state self.now).clock }
         ensures bytes { IfOk result (λ image.

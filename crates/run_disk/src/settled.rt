@@ -9,9 +9,9 @@ use crate::disks::{DiskFailed, RunDisk};
 /// Syncs a disk before it is opened: one call, which changes no byte. At `Ok` an honest disk on
 /// which no failed write waits is at rest, whatever wrote to it before.
 ///
-/// What a killed program wrote can be read, and a power failure may still lose it. So whoever opens
-/// a disk that isn't known to be at rest settles it first: for example one that another program
-/// wrote. A file whose sync failed is no longer an honest disk: see [`crate::FileDisk`].
+/// What a killed program wrote can be read, but a power failure may still lose it. So settle a disk
+/// before you open it, unless you know that it is at rest. A file whose sync has failed isn't an
+/// honest disk any more: see [`crate::FileDisk`].
 #[tactic(auto, using(crate::proofs::RunLemmas::settled))]
 pub fn settle<D: RunDisk>(disk: &mut D) -> Result<(), DiskFailed>
     ensures ran { Ran (D.state disk.old) (D.state disk.new) result }

@@ -14,7 +14,7 @@ pub struct Tally {
 }
 
 impl Tally {
-    /// The tally before the first call.
+    /// Returns the tally before the first call.
     pub fn new() -> Tally
         ensures { result ≡ record { calls = 0; failures = 0 } }
     {

@@ -1,6 +1,6 @@
-//! How a crash tears the writes that no sync followed: a [`Torn`].
+//! How a crash tears the writes that weren't synced: a [`Torn`].
 
-/// What a crash leaves of each write that no sync followed.
+/// What a crash leaves of each write that wasn't synced.
 #[derive(Clone, Copy, Debug, PartialEq, Eq)]
 pub enum Torn {
     /// None of its bytes.
@@ -9,6 +9,6 @@ pub enum Torn {
     Take,
     /// This value in each of its bytes.
     Fill(u8),
-    /// A prefix of so many bytes, or all if it has no more.
+    /// The first bytes of the write, as many as the number says, or all if there are fewer.
     Front(usize),
 }

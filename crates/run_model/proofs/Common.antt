@@ -53,7 +53,7 @@ pub use Rattle.run_model.proofs.RowLemmas.{at_row_cases, length-at_row, map_case
 pub use Rattle.run_model.proofs.RowLemmas.{row_there, slice_get-at_row_other}
 pub use Rattle.run_model.proofs.RowLemmas.{slice_get-at_row_same, slice_get-push_last}
 pub use Rattle.run_model.proofs.RowLemmas.{slice_get-push_left}
-pub use Rattle.run_model.specs.Allowed.{IsFront, after, allowed, has_kind, has_room, has_row}
+pub use Rattle.run_model.specs.Allowed.{IsPrefix, after, allowed, has_kind, has_room, has_row}
 pub use Rattle.run_model.specs.Allowed.{is_cancellable, is_open, refusals, run, takes_cause}
 pub use Rattle.run_model.specs.Allowed.{tested, unless}
 pub use Rattle.run_model.specs.Event.{Event, Restart}

@@ -37,7 +37,7 @@ fault_name fault.NumbersSpent = codes "NumbersSpent"
 abbrev pub fault_text : Fault → List ℕ
 fault_text why = codes "fault " ++ decimal (fault_number why) ++ codes " " ++ fault_name why
 
--- Why a flush or a checkpoint was not done: it was refused, or it failed.
+-- Why a flush or a checkpoint failed: it was refused, or it met a fault.
 abbrev pub trouble_text : Trouble → List ℕ
 trouble_text (trouble.Refused why) = refusal_text why
 trouble_text (trouble.Faulty why) = fault_text why

@@ -18,8 +18,9 @@ use Rattle.run_model.specs.State.{State, TreeState, WorkState}
 
 -- ---- the tree
 
--- The hit can stand on a row of this kind, in a state of this count and clock: its event is 1 to
--- the count, its moment is at most the clock, and an exceeded deadline is the row's own.
+-- A row of this kind can have this hit, in a state with this count and clock. The event of the hit
+-- is 1 to the count, its moment is at most the clock, and if its reason is DeadlineExceeded, its
+-- moment is the row's own deadline.
 pub record HitFits (count clock : ℕ) (kind : Kind) (hit : Hit) : Type 0 where
   pub can : can_be_hit kind ≡ true
   pub counted : 1 ≤ hit.event
@@ -27,8 +28,8 @@ pub record HitFits (count clock : ℕ) (kind : Kind) (hit : Hit) : Type 0 where
   pub past : hit.moment ≤ clock
   pub own : hit.reason ≡ DeadlineExceeded → own_deadline kind ≡ Some hit.moment
 
--- Root comes first and is alone of its kind, names are distinct, parents have lesser numbers, hits
--- fit, and a row whose deadline has come has one.
+-- Root comes first and is the only row of its kind, names are distinct, parents have lower numbers,
+-- hits fit, and a row whose deadline has come has a hit.
 pub record AreScopeRules (count clock : ℕ) (rows : List Scope) : Type 0 where
   pub rooted : slice_get rows 0 ≡ Some root
   pub alone : (s : ℕ) (row : Scope) → slice_get rows s ≡ Some row → is_root row.kind ≡ true → s ≡ 0
@@ -40,7 +41,7 @@ pub record AreScopeRules (count clock : ℕ) (rows : List Scope) : Type 0 where
   pub come : (s moment : ℕ) (row : Scope) → slice_get rows s ≡ Some row
       → own_deadline row.kind ≡ Some moment → moment ≤ clock → IsSome row.hit
 
--- The rules of the tree: these hold of its scopes, which are within the limits.
+-- The rules of the tree: the scopes keep these rules, and are within the limits.
 pub record AreTreeRules (count : ℕ) (t : TreeState) : Type 0 where
   pub few : length t.scopes ≤ most_scopes t.layout
   pub rows : AreScopeRules count t.clock t.scopes
@@ -48,8 +49,9 @@ pub record AreTreeRules (count : ℕ) (t : TreeState) : Type 0 where
 -- ---- the work
 
 -- The rules of the work: groups and tasks are within the limits, names of groups are distinct, the
--- group of each task exists, running tasks are admitted, a group that was waited for is idle, a
--- group has an error exactly when a task of it has, and retries are linked.
+-- group of each task exists, running tasks are admitted, a group that was waited for has no
+-- unfinished task, a group has an error exactly if a task of it has, and retries name the right
+-- tasks.
 pub record AreWorkRules (w : WorkState) : Type 0 where
   pub few_groups : length w.groups ≤ MOST_GROUPS
   pub few_tasks : length w.tasks ≤ most_tasks w.layout
@@ -63,9 +65,9 @@ pub record AreWorkRules (w : WorkState) : Type 0 where
 
 -- ---- between the two
 
--- The rules between scopes and groups: the scope of each group exists, group scopes and groups that
--- aren't bare belong together, and the scope of such a group is hit if the group has an error or
--- was waited for.
+-- The rules between scopes and groups: the scope of each group exists, scopes of kind Group and
+-- groups that aren't bare belong together, and the scope of such a group has a hit if the group has
+-- an error or was waited for.
 pub record AreCrossRules (p : State) : Type 0 where
   pub known : (g : ℕ) (row : Group) → HasRow p.work.groups g row → row.scope < length p.tree.scopes
   pub owned : AreGroupScopes p

@@ -1,5 +1,5 @@
-//! A [`Fault`] is what went wrong with a store, a device or the memory; a [`Trouble`] is why a
-//! flush or a checkpoint was not done.
+//! A [`Fault`] says what went wrong with a store, a device or the memory. A [`Trouble`] says why a
+//! flush or a checkpoint wasn't done.
 
 ghost use Rattle.std.specs.Prelude.{◌≡◌, Some};
 ghost use Rattle.run_model.specs.Faults.{fault_name, fault_number, fault_text, trouble_text};
@@ -8,10 +8,11 @@ use crate::refusals::Refusal;
 use std::error::Error;
 use std::fmt;
 
-/// What went wrong with a store, a device or the memory. It is printed as `fault 2 DiskFailed`.
+/// Says what went wrong with a store, a device or the memory. It is printed as
+/// `fault 2 DiskFailed`.
 #[derive(Clone, Copy, Debug, PartialEq, Eq)]
 pub enum Fault {
-    /// The memory that was needed was refused.
+    /// Memory was refused.
     Memory,
     /// A call of the device failed.
     DiskFailed,
@@ -25,16 +26,16 @@ pub enum Fault {
     BadImage,
     /// An open batch is malformed.
     BadBatch,
-    /// A batch holds bytes that are not a record.
+    /// A batch holds bytes that aren't a record.
     BadRecord,
-    /// A record's event is not allowed at its place.
+    /// The event of a record isn't allowed at its place.
     BadEvent,
     /// The store's numbers are used up.
     NumbersSpent,
 }
 
 impl Fault {
-    /// Its number, 1 to 10.
+    /// Returns the number of the fault, 1 to 10.
     pub fn number(self) -> u8
         ensures { result ≡ fault_number self }
     {
@@ -52,7 +53,7 @@ impl Fault {
         }
     }
 
-    /// Its name, as it is printed.
+    /// Returns the name of the fault, as it is printed.
     pub fn name(self) -> &'static str
         ensures { result.now ≡ fault_name self }
     {
@@ -83,10 +84,10 @@ impl fmt::Display for Fault {
 
 impl Error for Fault {}
 
-/// Why a flush or a checkpoint was not done. It is printed as the refusal or the fault is.
+/// Says why a flush or a checkpoint wasn't done. It is printed like the refusal or the fault in it.
 #[derive(Clone, Copy, Debug, PartialEq, Eq)]
 pub enum Trouble {
-    /// The book refuses it.
+    /// The book refused it.
     Refused(Refusal),
     /// The device failed, or the store's numbers are used up.
     Faulty(Fault),

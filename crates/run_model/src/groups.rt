@@ -1,4 +1,4 @@
-//! A group collects tasks as `errgroup` does: with a limit, a first error and a wait.
+//! A group collects tasks, as Go's `errgroup` does, with a limit, a first error and a wait.
 
 ghost use Rattle.std.specs.Prelude.{◌≡◌};
 ghost use Rattle.run_model.specs.Rows.{new_group};
@@ -7,25 +7,25 @@ use crate::limits::Limit;
 use crate::names::Name;
 use crate::texts::Text;
 
-/// The row of a group. Its number is its place.
+/// The row of a group. The number of a group is the place of its row.
 #[derive(Drop, PartialEq, Eq)]
 pub struct Group {
-    /// What it is called.
+    /// The name of the group.
     pub name: Name,
-    /// The scope that its tasks live in.
+    /// The number of the scope to which its tasks belong.
     pub scope: u16,
-    /// Whether it lives in a scope that isn't its own, and so cancels nothing.
+    /// Whether that scope isn't the group's own. Then the group cancels nothing.
     pub bare: bool,
-    /// How many of its tasks may be active.
+    /// How many of its tasks may be active at once.
     pub limit: Limit,
     /// Whether it was waited for.
     pub waited: bool,
-    /// The first error of a task of it.
+    /// The first error of one of its tasks.
     pub error: Option<Text>,
 }
 
 impl Group {
-    /// The row of a group without limit, error or wait.
+    /// Returns the row of a group that has no limit and no error, and wasn't waited for.
     pub fn new(name: Name, scope: u16, bare: bool) -> Group
         ensures { result ≡ new_group name scope bare }
     {

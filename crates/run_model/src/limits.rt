@@ -24,7 +24,7 @@ impl Model for Limit {
 }
 
 impl Limit {
-    /// Returns the limit of so many tasks, and `None` exactly past the greatest one.
+    /// Returns a limit of this many tasks; `None` exactly if that is more than the greatest limit.
     pub fn new(most: u8) -> Option<Limit>
         ensures { SomeIff result (most ≤ GREATEST_LIMIT) (Some most) }
     {
@@ -35,14 +35,14 @@ impl Limit {
         }
     }
 
-    /// Returns the limit of a group that has none.
+    /// Returns the value that stands for no limit.
     pub fn none() -> Limit
         ensures { result ≡ None }
     {
         Limit { most: None }
     }
 
-    /// Returns how many tasks it admits, and `None` if there is no limit.
+    /// Returns how many tasks the limit admits; `None` if there is no limit.
     pub fn get(self) -> Option<u8>
         ensures value { result ≡ self }
         ensures range { IfSome result (λ most. most ≤ GREATEST_LIMIT) }

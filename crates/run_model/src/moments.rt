@@ -1,7 +1,7 @@
-//! A [`Moment`] is a point of the runner's clock, in whole seconds.
+//! A [`Moment`] is a point in time on the clock of a store, in whole seconds.
 //!
-//! The clock starts at 0 and is moved by `advance` alone. A written date and time is the moment of
-//! its seconds since 1970-01-01T00:00:00Z.
+//! The clock starts at 0, and only `advance` moves it. A date and time stands for the number of
+//! seconds since 1970-01-01T00:00:00Z.
 
 ghost use Rattle.std.specs.Option.{SomeIff};
 ghost use Rattle.std.specs.Prelude.{◌≡◌, ◌≤◌, ℕ};
@@ -27,7 +27,8 @@ impl Model for Moment {
 }
 
 impl Moment {
-    /// Returns the moment of so many seconds, and `None` exactly past the greatest one.
+    /// Returns the moment at this many seconds; `None` exactly if it is later than the greatest
+    /// moment.
     pub fn new(seconds: u64) -> Option<Moment>
         ensures { SomeIff result (seconds ≤ GREATEST_MOMENT) seconds }
     {
@@ -38,7 +39,7 @@ impl Moment {
         }
     }
 
-    /// Returns its seconds.
+    /// Returns the number of seconds.
     pub fn get(self) -> u64
         ensures value { result ≡ self }
         ensures range { result ≤ GREATEST_MOMENT }

@@ -1,4 +1,4 @@
-//! A [`Name`] is what a scope, a group, a job or a key is called. It holds its bytes inline.
+//! A [`Name`] is the name of a scope, a group, a job or a key. It holds its bytes inline.
 
 ghost use Rattle.std.specs.Cmp.{partial_equiv_from_equiv};
 ghost use Rattle.std.specs.Cmp.Lexicographic.{nat_list_eq_equiv};
@@ -14,7 +14,7 @@ use std::alloc::AllocError;
 use std::marker::Model;
 use std::{fmt, str};
 
-/// A name: 1 to 32 bytes of `a` to `z`, `0` to `9`, `-` and `_`. It is printed as they are.
+/// A name: 1 to 32 bytes of `a` to `z`, `0` to `9`, `-` and `_`. It is printed as it is.
 #[derive(Debug, Drop)]
 pub struct Name {
     bytes: ArrayVec<u8, NAME_LEN>,
@@ -36,7 +36,7 @@ impl Name {
         1 <= bytes.len() && bytes.len() <= NAME_LEN && are_name_bytes(bytes)
     }
 
-    /// Returns the name of these bytes, and `None` exactly when they are not a name.
+    /// Returns these bytes as a name; `None` exactly if they aren't a name.
     pub fn read(bytes: &[u8]) -> Option<Name>
         ensures { SomeIff result (IsName bytes.now) bytes.now }
     {
@@ -58,7 +58,7 @@ impl Name {
         self.bytes.as_slice()
     }
 
-    /// Returns the same name once more.
+    /// Returns a copy of the name.
     pub fn copy(&self) -> Name
         ensures { result ≡ self.now }
     {

@@ -1,7 +1,8 @@
-//! A scope is one node of the tree of cancellations: its kind, its row and the hit that ended it.
+//! A scope is a node in the tree of cancellations. It has a kind, a row, and perhaps a hit, which
+//! ended it.
 //!
-//! The kinds are those of Go's `context` package; a group's scope is what `errgroup.WithContext`
-//! derives.
+//! The kinds are those of Go's `context` package. The scope of a group is the one that
+//! `errgroup.WithContext` derives.
 
 ghost use Rattle.std.specs.Option.{option_map};
 ghost use Rattle.std.specs.Prelude.{◌≡◌};
@@ -12,17 +13,17 @@ use crate::moments::Moment;
 use crate::names::Name;
 use crate::texts::Text;
 
-/// Why a scope is done, as Go's `Err` returns it.
+/// Says why a scope is done, as Go's `Err` does.
 #[derive(Clone, Copy, Debug, PartialEq, Eq)]
 pub enum Reason {
-    /// It was cancelled, or a scope above it was.
+    /// The scope was cancelled, or one above it.
     Canceled,
-    /// Its deadline passed, or one above it did.
+    /// The scope's deadline has passed, or that of one above it.
     DeadlineExceeded,
 }
 
 impl Reason {
-    /// Go's text of the error, which also stands for a cause that was not given.
+    /// Returns Go's text of the error. It also serves as the cause if none was given.
     pub fn text(self) -> &'static str
         ensures { result.now ≡ reason_text self }
     {
@@ -33,27 +34,28 @@ impl Reason {
     }
 }
 
-/// What a scope is.
+/// The kind of a scope.
 #[derive(Drop, PartialEq, Eq)]
 pub enum Kind {
-    /// Never done: scope 0 alone.
+    /// Root, which is scope 0, and is never done.
     Root,
-    /// Cancelled by command, without a cause.
+    /// A command can cancel it, without a cause.
     Cancel,
-    /// Cancelled by command, with a cause if one is given.
+    /// A command can cancel it, and may give a cause.
     Cause,
-    /// Done when this moment comes, with this cause, or cancelled before.
+    /// It is done when this moment comes, with this cause. A command can cancel it before.
     Deadline(Moment, Option<Text>),
-    /// Holds one value under one key.
+    /// It holds one value under one key.
     Value(Name, Text),
-    /// Not done when its parent is; values are found through it.
+    /// It isn't done when its parent is. A search for a value goes through it.
     Detached,
-    /// A group's own scope, done at the group's first error or when it is waited for.
+    /// The scope of a group. It is done at the first error of the group, or when the group is
+    /// waited for.
     Group,
 }
 
 impl Kind {
-    /// Returns the same kind once more.
+    /// Returns a copy of the kind.
     pub fn copy(&self) -> Kind
         ensures { result ≡ self.now }
     {
@@ -69,21 +71,21 @@ impl Kind {
     }
 }
 
-/// A scope's own first cancellation.
+/// The first cancellation of a scope itself.
 #[derive(Drop, PartialEq, Eq)]
 pub struct Hit {
-    /// The number of the event that it came with.
+    /// The number of the event that made the hit.
     pub event: u64,
-    /// The deadline that passed, otherwise the clock.
+    /// The deadline that has passed, or else the clock.
     pub moment: Moment,
-    /// Why.
+    /// The reason.
     pub reason: Reason,
-    /// The cause that was given, otherwise the reason's text.
+    /// The cause that was given, or else the text of the reason.
     pub cause: Text,
 }
 
 impl Hit {
-    /// Returns the same hit once more.
+    /// Returns a copy of the hit.
     pub fn copy(&self) -> Hit
         ensures { result ≡ self.now }
     {
@@ -96,21 +98,22 @@ impl Hit {
     }
 }
 
-/// The row of a scope. Its number is its place.
+/// The row of a scope. The number of a scope is the place of its row.
 #[derive(Drop, PartialEq, Eq)]
 pub struct Scope {
-    /// What it is called.
+    /// The name of the scope.
     pub name: Name,
-    /// The number of the scope that it was derived from; root's own is 0.
+    /// The number of the scope from which it was derived; 0 for root itself.
     pub parent: u16,
-    /// What it is.
+    /// The kind of the scope.
     pub kind: Kind,
-    /// Its own first cancellation, whether or not a scope above it was done before.
+    /// The first cancellation of the scope itself, even if a scope above it had been cancelled
+    /// before.
     pub hit: Option<Hit>,
 }
 
 impl Scope {
-    /// Returns the row of a scope that nothing has ended.
+    /// Returns the row of a scope without a hit.
     pub fn new(name: Name, parent: u16, kind: Kind) -> Scope
         ensures { result ≡ new_scope name parent kind }
     {

@@ -1,11 +1,11 @@
-//! Names and words, compared.
+//! How names and words are compared.
 
 ghost use Rattle.std.specs.Prelude.{◌≡◌};
 ghost use Rattle.std.specs.Str.{bytes_eq};
 
-/// Returns whether a name or a word is spelled so. Two lengths are told apart at once, and others
-/// from their last byte on: names that stand together often begin alike, as `job-1` and `job-2`.
-/// Both are short, and what `==` of slices calls is made for long ones.
+/// Returns whether `word` consists of the bytes `spelled`. Lengths are compared first, and then the
+/// bytes, beginning with the last one, because neighbouring names often begin alike, such as
+/// `job-1` and `job-2`. Both are short, and `==` of slices calls code that is made for long ones.
 pub fn is_spelled(word: &[u8], spelled: &[u8]) -> bool
     ensures { result ≡ bytes_eq word.now spelled.now }
 {

@@ -1,4 +1,4 @@
-//! A [`Text`] is what a person reads: a cause, an error, a value. It holds its bytes inline.
+//! A [`Text`] is for people to read: a cause, an error or a value. It holds its bytes inline.
 
 ghost use Rattle.std.specs.Cmp.{partial_equiv_from_equiv};
 ghost use Rattle.std.specs.Cmp.Lexicographic.{nat_list_eq_equiv};
@@ -14,7 +14,7 @@ use std::alloc::AllocError;
 use std::marker::Model;
 use std::{fmt, str};
 
-/// A text: 1 to 64 bytes of printable ASCII, 0x20 to 0x7E. It is printed as they are.
+/// A text: 1 to 64 bytes of printable ASCII, 0x20 to 0x7E. It is printed as it is.
 #[derive(Debug, Drop)]
 pub struct Text {
     bytes: ArrayVec<u8, TEXT_LEN>,
@@ -36,7 +36,7 @@ impl Text {
         1 <= bytes.len() && bytes.len() <= TEXT_LEN && are_text_bytes(bytes)
     }
 
-    /// Returns the text of these bytes, and `None` exactly when they are not a text.
+    /// Returns these bytes as a text; `None` exactly if they aren't a text.
     pub fn read(bytes: &[u8]) -> Option<Text>
         ensures { SomeIff result (IsText bytes.now) bytes.now }
     {
@@ -58,7 +58,7 @@ impl Text {
         self.bytes.as_slice()
     }
 
-    /// Returns the same text once more.
+    /// Returns a copy of the text.
     pub fn copy(&self) -> Text
         ensures { result ≡ self.now }
     {

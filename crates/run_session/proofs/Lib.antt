@@ -1,4 +1,12 @@
 pub mod Accepting
+pub mod Checking
+pub mod Ending
+pub mod Imaging
+pub mod Keeping
+pub mod Naming
 pub mod Replaying
+pub mod Restarting
 pub mod Rooms
+pub mod Starting
+pub mod Staying
 pub mod Waiting

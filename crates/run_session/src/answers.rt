@@ -1,48 +1,33 @@
-//! The answer to an accepted command, read from the state before it and the state after it.
+//! The answer to an accepted command, read from the state after it.
 
 ghost use Rattle.std.specs.Option.{option_and_then};
-ghost use Rattle.std.specs.Prelude.{◌≡◌, slice_get, unwrap_or};
+ghost use Rattle.std.specs.Prelude.{◌≡◌, ◌≤◌, ◌-◌, slice_get, unwrap_or};
 ghost use Rattle.run_model.specs.declared.answers.Answer.TheVariants as answer;
 ghost use Rattle.run_model.specs.declared.tasks.Phase.TheVariants as phase;
 ghost use Rattle.run_model.specs.Replies.{answer_of, group_of};
 ghost use Rattle.run_model.specs.State as model;
 ghost use Rattle.run_model.specs.Tasks.{phase_of};
-ghost use Rattle.run_session.specs.Answered.{HasSizes, WaitsAlike};
+ghost use Rattle.run_session.specs.Answered.{IsBehind};
 
+use crate::states::State;
 use run_model::{Answer, Command, Name, Phase, Text};
-use run_state::State;
 use std::alloc::Allocator;
 
-/// How many rows a state has: the numbers of those that come next.
-#[derive(Clone, Copy)]
-pub struct Sizes {
-    scopes: u16,
-    groups: u16,
-    tasks: u16,
-}
-
-/// How many rows the state has.
-pub fn count_rows<A: Allocator>(state: &State<A>) -> Sizes
-    ensures { HasSizes state.now result }
-{
-    Sizes {
-        scopes: state.scope_count() as u16,
-        groups: state.group_count() as u16,
-        tasks: state.task_count() as u16,
-    }
-}
-
-/// The answer to a command that led to this state from one that had so many rows.
-pub fn answer<A: Allocator>(state: &State<A>, before: &Sizes, call: &Command) -> Answer
-    ensures { (p : model.State) → HasSizes p before.now → WaitsAlike p state.now call.now
+/// Returns the answer to a command that led to this state. A row that it made is the newest of its
+/// kind.
+pub fn answer<A: Allocator>(state: &State<A>, call: &Command) -> Answer
+    ensures { (p : model.State) → IsBehind p state.now call.now
         → result ≡ answer_of p state.now call.now }
 {
     match call {
-        Command::Derive { .. } => Answer::Scope(before.scopes),
-        Command::Group { .. } => Answer::Group(before.groups, Some(before.scopes)),
-        Command::Bare { .. } => Answer::Group(before.groups, None),
+        Command::Derive { .. } => Answer::Scope(newest(state.scope_count())),
+        Command::Group { .. } => {
+            let scope = newest(state.scope_count());
+            Answer::Group(newest(state.group_count()), Some(scope))
+        }
+        Command::Bare { .. } => Answer::Group(newest(state.group_count()), None),
         Command::Go { .. } | Command::TryGo { .. } | Command::Retry(_) => {
-            submitted(state, before.tasks)
+            submitted(state, newest(state.task_count()))
         }
         Command::Wait { group } => Answer::Waited(first_error(state, group)),
         Command::Cancel { .. } | Command::Advance { .. } | Command::SetLimit { .. } => {
@@ -51,7 +36,15 @@ pub fn answer<A: Allocator>(state: &State<A>, before: &Sizes, call: &Command) ->
     }
 }
 
-/// The number of a task that was submitted, and whether it is ready or held.
+/// Returns the number of the newest of so many rows; 0 if there is none.
+fn newest(rows: usize) -> u16
+    requires { rows ≤ 65536 }
+    ensures { result ≡ rows - 1 }
+{
+    rows.saturating_sub(1) as u16
+}
+
+/// Returns the number of a task that was submitted, and whether it is ready or held.
 fn submitted<A: Allocator>(state: &State<A>, task: u16) -> Answer
     ensures { result
         ≡ answer.Task task (unwrap_or (phase_of state.now.work task) phase.Held) }
@@ -63,7 +56,7 @@ fn submitted<A: Allocator>(state: &State<A>, task: u16) -> Answer
     Answer::Task(task, phase)
 }
 
-/// The first error of the group of this name.
+/// Returns the first error of the group with this name.
 fn first_error<A: Allocator>(state: &State<A>, group: &Name) -> Option<Text>
     ensures { result ≡ option_and_then (λ row. row.error)
         (slice_get state.now.work.groups (group_of state.now group.now)) }

@@ -20,7 +20,7 @@ use Rattle.model_laws.specs.Searches.{joined}
 use Rattle.model_laws.proofs.Relates.{IsKept, RowsRelate, first_hits_relate}
 use Rattle.model_laws.proofs.Stays.{earlier_comes_before, later_comes_after}
 use Rattle.scope_tree.specs.Checks.{AreEarlierOrAlike}
-use Rattle.tree_index.specs.Marks.{Struck}
+use Rattle.scope_tree.specs.Marks.{Struck}
 use Rattle.scope_tree.specs.Sound.{ArePastHits, IsPastHit}
 use Rattle.scope_tree.proofs.Passing.{kind_passed}
 use Rattle.model_laws.proofs.Levels.{ordered_hit}

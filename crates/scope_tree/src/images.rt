@@ -1,7 +1,7 @@
-//! Laws of a state that is read from an image, part by part: that the parts together are the whole.
+//! Laws of a state that is read from an image part by part: the parts together are the whole.
 //!
-//! Each function has an empty body, and its clause is the law. The parts are read by functions of
-//! `specs/`; here stands that these give a state exactly when the bytes are its image.
+//! Each function has an empty body, and its clauses are the law. Definitions in `specs/` read the
+//! parts. The laws say that these give a state exactly if the bytes are its image.
 
 ghost use Rattle.std.specs.Prelude.{◌≡◌, ◌↔◌, List, ℕ, Some, IsTrue};
 ghost use Rattle.run_model.specs.declared.layouts.Layout.{Layout};
@@ -13,8 +13,8 @@ ghost use Rattle.row_view.specs.Keeping.{IsImage};
 ghost use Rattle.row_view.specs.Between.{fits_between};
 ghost use Rattle.scope_tree.specs.Whole.{image_at};
 
-/// The seven rules are those of the tree, those of the work, and those between the two, in a state
-/// whose tree and work have one layout.
+/// If the tree and the work of a state have the same layout, the seven rules are those of the tree,
+/// those of the work, and those between the two.
 pub fn the_rules_have_three_parts()
     ensures tree { (p : State) → IsConsistent p → AreTreeRules p.count p.tree }
     ensures work { (p : State) → IsConsistent p → AreWorkRules p.work }
@@ -23,15 +23,15 @@ pub fn the_rules_have_three_parts()
         AreWorkRules p.work → AreCrossRules p → IsConsistent p }
 {}
 
-/// If the work keeps its rules, the test of both row lists returns whether the rules between the
-/// two hold.
+/// If the work keeps its rules, the test of the two lists of rows returns whether the rules between
+/// the two hold.
 pub fn the_rules_between_are_tested()
     ensures { (p : State) → AreWorkRules p.work →
         IsTrue (fits_between p.tree.scopes p.work.groups) ↔ AreCrossRules p }
 {}
 
-/// The image of a state is read by its parts, and what is read is an image. So no other bytes are
-/// images, and no image has two states or two versions.
+/// The image of a state is read by its parts, and whatever is read is an image. So no other bytes
+/// are images, and no image belongs to two states or two versions.
 pub fn images_are_what_is_read()
     ensures again { (version : ImageVersion) (layout : Layout) (bytes : List ℕ) (p : State) →
         IsImage version layout bytes p → image_at layout bytes ≡ Some (version, p) }

@@ -27,7 +27,7 @@ use Rattle.state_renewal.proofs.Layouts.{rules_there}
 use Rattle.state_renewal.proofs.Marked.{count_left, groups_left, left_after, marks_are}
 use Rattle.state_renewal.proofs.Marked.{scopes_left, tasks_left}
 use Rattle.state_renewal.proofs.RulesKept.{rules_kept}
-use Rattle.run_state.proofs.Imaging.{ranged}
+use Rattle.run_session.proofs.Imaging.{ranged}
 use Rattle.scope_tree.proofs.TreeReads.{not_first}
 
 -- ---- rows after root

@@ -17,8 +17,9 @@ ghost use Rattle.state_renewal.specs.Days.{day, day_anew, day_left, first_night,
 ghost use Rattle.state_renewal.specs.GoingOn.{GoesOn, all_name_part, going_on};
 ghost use Rattle.state_renewal.specs.Told.{event_anew, names_part};
 
-/// A day's events name what goes on, by the new numbers. They lead the renewed store to what goes
-/// on of the old one; what is made on that day has the next numbers.
+/// The events of a day refer to rows that go on, by the new numbers. After them, the renewed store
+/// holds exactly the part of the old store's state that goes on. Rows that are made on that day get
+/// the next numbers.
 pub fn a_day_after_a_renewal()
     ensures names { all_name_part (going_on retried) day ≡ true }
     ensures events { map (event_anew (going_on retried)) day ≡ day_anew }
@@ -26,8 +27,8 @@ pub fn a_day_after_a_renewal()
     ensures old { option_map (state_anew (going_on retried)) (run retried day) ≡ Some day_left }
 {}
 
-/// At the end of that day a third task of the group is held in both stores. It is the task with
-/// the next number: 7, of which tasks 0 and 2 went, and so 5.
+/// At the end of that day a third task of the group is held in both stores. It gets the next
+/// number: 7 in the old store, and 5 in the renewed one, from which tasks 0 and 2 were dropped.
 pub fn a_command_at_the_end_of_that_day()
     ensures old { option_map (λ q. reply q 0 (command.Go (codes "g") (codes "copy") (codes "e")))
         (run retried day) ≡ Some (Ok (answer.Task 7 phase.Held)) }
@@ -35,14 +36,14 @@ pub fn a_command_at_the_end_of_that_day()
         ≡ Ok (answer.Task 5 phase.Held) }
 {}
 
-/// A night and a day that meet what the laws need. Of the day's events two name what is made on
-/// that day.
+/// A night and a day that meet the premises of the laws. Two of the day's events refer to rows that
+/// are made on that day.
 pub fn a_night_and_a_day_meet_the_premises()
     ensures { IsSomeAnd (run (formatted Small) first_night) (λ p. IsSomeAnd (run p second_day)
         (λ q. GoesOn p second_day q)) }
 {}
 
-/// A name that went is free again in the renewed store alone.
+/// The name of a dropped row is free again, but only in the renewed store.
 pub fn a_name_that_went_is_free_in_the_renewed_store()
     ensures names { names_part (going_on detached_part) (Derive (codes "y") 1 Cancel) ≡ true }
     ensures old { allowed detached_part (Derive (codes "y") 1 Cancel) ≡ false }

@@ -1,5 +1,5 @@
-//! Flags of the rows of a state, one for each: which scopes are needed, and which groups and tasks
-//! are kept by the flags of what they live in.
+//! A flag for each row of a state: which scopes are needed, and which groups and tasks are kept
+//! because of the scope or group to which they belong.
 
 ghost use Rattle.std.specs.Prelude.{◌≡◌, ◌<◌, ◌||◌, ℕ, not, IfOk, IfErr, Some, length, slice_get};
 ghost use Rattle.run_model.specs.declared.faults.Fault.TheVariants.{Memory};
@@ -12,7 +12,7 @@ ghost use Rattle.state_renewal.specs.Marks.{task_stays_at, with_rows};
 ghost use Rattle.state_renewal.specs.Renewed.{hosts_unwaited, keeps_scope};
 
 use crate::marks::flag_above;
-use crate::rows::{group_at, task_at};
+use crate::renewed_rows::{group_at, task_at};
 use run_model::{Fault, Group};
 use scope_tree::Tree;
 use std::alloc::Allocator;

@@ -10,7 +10,8 @@ ghost use Rattle.row_view.specs.Image.{image};
 ghost use Rattle.row_view.specs.Keeping.{IsImage};
 ghost use Rattle.state_renewal.specs.Renewed.{fits_in, renewed, renewed_in};
 
-/// A renewed state meets the rules in each layout in which it fits, and its image is the same.
+/// A renewed state is consistent in each layout into which it fits, and its image doesn't depend on
+/// the layout.
 pub fn a_renewed_state_goes_into_each_layout_with_room()
     ensures rules { (layout : Layout) (p : State) → IsConsistent p
         → fits_in layout (renewed p) ≡ true → IsConsistent (renewed_in layout p) }
@@ -18,7 +19,8 @@ pub fn a_renewed_state_goes_into_each_layout_with_room()
         ≡ image (renewed p) }
 {}
 
-/// A state that has an image has one renewed, of the same layout, which is read again.
+/// If a state has an image, so has the renewed state, in the same layout, and the image is read
+/// back.
 pub fn a_renewed_state_has_an_image()
     ensures { (version : ImageVersion) (layout : Layout) (bytes : List ℕ) (p : State)
         → IsImage version layout bytes p → IsImage Two layout (image (renewed p)) (renewed p) }

@@ -1,4 +1,5 @@
-//! What a renewal keeps: the rules, all that isn't finished, and the answers on what stays.
+//! What a renewal keeps: the rules, everything that isn't finished, and the answers about what is
+//! kept.
 
 ghost use Rattle.std.specs.Option.{option_map};
 ghost use Rattle.std.specs.Prelude.{◌≡◌, ℕ, true};
@@ -16,19 +17,19 @@ ghost use Rattle.state_renewal.specs.Renewed.{keeps_scope, keeps_group, keeps_ta
 ghost use Rattle.state_renewal.specs.Renewed.{kept_part, renewed};
 ghost use Rattle.state_renewal.specs.Told.{event_anew, has_place, names_part};
 
-/// A state that meets the seven rules meets them renewed: so it has an image, which is read again.
+/// If a state is consistent, so is the renewed state. So it has an image, which is read back.
 pub fn a_renewed_state_meets_the_rules()
     ensures { (p : State) → IsConsistent p → IsConsistent (renewed p) }
 {}
 
-/// Nothing that isn't finished goes.
+/// Nothing that isn't finished is dropped.
 pub fn nothing_unfinished_goes()
     ensures { (p : State) → IsConsistent p → KeepsUnfinished p }
 {}
 
-/// What is kept is as it was: of a scope whether it is done, its reason, its cause, its deadline
-/// and every value, even those from scopes above it; of a group its row and how many tasks of it
-/// aren't finished; of a task its row and how far it is.
+/// What is kept stays as it was. For a scope this means whether it is done, its reason, its cause,
+/// its deadline and every value, even those from scopes above it. For a group it means its row and
+/// the number of its unfinished tasks, and for a task its row and its phase.
 pub fn what_is_kept_is_as_it_was()
     ensures scopes { (p : State) (s : ℕ) (row : Scope) → IsConsistent p → HasRow p.tree.scopes s row
         → keeps_scope p s ≡ true → ScopeStays p s row }
@@ -38,8 +39,9 @@ pub fn what_is_kept_is_as_it_was()
         → keeps_task p n ≡ true → TaskStays p n row }
 {}
 
-/// An event that names only what is kept is allowed of the renewed state, told by the new numbers,
-/// if it was allowed; and if it wasn't, only for want of a free name or of room.
+/// An event that refers only to what is kept is allowed in the renewed state, by the new numbers,
+/// if it was allowed before. If it wasn't, it is allowed only if it was refused for a taken name or
+/// for lack of room.
 pub fn what_is_allowed_stays()
     ensures allowed { (p : State) (event : Event) → IsConsistent p
         → names_part (kept_part p) event ≡ true → allowed p event ≡ true
@@ -50,21 +52,22 @@ pub fn what_is_allowed_stays()
         → allowed p event ≡ true }
 {}
 
-/// The names and the room that what goes had are free again, and no others: each name of a kept row
-/// is found under its new number, every other name is free, and so many rows are there as are kept.
+/// The names and the room of dropped rows are free again, and no others. The name of each kept row
+/// is found under its new number, every other name is free, and there are as many rows as were
+/// kept.
 pub fn names_and_room_are_free_again()
     ensures names { (p : State) → IsConsistent p → AreNamesKept p }
     ensures room { (p : State) → IsRoomKept p }
 {}
 
-/// The task that is started next is the one that was, under its new number; there is none if there
-/// was none.
+/// The task that is started next is the same as before, under its new number. If there was none,
+/// there is none.
 pub fn the_next_task_is_the_one_that_was()
     ensures { (p : State) → IsConsistent p → first_ready (renewed p).work
         ≡ option_map (new_number (keeps_task p)) (first_ready p.work) }
 {}
 
-/// A renewed state stays as it is when it is renewed again.
+/// If a renewed state is renewed again, nothing changes.
 pub fn a_second_renewal_changes_nothing()
     ensures { (p : State) → IsConsistent p → renewed (renewed p) ≡ renewed p }
 {}

@@ -1,5 +1,5 @@
-//! A [`Renewal`] of a state holds which of its scopes, groups and tasks go on, and under which new
-//! numbers, and writes the image of them.
+//! A [`Renewal`] of a state knows which of its scopes, groups and tasks go on, and under which new
+//! numbers. It writes the image of them.
 
 ghost use Rattle.std.specs.List.{flat_map, AllByRecursion};
 ghost use Rattle.std.specs.Prelude.{◌≡◌, ◌+◌, ◌*◌, ◌<◌, ◌≤◌, ◌^◌, drop, length, true, IfOk, IfErr};
@@ -17,14 +17,14 @@ ghost use Rattle.state_renewal.specs.Renewed.{fits_in, renewed, renewed_in};
 
 use crate::flags::{flag_groups, flag_scopes, flag_tasks};
 use crate::marks::Marks;
-use crate::rows::{put_groups, put_scopes, put_tasks};
+use crate::renewed_rows::{put_groups, put_scopes, put_tasks};
 use record_view::put_head;
 use row_view::{ImageHead, ImageVersion};
 use run_model::{Fault, Layout};
-use run_state::State;
+use run_session::State;
 use std::alloc::{Allocator, Global};
 
-/// What of a state goes on.
+/// The part of a state that goes on.
 #[derive(Drop)]
 pub struct Renewal<A: Allocator = Global> {
     /// Which scopes, and under which numbers.
@@ -81,7 +81,7 @@ impl<B: Allocator> Renewal<B> {
         self.tasks.number(state.task_count() as u16)
     }
 
-    /// Reports whether the renewed state fits in a store of this layout.
+    /// Returns whether the renewed state fits in a store of this layout.
     pub fn fits<A: Allocator>(&self, state: &State<A>, layout: Layout) -> bool
         requires marks { AreMarks state.now self.now.scopes self.now.groups self.now.tasks }
         ensures { result ≡ fits_in layout (renewed state.now) }

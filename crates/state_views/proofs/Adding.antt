@@ -4,52 +4,52 @@ use Rattle.std.specs.Prelude.{OnErr, OnOk, Ok, Err, ⊤}
 use Rattle.std.specs.Io.KnownBytes.{Appends}
 use Rattle.std.proofs.Common.{refl, sym, ◌∙◌, subst, add-one, append_assoc, append-nil}
 use Rattle.std.proofs.lemmas.Result.{on_err_weaker, on_ok_weaker}
-use Rattle.console_lines.specs.Inspected.{lines_below}
+use Rattle.state_views.specs.Inspected.{lines_below}
 use Rattle.console_lines.specs.Progress.{WritesPart}
 use Rattle.state_views.specs.Sheets.{Adds, Holds}
-use Rattle.state_views.specs.Told.{Told}
+use Rattle.console_lines.specs.Buffered.{Buffered}
 use Rattle.state_views.specs.declared.sheets.Sheet.{Sheet}
-use Rattle.state_views.proofs.Told.{part_more, told_first, told_part, told_then}
+use Rattle.console_lines.proofs.Buffered.{part_more, buffered_first, buffered_part, buffered_then}
 
--- This text is gathered, and nothing was written.
+-- This text is buffered, and nothing was written.
 pub holds_first : (text : List ℕ) (s : Sheet) (w : Option (List ℕ))
-    → s.failed ≡ false → s.gathered.items ≡ text → Holds text s w w
+    → s.failed ≡ false → s.buffer.items ≡ text → Holds text s w w
 holds_first text s w sound e = record {
-  told = λ _. told_first text [] s.gathered.items w e;
+  sound = λ _. buffered_first text [] s.buffer.items w e;
   cut = λ failed. absurd (cc);
 }
 
--- A text was gathered.
-pub adds_gathered : (text : List ℕ) (s0 s1 : Sheet) (w : Option (List ℕ))
-    → s1.failed ≡ s0.failed → s1.gathered.items ≡ s0.gathered.items ++ text
+-- A text was buffered.
+pub adds_appended : (text : List ℕ) (s0 s1 : Sheet) (w : Option (List ℕ))
+    → s1.failed ≡ s0.failed → s1.buffer.items ≡ s0.buffer.items ++ text
     → Adds text s0 s1 w w
-adds_gathered text s0 s1 w same e = record {
+adds_appended text s0 s1 w same e = record {
   after = λ before v h. record {
-    told = λ sound. told_then before text [] s0.gathered.items s1.gathered.items v w w
-        (h.told (sym same ∙ sound)) (told_first text s0.gathered.items s1.gathered.items w e);
+    sound = λ ok. buffered_then before text [] s0.buffer.items s1.buffer.items v w w
+        (h.sound (sym same ∙ ok)) (buffered_first text s0.buffer.items s1.buffer.items w e);
     cut = λ failed. part_more before text v w (h.cut (sym same ∙ failed));
   };
 }
 
 pub adds_nothing : (s : Sheet) (w : Option (List ℕ)) → Adds [] s s w w
-adds_nothing s w = adds_gathered [] s s w refl (sym (append-nil s.gathered.items))
+adds_nothing s w = adds_appended [] s s w refl (sym (append-nil s.buffer.items))
 
 -- No write had failed, and then one was tried, or none was needed.
 pub adds_tried : {E : Type 0} (r : Result ⊤ E) (text : List ℕ) (s0 s1 : Sheet)
     (w0 w1 : Option (List ℕ)) → s0.failed ≡ false → s1.failed ≡ is_err r
-    → OnOk r (Told text s0.gathered.items s1.gathered.items w0 w1)
-    → OnErr r (WritesPart w0 w1 (s0.gathered.items ++ text)) → Adds text s0 s1 w0 w1
+    → OnOk r (Buffered text s0.buffer.items s1.buffer.items w0 w1)
+    → OnErr r (WritesPart w0 w1 (s0.buffer.items ++ text)) → Adds text s0 s1 w0 w1
 adds_tried (Ok x) text s0 s1 w0 w1 sound is told cut = record {
   after = λ before v h. record {
-    told = λ _. told_then before text [] s0.gathered.items s1.gathered.items v w0 w1
-        (h.told sound) told;
+    sound = λ _. buffered_then before text [] s0.buffer.items s1.buffer.items v w0 w1
+        (h.sound sound) told;
     cut = λ failed. absurd (cc);
   };
 }
 adds_tried (Err x) text s0 s1 w0 w1 sound is told cut = record {
   after = λ before v h. record {
-    told = λ none. absurd (cc);
-    cut = λ _. told_part before text s0.gathered.items v w0 w1 (h.told sound) cut;
+    sound = λ none. absurd (cc);
+    cut = λ _. buffered_part before text s0.buffer.items v w0 w1 (h.sound sound) cut;
   };
 }
 
@@ -58,7 +58,7 @@ pub adds_none : (text : List ℕ) (s0 s1 : Sheet) (w : Option (List ℕ))
     → s0.failed ≡ true → s1.failed ≡ true → Adds text s0 s1 w w
 adds_none text s0 s1 w before after = record {
   after = λ told v h. record {
-    told = λ sound. absurd (cc);
+    sound = λ ok. absurd (cc);
     cut = λ _. part_more told text v w (h.cut before);
   };
 }
@@ -72,12 +72,12 @@ adds_then {x = x} {y = y} {s2 = s2} {w2 = w2} one two = record {
       (two.after (before ++ x) v (one.after before v h));
 }
 
--- Room was made, and then a text was gathered.
+-- Room was made, and then a text was buffered.
 pub adds_line : {text : List ℕ} {s0 s1 s2 : Sheet} {w0 w1 : Option (List ℕ)}
     → Adds [] s0 s1 w0 w1 → s2.failed ≡ s1.failed
-    → s2.gathered.items ≡ s1.gathered.items ++ text → Adds text s0 s2 w0 w1
+    → s2.buffer.items ≡ s1.buffer.items ++ text → Adds text s0 s2 w0 w1
 adds_line {text = text} {s1 = s1} {s2 = s2} {w1 = w1} room same e =
-    adds_then room (adds_gathered text s1 s2 w1 same e)
+    adds_then room (adds_appended text s1 s2 w1 same e)
 
 -- One line more of some.
 pub adds_next : {s0 s1 s2 : Sheet} {w0 w1 w2 : Option (List ℕ)} (line : ℕ → List ℕ) (i : ℕ)

@@ -14,14 +14,14 @@ use Rattle.run_model.specs.declared.tasks.Task.{Task}
 use Rattle.run_model.specs.Questions.{task_look_of}
 use Rattle.run_model.specs.Rules.{IsConsistent}
 use Rattle.run_model.specs.State.{State}
-use Rattle.console_lines.specs.Branches.{branches_of, node_line, nodes_of, own_line}
-use Rattle.console_lines.specs.Trees.{above, drawn, lead, mark, parents_of}
-use Rattle.console_lines.specs.Walks.{IsAt, drawn_from, drawn_next}
-use Rattle.console_lines.proofs.StateTrees.{drawn_within}
-use Rattle.state_views.specs.Rows.{count_of, parents_in}
+use Rattle.state_views.specs.Branches.{branches_of, node_line, nodes_of, own_line}
+use Rattle.state_views.specs.Trees.{above, drawn, lead, mark, parents_of}
+use Rattle.state_views.specs.Walks.{IsAt, drawn_from, drawn_next}
+use Rattle.state_views.proofs.StateTrees.{drawn_within}
+use Rattle.state_views.specs.RowKinds.{count_of, parents_in}
 use Rattle.state_views.specs.Sheets.{Adds}
-use Rattle.state_views.specs.declared.rows.Rows.{Rows}
-use Rattle.state_views.specs.declared.rows.Rows.TheVariants.{Scopes, Groups, Tasks}
+use Rattle.state_views.specs.declared.row_kinds.RowKind.{RowKind}
+use Rattle.state_views.specs.declared.row_kinds.RowKind.TheVariants.{Scopes, Groups, Tasks}
 use Rattle.state_views.specs.declared.sheets.Sheet.{Sheet}
 use Rattle.state_views.proofs.Adding.{adds_nothing, adds_then}
 
@@ -97,7 +97,7 @@ node_added b p ps n {a = a} {m = m} {s0 = s0} {s3 = s3} {w0 = w0} {w3 = w3}
 -- ---- the parents
 
 -- Each row has a parent.
-pub as_many : (rows : Rows) (p : State) → length (parents_in rows p) ≡ count_of rows p
+pub as_many : (rows : RowKind) (p : State) → length (parents_in rows p) ≡ count_of rows p
 as_many Scopes p = length-map p.tree.scopes (λ row. row.parent)
 as_many Groups p = length-map p.work.groups (λ row. row.scope)
 as_many Tasks p = length-map p.work.tasks (λ row. length p.tree.scopes + row.group)
@@ -134,7 +134,7 @@ has_one (n ∷ ns) zero less e = cc
 has_one (n ∷ ns) (suc i) less e = has_one ns i (omega (arith, less)) e
 
 -- So many more are known after these rows.
-pub grown : (rows : Rows) (p : State) (old new : List ℕ) → new ≡ old ++ parents_in rows p
+pub grown : (rows : RowKind) (p : State) (old new : List ℕ) → new ≡ old ++ parents_in rows p
     → length new ≡ length old + count_of rows p
 grown rows p old new e =
     ap length e ∙ length-append old (parents_in rows p)

@@ -2,9 +2,9 @@
 use Rattle.std.specs.Prelude.{◌≡◌, ℕ, ◌+◌, if◌then◌else◌, List, Option, is_some}
 use Rattle.std.proofs.Common.{sym, ap, ◌∙◌, subst, add-one}
 use Rattle.run_model.specs.State.{State}
-use Rattle.console_lines.specs.declared.entries.Entry.{Entry}
-use Rattle.console_lines.specs.Entries.{listed_entry, place_of, task_entry, task_item}
-use Rattle.console_lines.specs.Inspected.{lines_below}
+use Rattle.state_views.specs.declared.json_entries.Entry.{Entry}
+use Rattle.state_views.specs.Entries.{listed_entry, place_of, task_entry, task_item}
+use Rattle.state_views.specs.Inspected.{lines_below}
 use Rattle.state_views.specs.Sheets.{Adds}
 use Rattle.state_views.specs.declared.sheets.Sheet.{Sheet}
 use Rattle.state_views.proofs.Adding.{adds_next}

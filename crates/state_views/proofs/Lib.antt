@@ -2,4 +2,6 @@ pub mod Adding
 pub mod Drawing
 pub mod EntryTexts
 pub mod SeenRows
-pub mod Told
+pub mod StateTrees
+pub mod TreeLemmas
+pub mod WalkLemmas

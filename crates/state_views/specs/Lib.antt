@@ -1,4 +1,14 @@
+pub mod Branches
+pub mod Entries
+pub mod EntryNights
 pub mod Forms
-pub mod Rows
+pub mod Inspected
+pub mod Listed
+pub mod ListedNights
+pub mod RowKinds
 pub mod Sheets
-pub mod Told
+pub mod Summaries
+pub mod SummaryNights
+pub mod TreeNights
+pub mod Trees
+pub mod Walks

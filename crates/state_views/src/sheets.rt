@@ -1,39 +1,39 @@
-//! What is printed is gathered on a sheet, and written many lines at a time.
+//! A [`Sheet`] buffers text, and keeps the failure of a write.
 //!
-//! A write that fails or takes nothing ends it: what was taken before is a prefix, and after that
-//! nothing is written, whatever is added.
+//! After a write that fails or takes nothing, nothing more is written, whatever is added. The
+//! output then holds a prefix of the text.
 
 ghost use Rattle.std.specs.Io.KnownBytes.{Appends};
 ghost use Rattle.std.specs.Prelude.{◌≡◌, ◌+◌, ◌≤◌, ℕ, List, [], Option, OnOk, OnErr, IfErr};
 ghost use Rattle.arrayvec.specs.ArrayVec.{array_vec_len};
-ghost use Rattle.console_lines.specs.declared.entries.TheConstants.{LONGEST_ENTRY};
+ghost use Rattle.state_views.specs.declared.json_entries.TheConstants.{LONGEST_ENTRY};
 ghost use Rattle.console_lines.specs.Progress.{WritesPart};
 ghost use Rattle.state_views.specs.Forms.{first_of};
 ghost use Rattle.state_views.specs.Sheets.{Adds, Holds};
 
-use crate::forms::{Form, gather_first};
-use crate::writings::{Gathered, gather_bytes, write_whole};
-use console_lines::{LONGEST_ENTRY, RunFault};
-use run_state::State;
+use crate::forms::{Form, append_first};
+use crate::json_entries::LONGEST_ENTRY;
+use console_lines::{OutputBuffer, RunFault, append_bytes, write_whole};
+use run_session::State;
 use std::alloc::Allocator;
 use std::io::Write;
 
-/// What was gathered and isn't written yet, and whether a write failed.
+/// The bytes that aren't written yet, and whether a write failed.
 #[derive(Drop)]
 pub struct Sheet {
-    pub(crate) gathered: Gathered,
+    pub(crate) buffer: OutputBuffer,
     failed: bool,
 }
 
 impl Sheet {
-    /// A sheet to which what is printed before all rows was added.
+    /// A sheet with the text that precedes the rows.
     pub(crate) fn new<B: Allocator>(form: Form<'_>, state: &State<B>) -> Sheet
         ensures { (w : Option (List ℕ)) → Holds (first_of form.entry state.now) result w w }
     {
-        let mut gathered = Gathered::new();
-        gather_first(form, state, &mut gathered);
+        let mut buffer = OutputBuffer::new();
+        append_first(form, state, &mut buffer);
         let failed = false;
-        Sheet { gathered, failed }
+        Sheet { buffer, failed }
     }
 
     /// Adds these bytes.
@@ -43,21 +43,21 @@ impl Sheet {
         if self.failed {
             return;
         }
-        self.failed = gather_bytes(bytes, &mut self.gathered, output).is_err();
+        self.failed = append_bytes(bytes, &mut self.buffer, output).is_err();
     }
 
-    /// Makes room for another line or entry: if there is none, all that was gathered is written.
+    /// Makes room for another line or entry: if none would fit, all buffered bytes are written.
     pub(crate) fn make_room<W: Write>(&mut self, output: &mut W)
         ensures none { Adds [] self.old self.new (W.contents output.old) (W.contents output.new) }
-        ensures room { array_vec_len self.new.gathered + LONGEST_ENTRY ≤ 8192 }
+        ensures room { array_vec_len self.new.buffer + LONGEST_ENTRY ≤ 8192 }
     {
-        if self.gathered.remaining_capacity() < LONGEST_ENTRY {
+        if self.buffer.remaining_capacity() < LONGEST_ENTRY {
             self.write(output);
         }
     }
 
-    /// Writes the rest. If this write failed or one before it did, what was written of all that was
-    /// added is a prefix, and not all.
+    /// Writes the rest. If this write or an earlier one failed, only a proper prefix of the text
+    /// was written.
     pub(crate) fn end<W: Write>(&mut self, output: &mut W) -> Result<(), RunFault>
         ensures whole { OnOk result ((text : List ℕ) (w : Option (List ℕ))
             → Holds text self.old w (W.contents output.old)
@@ -74,16 +74,16 @@ impl Sheet {
         Ok(())
     }
 
-    /// Writes all that was gathered, unless a write failed before. Then nothing is gathered.
+    /// Writes all buffered bytes, unless a write failed before, and empties the buffer.
     fn write<W: Write>(&mut self, output: &mut W)
         ensures none { Adds [] self.old self.new (W.contents output.old) (W.contents output.new) }
-        ensures empty { self.new.gathered.items ≡ [] }
+        ensures empty { self.new.buffer.items ≡ [] }
     {
         if self.failed {
-            self.gathered.clear();
+            self.buffer.clear();
             return;
         }
-        self.failed = write_whole(output, self.gathered.as_slice()).is_err();
-        self.gathered.clear();
+        self.failed = write_whole(output, self.buffer.as_slice()).is_err();
+        self.buffer.clear();
     }
 }

@@ -1,39 +1,40 @@
-//! What is drawn of a whole state as a tree.
+//! A state as a tree.
 
 ghost use Rattle.std.specs.Io.KnownBytes.{Appends};
 ghost use Rattle.std.specs.List.{flat_map};
 ghost use Rattle.std.specs.Prelude.{◌≡◌, ◌+◌, ◌≤◌, ◌++◌, [], IfErr, OnErr, OnOk, length, slice_get};
 ghost use Rattle.arrayvec.specs.ArrayVec.{array_vec_len};
-ghost use Rattle.console_lines.specs.declared.entries.TheConstants.{LONGEST_ENTRY};
-ghost use Rattle.console_lines.specs.declared.walks.TheConstants.{MOST_NODES};
-ghost use Rattle.console_lines.specs.Branches.{group_counted, node_line, nodes_of, own_line};
-ghost use Rattle.console_lines.specs.Branches.{tree_text};
+ghost use Rattle.state_views.specs.declared.json_entries.TheConstants.{LONGEST_ENTRY};
+ghost use Rattle.state_views.specs.declared.tree_walks.TheConstants.{MOST_NODES};
+ghost use Rattle.state_views.specs.Branches.{group_counted, node_line, nodes_of, own_line};
+ghost use Rattle.state_views.specs.Branches.{tree_text};
 ghost use Rattle.console_lines.specs.Progress.{WritesPart};
-ghost use Rattle.console_lines.specs.Trees.{drawn, tree_scope};
-ghost use Rattle.console_lines.specs.Walks.{IsAt};
-ghost use Rattle.state_views.specs.Rows.{count_of, parents_in};
+ghost use Rattle.state_views.specs.Trees.{drawn, tree_scope};
+ghost use Rattle.state_views.specs.Walks.{IsAt};
+ghost use Rattle.state_views.specs.RowKinds.{count_of, parents_in};
 ghost use Rattle.state_views.specs.Sheets.{Adds};
 
-use crate::forms::{Form, gather_one};
-use crate::rows::{Rows, scope_row};
+use crate::forms::{Form, append_one};
+use crate::row_kinds::{RowKind, scope_row};
 use crate::sheets::Sheet;
 use crate::summaries::phases_of;
-use crate::writings::Gathered;
+use crate::summary_lines::append_tree_group;
+use crate::tree_lines::append_tree_scope;
+use crate::tree_walks::{Above, MOST_NODES, mark, next_node};
 use arrayvec::ArrayVec;
-use console_lines::{
-    Above, MOST_NODES, RunFault, gather_tree_group, gather_tree_scope, mark, next_node,
-};
-use run_state::State;
+use console_lines::{OutputBuffer, RunFault};
+use run_session::State;
 use std::alloc::Allocator;
 use std::io::Write;
 
 /// The parent of each node.
 type Parents = ArrayVec<u16, MOST_NODES>;
 
-/// Prints a state as a tree: how many events there were, the clock and how full the store is, and a
-/// line for each scope, each group and each task below that of what it belongs to; without the
-/// tasks a group's line has how many of its own are in each phase. It takes no memory. If a write
-/// fails or takes nothing (`Output`), what was written is a prefix, and not all.
+/// Prints a state as a tree: the number of events, the clock and how full the store is, and a line
+/// for each scope, group and task below the line of its parent. With `no_tasks` no task has a line,
+/// and the line of a group says how many of its tasks are in each phase. It takes no memory. If a
+/// write fails or takes nothing (`Output`), only a part of the text was written, from its
+/// beginning.
 pub fn print_tree<W: Write, B: Allocator>(
     state: &State<B>,
     no_tasks: bool,
@@ -73,7 +74,7 @@ fn add_nodes<W: Write, B: Allocator>(
     }
 }
 
-/// Adds a node's line: what leads it, and what it says.
+/// Adds a node's line: its branches, its mark and its text.
 fn add_node<W: Write, B: Allocator>(
     no_tasks: bool,
     node: u16,
@@ -91,54 +92,54 @@ fn add_node<W: Write, B: Allocator>(
 {
     if node == 0 {
         sheet.make_room(output);
-        gather_own(no_tasks, node, state, &mut sheet.gathered);
+        append_own(no_tasks, node, state, &mut sheet.buffer);
         return;
     }
     sheet.add(above, output);
     sheet.add(mark(parents, node), output);
     sheet.make_room(output);
-    gather_own(no_tasks, node, state, &mut sheet.gathered);
+    append_own(no_tasks, node, state, &mut sheet.buffer);
 }
 
-/// Gathers what a node's line says.
-fn gather_own<B: Allocator>(no_tasks: bool, node: u16, state: &State<B>, gathered: &mut Gathered)
-    requires { array_vec_len gathered.old + LONGEST_ENTRY ≤ 8192 }
-    ensures { gathered.new.items ≡ gathered.old.items ++ own_line no_tasks state.now node }
+/// Appends the text of a node's line.
+fn append_own<B: Allocator>(no_tasks: bool, node: u16, state: &State<B>, buffer: &mut OutputBuffer)
+    requires { array_vec_len buffer.old + LONGEST_ENTRY ≤ 8192 }
+    ensures { buffer.new.items ≡ buffer.old.items ++ own_line no_tasks state.now node }
 {
-    let scopes = Rows::Scopes.count(state);
-    let groups = Rows::Groups.count(state);
+    let scopes = RowKind::Scopes.count(state);
+    let groups = RowKind::Groups.count(state);
     if node < scopes {
-        gather_one(Form::Branch, Rows::Scopes, node, state, gathered);
+        append_one(Form::Branch, RowKind::Scopes, node, state, buffer);
     } else if no_tasks {
-        gather_one(Form::Branch, Rows::Groups, node - scopes, state, gathered);
+        append_one(Form::Branch, RowKind::Groups, node - scopes, state, buffer);
     } else if node - scopes < groups {
-        gather_one(Form::Line, Rows::Groups, node - scopes, state, gathered);
+        append_one(Form::Line, RowKind::Groups, node - scopes, state, buffer);
     } else {
         let number = node - scopes - groups;
-        gather_one(Form::Line, Rows::Tasks, number, state, gathered);
+        append_one(Form::Line, RowKind::Tasks, number, state, buffer);
     }
 }
 
-/// Gathers the line of a scope.
-pub(crate) fn gather_branch<B: Allocator>(number: u16, state: &State<B>, gathered: &mut Gathered)
-    requires { array_vec_len gathered.old + LONGEST_ENTRY ≤ 8192 }
-    ensures { gathered.new.items ≡ gathered.old.items ++ tree_scope state.now number }
+/// Appends the line of a scope.
+pub(crate) fn append_branch<B: Allocator>(number: u16, state: &State<B>, buffer: &mut OutputBuffer)
+    requires { array_vec_len buffer.old + LONGEST_ENTRY ≤ 8192 }
+    ensures { buffer.new.items ≡ buffer.old.items ++ tree_scope state.now number }
 {
     if let Some(row) = scope_row(number, state) {
         if let Some(look) = state.look(number) {
-            gather_tree_scope(number, &row.kind, &look, gathered);
+            append_tree_scope(number, &row.kind, &look, buffer);
         }
     }
 }
 
-/// Gathers the line of a group with its tasks by phase.
-pub(crate) fn gather_counted<B: Allocator>(number: u16, state: &State<B>, gathered: &mut Gathered)
-    requires { array_vec_len gathered.old + LONGEST_ENTRY ≤ 8192 }
-    ensures { gathered.new.items ≡ gathered.old.items ++ group_counted state.now number }
+/// Appends the line of a group with its tasks by phase.
+pub(crate) fn append_counted<B: Allocator>(number: u16, state: &State<B>, buffer: &mut OutputBuffer)
+    requires { array_vec_len buffer.old + LONGEST_ENTRY ≤ 8192 }
+    ensures { buffer.new.items ≡ buffer.old.items ++ group_counted state.now number }
 {
     if let Some(group) = state.group(number) {
         let phases = phases_of(number, state);
-        gather_tree_group(number, &group, &phases, gathered);
+        append_tree_group(number, &group, &phases, buffer);
     }
 }
 
@@ -148,16 +149,16 @@ fn push_parents<B: Allocator>(no_tasks: bool, state: &State<B>, parents: &mut Pa
     ensures { parents.new.items ≡ nodes_of no_tasks state.now }
 {
     let _rules = state.count();
-    push_rows(Rows::Scopes, state, parents);
-    push_rows(Rows::Groups, state, parents);
+    push_rows(RowKind::Scopes, state, parents);
+    push_rows(RowKind::Groups, state, parents);
     if no_tasks {
         return;
     }
-    push_rows(Rows::Tasks, state, parents);
+    push_rows(RowKind::Tasks, state, parents);
 }
 
 /// Appends the parent of each of these rows.
-fn push_rows<B: Allocator>(rows: Rows, state: &State<B>, parents: &mut Parents)
+fn push_rows<B: Allocator>(rows: RowKind, state: &State<B>, parents: &mut Parents)
     requires { array_vec_len parents.old + count_of rows state.now ≤ MOST_NODES }
     ensures { parents.new.items ≡ parents.old.items ++ parents_in rows state.now }
 {
@@ -168,7 +169,7 @@ fn push_rows<B: Allocator>(rows: Rows, state: &State<B>, parents: &mut Parents)
     }
 }
 
-impl Rows {
+impl RowKind {
     /// The node that is the parent of the one of this number: the scope that a scope was derived
     /// from, the scope of a group, and the group of a task.
     fn parent<B: Allocator>(self, number: u16, state: &State<B>) -> Option<u16>
@@ -176,9 +177,9 @@ impl Rows {
     {
         let _rules = state.count();
         match self {
-            Rows::Scopes => Some(scope_row(number, state)?.parent),
-            Rows::Groups => Some(state.group(number)?.scope),
-            Rows::Tasks => Some(Rows::Scopes.count(state) + state.task(number)?.group),
+            RowKind::Scopes => Some(scope_row(number, state)?.parent),
+            RowKind::Groups => Some(state.group(number)?.scope),
+            RowKind::Tasks => Some(RowKind::Scopes.count(state) + state.task(number)?.group),
         }
     }
 }

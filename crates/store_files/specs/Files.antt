@@ -5,8 +5,8 @@ use Rattle.run_model.specs.Layouts.{store_len}
 use Rattle.run_disk.specs.Disk.{DiskState, IsAtRest}
 use Rattle.run_journal.specs.Pairs.{AreZeros}
 
--- The files, each known by its name. A file that is open is a disk, which whoever opened it gives
--- back as he leaves it. Each of these is a step, from all files to all files.
+-- The files, each of which is known by its name. An open file is a disk, which whoever opened it
+-- gives back as it was left. Each of these is a step from all files to all files.
 pub record FilesView (F D : Type 0) : Type 1 where
   -- the file of a name was opened for writing, as this disk
   pub opens : F → List ℕ → D → F → Type 0
@@ -20,26 +20,26 @@ pub record FilesView (F D : Type 0) : Type 1 where
   pub removes : F → List ℕ → F → Type 0
   -- no file changed but the one of a name
   pub remakes : F → List ℕ → F → Type 0
-  -- a reading of all of a disk gave these bytes, and left the disk so
+  -- a read of the whole disk returned these bytes, and left the disk so
   pub gives : D → List ℕ → D → Type 0
 
--- A disk is settled: an honest one is at rest, so that whatever wrote to it before, a crash leaves
--- what reads give.
+-- A disk is settled: if it is honest, it is at rest. So a crash leaves what reads return, whatever
+-- wrote to it before.
 abbrev pub IsSettled : DiskState → Type 0
 IsSettled s = s.honest → IsAtRest s
 
--- The name of the file beside the one of a name, as `jobs.store.renewing`.
+-- The name of the file beside the file with this name, such as `jobs.store.renewing`.
 abbrev pub beside : List ℕ → List ℕ
 beside name = name ++ codes ".renewing"
 
--- The file of a name couldn't be made anew: it may be emptied or gone, or be there, and no other
--- one changed. Where it had to be new, all files are as they were, or it was made.
+-- The file with this name couldn't be made. It may be empty or missing, or it may be there, and no
+-- other file changed. If it had to be new, all files are as they were, or it was made.
 abbrev pub IsNotMade : {F D : Type 0} → FilesView F D → List ℕ → (only_new : Bool)
     → (f0 f1 : F) → Type 0
 IsNotMade seen name true f0 f1 = (f1 ≡ f0) ⊎ seen.removes f1 name f0
 IsNotMade seen name false f0 f1 = seen.remakes f0 name f1
 
--- The file of a name was opened so (Opens), as a disk; it was given back as another one; and in
+-- The file with this name was opened (Opens), as a disk, and was given back as another one. In
 -- between this was done with the files (Did).
 pub record Holds {F D : Type 0} (seen : FilesView F D) (Opens : F → List ℕ → D → F → Type 0)
     (name : List ℕ) (Did : F → F → Type 0) (given left : D) (f0 f1 : F) : Type 0 where
@@ -55,36 +55,36 @@ abbrev pub HoldsAlone : {F D : Type 0} → FilesView F D → (F → List ℕ →
 HoldsAlone seen Opens name given left f0 f1 =
     Holds seen Opens name (λ opened after. after ≡ opened) given left f0 f1
 
--- This disk, the file of the first name, was put in the place of the file of the second, and no
--- other file changed: there is none of the first name then.
+-- This disk, which is the file with the first name, replaced the file with the second name, and no
+-- other file changed. Now there is no file with the first name.
 pub record IsReplaced {F D : Type 0} (seen : FilesView F D) (disk : D) (from to : List ℕ)
     (f0 f1 : F) : Type 0 where
   pub bare : F
   pub gone : seen.removes f0 from bare
   pub put : seen.puts bare to disk f1
 
--- It wasn't: the files of both names are these disks.
+-- It wasn't replaced: the files with the two names are these disks.
 pub record IsKept {F D : Type 0} (seen : FilesView F D) (disk over : D) (from to : List ℕ)
     (f0 f1 : F) : Type 0 where
   pub first : F
   pub new : seen.puts f0 from disk first
   pub old : seen.puts first to over f1
 
--- A reading of all of a disk gave these bytes, and left the disk so.
+-- A reading of the whole disk returned these bytes, and left the disk like this.
 pub record IsRead {F D : Type 0} (seen : FilesView F D) (bytes : List ℕ) (left : D) : Type 0 where
   pub before : D
   pub reads : seen.gives before bytes left
 
--- Two readings in a row gave these bytes, and left the disk so.
+-- Two readings in a row returned these bytes, and left the disk like this.
 pub record IsReadTwice {F D : Type 0} (seen : FilesView F D) (bytes : List ℕ) (left : D)
     : Type 0 where
   pub between : D
   pub first : IsRead seen bytes between
   pub second : seen.gives between bytes left
 
--- The file of this name was made anew with the size of a store of this layout, and is settled; no
--- other file changed. An honest one has zeros. It says whether there was none of its name before,
--- and one that is asked for as new was not there.
+-- The file with this name was made, with the size of a store of this layout, and is settled. No
+-- other file changed. If it is honest, it holds zeros. The result says whether there was no file
+-- with its name before. If a new file was asked for, there was none.
 pub record Makes {F D : Type 0} (state : D → DiskState) (seen : FilesView F D) (name : List ℕ)
     (layout : Layout) (only_new is_new : Bool) (made : D) (f0 f1 : F) : Type 0 where
   pub put : seen.puts f0 name made f1

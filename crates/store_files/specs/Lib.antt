@@ -1,3 +1,3 @@
+pub mod ErrorSinks
+pub mod FileErrors
 pub mod Files
-pub mod Reasons
-pub mod Tells

@@ -1,4 +1,4 @@
-//! The files that hold stores.
+//! [`Files`] is the trait of files that hold stores, and [`FirstError`] is the first error of one.
 
 ghost use Rattle.std.specs.Prelude.{◌≡◌, ◌⊎◌, ◌+◌, ℕ, List, length, slice_range, true};
 ghost use Rattle.std.specs.Prelude.{IfOk, OnErr, OnOk};
@@ -6,26 +6,26 @@ ghost use Rattle.run_disk.specs.Calls.{Calls, Reads};
 ghost use Rattle.run_journal.specs.Pairs.{AreZeros};
 ghost use Rattle.store_files.specs.Files.{FilesView, IsKept, IsReplaced, IsSettled};
 
-use crate::reasons::Reason;
+use crate::file_errors::FileError;
 use run_disk::{DiskFailed, RunDisk};
 
-/// What stands after a store's name in that of the file beside it.
+/// The ending that is added to the name of a store to get the name of the file beside it.
 pub const BESIDE: &str = ".renewing";
 
-/// Tells why calls of a file failed, also once its disk is gone.
-pub trait Why {
-    /// Why the first call that failed did, if one did.
-    fn reason(&self) -> Option<Reason>;
+/// The first error of a file. It can be read even after the file's disk is gone.
+pub trait FirstError {
+    /// The error of the first call that failed; `None` if none did.
+    fn first_error(&self) -> Option<FileError>;
 }
 
-/// A file that is open: a disk, and what tells why a call of it failed.
+/// An open file: a disk, and the first error of its calls.
 #[derive(Drop)]
 pub struct Opened<D: Drop, Y: Drop> {
     pub disk: D,
     pub why: Y,
 }
 
-/// A file that was just made, and whether there was none of its name before.
+/// A file that was just made, and whether no file had its name before.
 #[derive(Drop)]
 pub struct Made<D: Drop, Y: Drop> {
     pub disk: D,
@@ -33,52 +33,54 @@ pub struct Made<D: Drop, Y: Drop> {
     pub is_new: bool,
 }
 
-/// The files that hold stores, each known by its name. A file that is open is a disk; an honest
-/// disk is at rest as it is opened, whatever wrote to the file before. Whoever opened or made it
-/// gives it back by `close`, unless its file is taken away or put elsewhere.
+/// The files that hold stores. Each is known by its name. An open file is a disk. If it is honest,
+/// it is at rest when it is opened, whatever wrote to the file before. Whoever opened or made a
+/// file gives it back by `close`, unless the file is removed or renamed.
 ///
-/// A file that is open for writing is this program's alone, as far as others ask: `InUse` is why
-/// one isn't had that another program has open.
+/// A file that is open for writing is locked. `InUse` means that another program holds the lock.
 ///
-/// The program opens the system's files; a test may hand in its own, in memory.
+/// The program opens the system's files. A test may pass its own files, in memory.
 pub trait Files {
-    /// A file that is open.
+    /// An open file.
     type Disk: RunDisk + Drop + Send;
 
-    /// What tells why a call of it failed.
-    type Why: Why + Drop;
+    /// The first error of its calls.
+    type FirstError: FirstError + Drop;
 
-    /// What contracts see of them.
+    /// What contracts see of the files.
     ghost seen: { FilesView Self Self.Disk };
 
     /// Opens the file of this name for reading and writing.
-    fn open(&mut self, name: &str) -> Result<Opened<Self::Disk, Self::Why>, Reason>
+    fn open(&mut self, name: &str) -> Result<Opened<Self::Disk, Self::FirstError>, FileError>
         ensures opens { IfOk result (λ opened.
             seen.opens self.old name.now opened.disk self.new) }
         ensures settled { IfOk result (λ opened. IsSettled (Self.Disk.state opened.disk)) }
         ensures same { OnErr result (self.new ≡ self.old) };
 
     /// Opens the file of this name for reading alone.
-    fn open_to_read(&mut self, name: &str) -> Result<Opened<Self::Disk, Self::Why>, Reason>
+    fn open_to_read(
+        &mut self,
+        name: &str,
+    ) -> Result<Opened<Self::Disk, Self::FirstError>, FileError>
         ensures shows { IfOk result (λ opened.
             seen.shows self.old name.now opened.disk self.new) }
         ensures settled { IfOk result (λ opened. IsSettled (Self.Disk.state opened.disk)) }
         ensures same { OnErr result (self.new ≡ self.old) };
 
-    /// Opens the file of this name for reading alone, where another program has it open, too.
-    fn look(&mut self, name: &str) -> Result<Opened<Self::Disk, Self::Why>, Reason>
+    /// Opens the file of this name for reading alone, even if another program has it open.
+    fn look(&mut self, name: &str) -> Result<Opened<Self::Disk, Self::FirstError>, FileError>
         ensures shows { IfOk result (λ opened.
             seen.shows self.old name.now opened.disk self.new) }
         ensures same { OnErr result (self.new ≡ self.old) };
 
-    /// Gives back the file of this name, which is this disk as it was left. It calls nothing of it.
+    /// Gives back the file of this name, whose disk is left so. No call of the disk is made.
     fn close(&mut self, name: &str, disk: Self::Disk)
         ensures { seen.puts self.old name.now disk self.new };
 
-    /// Waits a moment, in which another program may write.
+    /// Waits for a moment, so that another program may write.
     fn pause(&self);
 
-    /// Reads all bytes of a disk, as they are at that moment, also where another program writes it.
+    /// Reads all bytes of a disk as they are at the moment, even if another program writes to it.
     fn read_all(&self, disk: &mut Self::Disk, out: &mut [u8]) -> Result<(), DiskFailed>
         requires { length out.old ≡ (Self.Disk.state disk.old).size }
         ensures gives { OnOk result (seen.gives disk.old out.new disk.new) }
@@ -88,10 +90,14 @@ pub trait Files {
         ensures bytes { (Self.Disk.state disk.old).honest → OnOk result (out.new
             ≡ slice_range (Self.Disk.state disk.old).now 0 (0 + length out.old)) };
 
-    /// Creates the file of this name, or empties it, and gives it so many zero bytes. At Ok a stop
-    /// leaves it its name, which no clause says. Where it can't be done, a file that this call
-    /// created is taken away again, unless another program has it open by then.
-    fn create(&mut self, name: &str, size: u64) -> Result<Made<Self::Disk, Self::Why>, Reason>
+    /// Creates the file of this name, or empties it, and fills it with `size` zero bytes. After Ok
+    /// a crash leaves the file its name (tested, not proved). After an error, a file that this call
+    /// created is removed again, unless another program has opened it.
+    fn create(
+        &mut self,
+        name: &str,
+        size: u64,
+    ) -> Result<Made<Self::Disk, Self::FirstError>, FileError>
         ensures put { IfOk result (λ made. seen.puts self.old name.now made.disk self.new) }
         ensures size { IfOk result (λ made. (Self.Disk.state made.disk).size ≡ size) }
         ensures zeros { IfOk result (λ made. (Self.Disk.state made.disk).honest
@@ -100,15 +106,14 @@ pub trait Files {
         ensures new { IfOk result (λ made. made.is_new ≡ true → seen.lacks self.old name.now) }
         ensures not { OnErr result (seen.remakes self.old name.now self.new) };
 
-    /// So does `create`, where there is no file of this name; else nothing is done. The file gets
-    /// the owner and the rights of that of the name `like`, where there is to be one, before a byte
-    /// is written to it.
+    /// Like `create`, but fails if there is a file of this name. Before a byte is written, the new
+    /// file gets the owner and the rights of the file `like`, if one is named.
     fn create_new(
         &mut self,
         name: &str,
         like: Option<&str>,
         size: u64,
-    ) -> Result<Made<Self::Disk, Self::Why>, Reason>
+    ) -> Result<Made<Self::Disk, Self::FirstError>, FileError>
         ensures put { IfOk result (λ made. seen.puts self.old name.now made.disk self.new) }
         ensures size { IfOk result (λ made. (Self.Disk.state made.disk).size ≡ size) }
         ensures zeros { IfOk result (λ made. (Self.Disk.state made.disk).honest
@@ -118,24 +123,24 @@ pub trait Files {
         ensures not { OnErr result
             ((self.new ≡ self.old) ⊎ seen.removes self.new name.now self.old) };
 
-    /// Puts this disk, which is the file of the first name, in the place of `over`, which is that
-    /// of the second, and closes both. At each moment the second is the name of the one or of the
-    /// other, and at Ok a cut of the power leaves it that of the disk, which no clause says. The
-    /// second name has to be the only one of `over`, and no link.
+    /// Renames the file `from`, which is `disk`, to `to`, the name of the file `over`, and closes
+    /// both. At every moment `to` leads to one of the two files. After Ok, a power failure leaves
+    /// it leading to `disk` (tested, not proved). `to` has to be the only name of `over`, and no
+    /// link.
     fn replace(
         &mut self,
         disk: Self::Disk,
         over: Self::Disk,
         from: &str,
         to: &str,
-    ) -> Result<(), Reason>
+    ) -> Result<(), FileError>
         requires settled { IsSettled (Self.Disk.state disk) }
         ensures done { OnOk result
             (IsReplaced seen disk from.now to.now self.old self.new) }
         ensures left { OnErr result (IsKept seen disk over from.now to.now self.old self.new
             ⊎ IsReplaced seen disk from.now to.now self.old self.new) };
 
-    /// Takes the file of this name away, as far as the system lets it.
+    /// Removes the file of this name, if the system lets it.
     fn remove(&mut self, name: &str)
         ensures { seen.removes self.old name.now self.new };
 }

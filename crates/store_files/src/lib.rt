@@ -1,11 +1,14 @@
-//! The files that hold stores, each known by its name: a trait of what a program does with them,
-//! and why one couldn't be opened or a call of it failed; and a trait of what it tells that to.
+//! The files that hold stores, and where their errors go.
+//!
+//! There are three traits. [`Files`] opens, makes and replaces the files of stores, [`FirstError`]
+//! returns the first error of a file, and [`ErrorSink`] prints messages. A [`FileError`] says why a
+//! file couldn't be opened, or why a call of it failed.
 #![tactic(auto)]
 
+mod error_sinks;
+mod file_errors;
 mod files;
-mod reasons;
-mod tells;
 
-pub use files::{BESIDE, Files, Made, Opened, Why};
-pub use reasons::Reason;
-pub use tells::Tell;
+pub use error_sinks::ErrorSink;
+pub use file_errors::FileError;
+pub use files::{BESIDE, Files, FirstError, Made, Opened};

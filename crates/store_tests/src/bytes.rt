@@ -32,12 +32,18 @@ pub fn blank(rt: &impl Abort, alloc: Global, size: usize) -> MemoryDisk {
 }
 
 /// What a crash after so many calls leaves, torn in this way.
-pub fn left(rt: &impl Abort, alloc: Global, disk: &MemoryDisk, calls: u64, torn: Torn) -> Vec<u8> {
+pub fn torn_image(
+    rt: &impl Abort,
+    alloc: Global,
+    disk: &MemoryDisk,
+    calls: u64,
+    torn: Torn,
+) -> Vec<u8> {
     assert!(rt; calls <= disk.calls());
     done(rt, disk.image(alloc, calls, torn), "memory")
 }
 
 /// What a crash now leaves, torn in this way.
 pub fn now(rt: &impl Abort, alloc: Global, disk: &MemoryDisk, torn: Torn) -> Vec<u8> {
-    left(rt, alloc, disk, disk.calls(), torn)
+    torn_image(rt, alloc, disk, disk.calls(), torn)
 }

@@ -1,7 +1,7 @@
 //! Disks in memory: what a crash leaves, and what a failed call leaves.
 
 use crate::asserts::{done, holds};
-use crate::bytes::{blank, left};
+use crate::bytes::{blank, torn_image};
 use linked_list_allocator::LocalHeap;
 use run_disk::{DiskFailed, FailOnce, Fuse, MemoryDisk, RunDisk, Torn, write_durably};
 use run_model::Fault;
@@ -94,7 +94,7 @@ fn is_so<D: RunDisk>(rt: &impl Abort, disk: &mut D, call: Call) -> bool {
 /// Makes the calls of a table. The message names it, and the call.
 pub fn play<D: RunDisk>(rt: &impl Abort, disk: &mut D, what: &str, calls: &[Call]) {
     for (row, call) in calls.iter().enumerate() {
-        holds(rt, is_so(rt, disk, *call), what, row);
+        holds(rt, is_so(rt, disk, *call), what, row as u64);
     }
 }
 
@@ -166,8 +166,13 @@ static NEWEST: [Stage; 2] = [
 /// Asserts what crashes leave.
 fn assert_left(rt: &impl Abort, alloc: Global, disk: &MemoryDisk, rows: &[Row]) {
     for (row, (calls, torn, wanted)) in rows.iter().enumerate() {
-        let bytes = left(rt, alloc, disk, *calls, *torn);
-        holds(rt, bytes.as_slice() == *wanted, "what crash leaves", row);
+        let bytes = torn_image(rt, alloc, disk, *calls, *torn);
+        holds(
+            rt,
+            bytes.as_slice() == *wanted,
+            "what crash leaves",
+            row as u64,
+        );
     }
 }
 
@@ -176,7 +181,7 @@ fn assert_stages(rt: &impl Abort, alloc: Global, size: usize, stages: &[Stage]) 
     let mut disk = blank(rt, alloc, size);
     for (calls, counted, rows) in stages.iter() {
         play(rt, &mut disk, "call", calls);
-        holds(rt, disk.calls() == *counted, "calls", *counted as usize);
+        holds(rt, disk.calls() == *counted, "calls", *counted);
         assert_left(rt, alloc, &disk, rows);
     }
 }
@@ -207,7 +212,7 @@ fn leaves<'h>(
         Ok(image) => (true, is_left(&image, whole)),
         Err(fault) => (false, fault == Fault::Memory),
     };
-    holds(rt, right, "image", made as usize);
+    holds(rt, right, "image", made as u64);
     made
 }
 
@@ -216,10 +221,10 @@ fn leaves<'h>(
 fn lacks_of(rt: &impl Abort, heap: &LocalHeap) -> [bool; 3] {
     // (the least heap has room for 16 bytes)
     let mut disk = done(rt, MemoryDisk::new(heap, 24), "a disk");
-    holds(rt, heap.used() == 0, "in use", heap.used());
+    holds(rt, heap.used() == 0, "in use", heap.used() as u64);
     let wrote = write(rt, &mut disk, 2, &[5, 6, 7]).is_ok();
     let wanted: &[u8] = if wrote { &[5, 6, 7] } else { &[0; 3] };
-    holds(rt, reads(rt, &mut disk, 2, wanted), "read", wrote as usize);
+    holds(rt, reads(rt, &mut disk, 2, wanted), "read", wrote as u64);
     let synced = disk.sync().is_ok();
     holds(rt, disk.calls() == 3, "calls", 3);
     let shown = leaves(rt, heap, &disk, wrote && synced);
@@ -242,7 +247,7 @@ fn a_refused_growth_is_a_failed_call(rt: HostRuntime) {
         }
     }
     for (row, seen) in seen.iter().enumerate() {
-        holds(&rt, *seen, "lack", row);
+        holds(&rt, *seen, "lack", row as u64);
     }
 }
 
@@ -268,7 +273,7 @@ fn below_fuse(rt: &impl Abort, alloc: Global, calls: &[Call]) -> MemoryDisk {
 /// Asserts that so many calls came to a disk, and what these give then.
 fn assert_after(rt: &impl Abort, disk: MemoryDisk, counted: u64, calls: &[Call]) {
     let mut disk = disk;
-    holds(rt, disk.calls() == counted, "calls", counted as usize);
+    holds(rt, disk.calls() == counted, "calls", counted);
     play(rt, &mut disk, "after", calls);
 }
 

@@ -99,10 +99,20 @@ fn length_of(rt: &HostRuntime, path: &str) -> Option<u64> {
 #[test]
 fn a_file_keeps_what_was_synced_and_tells_what_fails(rt: HostRuntime) {
     for (row, (path, bytes, writes, first, length, then, again)) in FILES.iter().enumerate() {
-        holds(&rt, write_file(&rt, path, bytes) == Some(()), "file", row);
+        holds(
+            &rt,
+            write_file(&rt, path, bytes) == Some(()),
+            "file",
+            row as u64,
+        );
         let mut disk = opened(&rt, path, *writes).expect(&rt, "a disk");
         play(&rt, &mut disk, path, first);
-        holds(&rt, cut(&rt, path, *length) == Some(()), "cut of file", row);
+        holds(
+            &rt,
+            cut(&rt, path, *length) == Some(()),
+            "cut of file",
+            row as u64,
+        );
         play(&rt, &mut disk, path, then);
         drop(disk);
         let mut disk = opened(&rt, path, false).expect(&rt, "a disk");
@@ -111,7 +121,7 @@ fn a_file_keeps_what_was_synced_and_tells_what_fails(rt: HostRuntime) {
             &rt,
             length_of(&rt, path) == Some(*length),
             "length of file",
-            row,
+            row as u64,
         );
     }
 }

@@ -85,7 +85,7 @@ fn failed(rt: &impl Abort, alloc: Global, failure: &Failure) -> ForgetfulSync {
     let disk = forgetful(rt, alloc, failure.0);
     let (disk, acknowledged) = run_on(rt, alloc, disk, &BEFORE);
     let is_so = disk.has_failed() && acknowledged == failure.1;
-    holds(rt, is_so, "failed sync", failure.0 as usize);
+    holds(rt, is_so, "failed sync", failure.0);
     disk
 }
 
@@ -115,7 +115,7 @@ fn a_failed_sync_leaves_what_was_acknowledged(rt: HostRuntime) {
         let disk = failed(&rt, rt.alloc(), failure);
         let is_left = has_pair(&rt, rt.alloc(), disk.device(), failure.2, None);
         let is_read = has_pair(&rt, rt.alloc(), disk.memory(), failure.3, None);
-        holds(&rt, is_left && is_read, "failed sync", failure.0 as usize);
+        holds(&rt, is_left && is_read, "failed sync", failure.0);
     }
 }
 
@@ -133,7 +133,7 @@ fn cut(
     let disk = Fuse::new(done(rt, disk, "settled disk"), calls);
     let (disk, acknowledged) = run_on(rt, alloc, disk, next.0);
     let is_so = acknowledged == acknowledged_after(next, calls);
-    holds(rt, is_so, "acknowledged after call", calls as usize);
+    holds(rt, is_so, "acknowledged after call", calls);
     disk.into_inner()
 }
 

@@ -1,9 +1,12 @@
-//! Tests of what a book stands on: disks, the places of both layouts, and a journal over a disk
-//! that forgets. What slots, segments and journals leave is said by their contracts.
+//! Tests of stores: disks, the places of both layouts, a journal over a disk that forgets, and the
+//! durable book, each of its calls on its way over a disk in memory, and the bytes that it leaves.
+//! Their contracts say what slots, segments and journals leave.
 #![tactic(auto)]
 
 #[cfg(test)]
 mod asserts;
+#[cfg(test)]
+mod books;
 #[cfg(test)]
 mod bytes;
 #[cfg(test)]
@@ -13,6 +16,6 @@ mod files;
 #[cfg(test)]
 mod forgetful;
 #[cfg(test)]
-mod pairs;
+mod layouts;
 #[cfg(test)]
-mod stores;
+mod pairs;

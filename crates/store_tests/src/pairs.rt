@@ -103,7 +103,7 @@ fn checkpoint<D: RunDisk>(
     assert!(rt; !journal.is_broken());
     let told = journal.checkpoint(&mut body);
     let is_kept = told != Err(Fault::NumbersSpent) || body == body_of(image);
-    holds(rt, is_kept, "the body of image", image.len());
+    holds(rt, is_kept, "the body of image", image.len() as u64);
     told
 }
 
@@ -136,6 +136,6 @@ pub fn formatted(rt: &impl Abort, alloc: Global, layout: Layout, value: u8) -> M
     let mut disk = disk_of(rt, alloc, bytes);
     assert!(rt; disk.size() == 1_572_864 || disk.size() == 6_291_456);
     let told = Journal::format(&mut disk, &mut body_of(&FORMATTED));
-    holds(rt, told == Ok(()), "format over", value as usize);
+    holds(rt, told == Ok(()), "format over", value as u64);
     disk
 }

@@ -1,6 +1,5 @@
 -- From what a call wrote, or where it stopped, to how a word ends.
-use Rattle.std.proofs.Common.{◌∙◌, append_assoc, ap, ap₂}
-use Rattle.std.specs.Prelude.{◌≡◌, ◌++◌, [], ℕ, List, Option, Result, Ok, Err, IfErr}
+use Rattle.std.specs.Prelude.{◌≡◌, ℕ, List, Option, Result, Ok, Err, IfErr}
 use Rattle.std.specs.Prelude.{OnErr, OnOk}
 use Rattle.std.specs.Io.KnownBytes.{Appends}
 use Rattle.console_lines.specs.declared.faults.RunFault.{RunFault}
@@ -14,12 +13,3 @@ pub printed : {T : Type 0} (r : Result T RunFault) (text : List ℕ) (w0 w1 : Op
     → IfErr r (λ why. why ≡ Output) → Prints text r w0 w1
 printed (Ok done) text w0 w1 whole cut fault = whole
 printed (Err why) text w0 w1 whole cut fault = (fault, cut)
-
--- A line that was made of three parts, one after the other.
-pub three_parts : (none one two three line : List ℕ) (a b c given : List ℕ)
-    → none ≡ [] → one ≡ none ++ a → two ≡ one ++ given → three ≡ two ++ c → line ≡ three
-    → given ≡ b → line ≡ a ++ (b ++ c)
-three_parts none one two three line a b c given e0 e1 e2 e3 is same =
-    is ∙ (e3 ∙ (ap (λ l. l ++ c)
-    (e2 ∙ ap₂ (λ l m. l ++ m) (e1 ∙ ap (λ l. l ++ a) e0) same)
-    ∙ append_assoc a b c))

@@ -7,9 +7,9 @@ use Rattle.run_disk.specs.Disk.{DiskState, IsAtRest, IsDisk}
 use Rattle.book_model.specs.Books.{CarriesOn, BookView, IsSafe, acked}
 use Rattle.book_model.specs.Openings.{HasFormatted, Opens}
 use Rattle.book_model.specs.Standing.{LiesWith}
-use Rattle.book_model.specs.Stores.{Stores, StoresFront, restarted}
+use Rattle.book_model.specs.Stores.{Stores, StoresPrefix, restarted}
 use Rattle.book_model.proofs.Storing.{stores_one}
-use Rattle.night_requests.specs.declared.asked.View.{View}
+use Rattle.state_views.specs.declared.views.View.{View}
 use Rattle.store_words.specs.Lasting.{FindsLeft}
 use Rattle.store_words.specs.Stores.{InspectEnds, view_text}
 
@@ -38,14 +38,14 @@ module _ {D : Type 0} (state : D → DiskState) where
   pub held_is_found : (given next : D) (p : State) (b m c : BookView D) → LiesWith state given p
       → Opens state given (Ok b) → CarriesOn state b m → CarriesOn state m c
       → FindsLeft state m.journal.disk c.journal.disk next
-      → StoresFront (restarted p) c.session.history (acked m) (state next).now
+      → StoresPrefix (restarted p) c.session.history (acked m) (state next).now
   held_is_found given next p b m c lies opens first second finds =
       let safe = safe_then given p b lies opens in
       let left = second.any_moment (record {
         honest = first.passed.honest safe.honest;
         rest = subst (λ d. IsAtRest (state d)) (sym first.origin) safe.rest;
       }) in
-      subst (λ q. StoresFront q c.session.history (acked m) (state next).now)
+      subst (λ q. StoresPrefix q c.session.history (acked m) (state next).now)
       (second.start ∙ first.start ∙ start_is given p b lies opens)
       (left.each (state next).now finds.content)
 

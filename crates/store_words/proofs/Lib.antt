@@ -1,4 +1,3 @@
 mod EndLemmas
 pub mod FoundLemmas
-mod KnownTasks
 pub mod WordLemmas

@@ -5,7 +5,7 @@ use Rattle.std.specs.Prelude.{Result, ⊤}
 use Rattle.run_model.specs.declared.faults.Fault.{Fault}
 use Rattle.run_model.specs.declared.faults.Fault.TheVariants as fault
 use Rattle.run_model.specs.declared.layouts.Layout.{Layout}
-use Rattle.run_model.specs.Allowed.{IsFront}
+use Rattle.run_model.specs.Allowed.{IsPrefix}
 use Rattle.run_model.specs.Event.{Event}
 use Rattle.run_model.specs.Layouts.{store_len}
 use Rattle.run_model.specs.State.{State, formatted}
@@ -20,11 +20,11 @@ use Rattle.book_model.specs.Openings.{FormatsNot, HasRecovered, RecoversNone}
 use Rattle.book_model.specs.Standing.{LiesWith}
 use Rattle.book_model.specs.Stores.{Stores, StoresNothingOr, StoresOpened, restarted}
 use Rattle.book_model.specs.declared.migrations.MigrateFault.{MigrateFault}
-use Rattle.book_model.proofs.FrontLemmas.{front_least}
+use Rattle.book_model.proofs.PrefixLemmas.{prefix_least}
 use Rattle.book_model.proofs.Stopping.{zeros_nothing}
 use Rattle.book_model.proofs.Storing.{stores_not_both}
 use Rattle.console_lines.specs.declared.faults.RunFault.{RunFault}
-use Rattle.night_requests.specs.declared.asked.View.{View}
+use Rattle.state_views.specs.declared.views.View.{View}
 use Rattle.store_words.specs.Lasting.{CutsMaking, IsReadAlone, LeadsBy}
 use Rattle.store_words.specs.Sources.{Serves}
 use Rattle.store_words.specs.Stores.{FormatEnds, InspectEnds, MigratesRead, Remakes, Shows}
@@ -40,10 +40,10 @@ pub record IsLedBy (p : State) (events : List Event) (n : ℕ) (bytes : List ℕ
   pub stores : Stores bytes state
 
 pub front_led : (p q : State) (events : List Event) (least n : ℕ)
-    → IsFront (restarted p) events least q → n ≤ (restarted p).count + least
+    → IsPrefix (restarted p) events least q → n ≤ (restarted p).count + least
     → LeadsBy p events n q
 front_led p q events least n front below =
-    let counts = front_least (restarted p) q events least front in
+    let counts = prefix_least (restarted p) q events least front in
     record {
       front = inr (record {
         many = front.many;

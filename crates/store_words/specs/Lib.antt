@@ -1,4 +1,6 @@
-pub mod Known
+pub mod Endings
+pub mod Failures
+pub mod Hints
 pub mod Lasting
 pub mod Looks
 pub mod Replacements

@@ -8,15 +8,15 @@ use Rattle.run_disk.specs.Disk.{DiskState}
 use Rattle.book_model.specs.declared.migrations.MigrateFault.{MigrateFault}
 use Rattle.console_lines.specs.declared.faults.RunFault.TheVariants.{Memory}
 use Rattle.console_lines.specs.Faults.{stopped}
-use Rattle.word_endings.specs.declared.endings.Done.{Done}
-use Rattle.word_endings.specs.declared.failures.Failure.{Failure}
+use Rattle.store_words.specs.declared.endings.Done.{Done}
+use Rattle.store_words.specs.declared.failures.Failure.{Failure}
 use Rattle.store_words.specs.declared.renewals.Kept.{Kept}
-use Rattle.word_endings.specs.Failures.{AnswersAlone, FailsBy, FailsOf, HasNoFile, IsUnput, Names}
+use Rattle.store_words.specs.Failures.{AnswersAlone, FailsBy, FailsOf, HasNoFile, IsUnput, Names}
 use Rattle.store_files.specs.Files.{FilesView, Holds, HoldsAlone, IsKept, IsNotMade, IsReplaced}
 use Rattle.store_files.specs.Files.{IsSettled, Makes, beside}
 use Rattle.store_words.specs.Stores.{DoesPrint, Remakes, renewed_line}
 
--- The file of this name was opened so (IsOpened), and has not the size of a store.
+-- The file with this name was opened (IsOpened), and doesn't have the size of a store.
 pub record HasNoSize {D : Type 0} (state : D → DiskState) (IsOpened : D → Type 0)
     (store : List ℕ) (answer : Result Done Failure) : Type 0 where
   pub source : D

@@ -15,8 +15,8 @@ abbrev larger : Layout → Option Layout
 larger Small = Some Large
 larger Large = None
 
--- The layout of the store that a migration makes of one of so many bytes: a large one of a small
--- one.
+-- The layout of the store that a migration makes from one with this number of bytes: large for a
+-- small store.
 abbrev pub migrated_layout : ℕ → Option Layout
 migrated_layout size = option_and_then larger (layout_of size)
 
@@ -24,9 +24,9 @@ migrated_layout size = option_and_then larger (layout_of size)
 abbrev pub Serves : (old read : DiskState) → Type 0
 Serves old read = (p : State) × HasReadStore p old read
 
--- Why no store of this layout, if of any, is made of what is on a disk, by the fault that tells it:
--- of its size none is, and it wasn't called; or it was only read, and stores a state of 2^62 events
--- or more, or none.
+-- Why no store of this layout, if there is one, is made from the disk, for each fault that reports
+-- it. Either its size is wrong, and no call was made; or it was only read, and stores no state, or
+-- a state of 2^62 events or more.
 abbrev pub ServesNot : {D : Type 0} → (D → DiskState) → (to : Option Layout) → (old : D)
     → Fault → (read : D) → Type 0
 ServesNot state to old why read =

@@ -1,4 +1,4 @@
--- What each word does to a store, by what its disk was and what is left of it.
+-- What each subcommand does to a store: what its disk was before, and what is left of it.
 use Rattle.std.specs.Prelude.{◌≡◌, ◌⊎◌, ◌++◌, ℕ, List, Option, Result, Ok, Err, codes}
 use Rattle.std.specs.Prelude.{⊤, length, option_map}
 use Rattle.std.specs.Fmt.{decimal}
@@ -13,22 +13,22 @@ use Rattle.book_model.specs.Migrations.{Migrates}
 use Rattle.book_renewal.specs.Renewals.{Renews}
 use Rattle.console_lines.specs.declared.faults.RunFault.{RunFault}
 use Rattle.console_lines.specs.declared.faults.RunFault.TheVariants.{Output}
-use Rattle.console_lines.specs.Branches.{tree_text}
-use Rattle.console_lines.specs.Entries.{json_text}
-use Rattle.console_lines.specs.Inspected.{inspected}
-use Rattle.console_lines.specs.Listed.{listed}
+use Rattle.state_views.specs.Branches.{tree_text}
+use Rattle.state_views.specs.Entries.{json_text}
+use Rattle.state_views.specs.Inspected.{inspected}
+use Rattle.state_views.specs.Listed.{listed}
 use Rattle.console_lines.specs.Progress.{WritesPart}
-use Rattle.console_lines.specs.Summaries.{summary_text}
+use Rattle.state_views.specs.Summaries.{summary_text}
 use Rattle.console_lines.specs.Faults.{stopped}
-use Rattle.night_requests.specs.declared.asked.View.{View}
-use Rattle.night_requests.specs.declared.asked.View.TheVariants.{Json, Summary, Tasks, Tree, Whole}
-use Rattle.word_endings.specs.Failures.{AnswersAlone, FailsOf}
-use Rattle.word_endings.specs.declared.endings.Done.{Done}
-use Rattle.word_endings.specs.declared.failures.Failure.{Failure}
+use Rattle.state_views.specs.declared.views.View.{View}
+use Rattle.state_views.specs.declared.views.View.TheVariants.{Json, Summary, Tasks, Tree, Whole}
+use Rattle.store_words.specs.Failures.{AnswersAlone, FailsOf}
+use Rattle.store_words.specs.declared.endings.Done.{Done}
+use Rattle.store_words.specs.declared.failures.Failure.{Failure}
 use Rattle.store_words.specs.declared.renewals.Kept.{Kept}
 use Rattle.store_words.specs.declared.renewals.Sizes.{Sizes}
 
--- A text was printed whole, or as much of it as the output took.
+-- A text was printed whole, or as much of it as the output accepted.
 abbrev pub Prints : {T : Type 0} → List ℕ → Result T RunFault → (w0 w1 : Option (List ℕ)) → Type 0
 Prints text (Ok done) w0 w1 = Appends w0 w1 text
 Prints text (Err why) w0 w1 = (why ≡ Output) × WritesPart w0 w1 text
@@ -40,8 +40,8 @@ DoesPrint text answer w0 w1 =
 
 -- ---- format
 
--- The disk was formatted, and is at rest where an honest one was; and `formatted` was printed. Or
--- it was not formatted, and nothing was printed: the fault tells why.
+-- The disk was formatted, and `formatted` was printed. If the disk is honest and was at rest, it is
+-- at rest again. Or it wasn't formatted, and nothing was printed; the fault says why.
 abbrev pub FormatEnds : {T D : Type 0} → (D → DiskState) → (given : D)
     → Result T RunFault → (left : D) → (w0 w1 : Option (List ℕ)) → Type 0
 FormatEnds state given answer left w0 w1 =
@@ -53,8 +53,8 @@ FormatEnds state given answer left w0 w1 =
 
 -- ---- inspect
 
--- The state that the disk stores was recovered, and this text of it printed. Or none was, and
--- nothing was printed: the fault tells why. In each case the disk was read alone.
+-- The state on the disk was recovered, and this text of it was printed. Or no state was recovered,
+-- and nothing was printed; the fault says why. In each case the disk was only read.
 abbrev pub Shows : {T D : Type 0} → (State → List ℕ) → (D → DiskState) → (old : D)
     → Result T RunFault → (new : D) → (w0 w1 : Option (List ℕ)) → Type 0
 Shows text state old answer new w0 w1 =
@@ -62,9 +62,9 @@ Shows text state old answer new w0 w1 =
     ⊎ ((why : Fault) × (answer ≡ Err (stopped why)) × RecoversNone state old why new
     × (w1 ≡ w0))
 
--- What a view shows of a state: all that it holds, the lines of its tasks alone, or of those in a
--- phase and of a group, all of it as one object of JSON, with these tasks, as a tree, without tasks
--- or with them, or its summary.
+-- The text of a view of a state: all of its rows; the lines of its tasks, or of those in a phase
+-- and of a group; all of its rows as one object of JSON, with these tasks; a tree, with or without
+-- tasks; or its summary.
 abbrev pub view_text : View → State → List ℕ
 view_text Whole p = inspected p
 view_text (Tasks phase group) p =
@@ -74,19 +74,20 @@ view_text (Json phase group) p =
 view_text (Tree no_tasks) p = tree_text no_tasks p
 view_text Summary p = summary_text p
 
--- What the view shows of it was printed.
+-- The text of the view was printed.
 abbrev pub InspectEnds : {T D : Type 0} → View → (D → DiskState) → (old : D)
     → Result T RunFault → (new : D) → (w0 w1 : Option (List ℕ)) → Type 0
 InspectEnds view state old answer new w0 w1 = Shows (view_text view) state old answer new w0 w1
 
 -- ---- migrate
 
--- How many events there are in the store that was made, as in `migrated; events 6`.
+-- The line of a migration, which says how many events the new store has, as in
+-- `migrated; events 6`.
 abbrev pub migrated_line : ℕ → List ℕ
-migrated_line count = codes "migrated; events " ++ (decimal count ++ codes "\n")
+migrated_line count = codes "migrated; events " ++ decimal count ++ codes "\n"
 
--- A store was made of another one so (Made), and wasn't read: the fault is the new store's. Or none
--- was made.
+-- A new store was made from the old one (Made), but couldn't be read: the fault is that of the new
+-- store. Or none was made.
 abbrev pub MakesNot : {D E : Type 0} → (Made : Result E (MigrateFault × E) → D → Type 0)
     → (to : E → DiskState) → MigrateFault → (read : D) → (left : E) → Type 0
 MakesNot {E = E} Made to fault read left =
@@ -94,8 +95,8 @@ MakesNot {E = E} Made to fault read left =
     ⊎ ((made : E) × (why : Fault) × (fault ≡ of_two.New why) × Made (Ok made) read
     × RecoversNone to made why left)
 
--- The small store was migrated, and what was made of it was read: so many events it stores. Or why
--- not, and what is left of the two disks.
+-- The small store was migrated, and the new store was read: it has this many events. Or why not,
+-- and what is left of the two disks.
 abbrev pub MigratesRead : {D E : Type 0} → (D → DiskState) → (E → DiskState) → (old : D)
     → (given : E) → Result ℕ MigrateFault → (read : D) → (left : E) → Type 0
 MigratesRead {E = E} from to old given (Ok count) read left =
@@ -104,9 +105,9 @@ MigratesRead {E = E} from to old given (Ok count) read left =
 MigratesRead from to old given (Err fault) read left =
     MakesNot (Migrates from to old given) to fault read left
 
--- A store was made in the new file of what is in the old one, and this line of it printed. Or none
--- was made, or it wasn't read, and nothing was printed: the fault and the file that is to blame are
--- told.
+-- A store was made in the new file from the one in the old file, and this line about it was
+-- printed. Or none was made, or it couldn't be read, and nothing was printed; the result holds the
+-- fault and the file that is to blame.
 abbrev pub AnswersMade : {K : Type 0} → (line : K → List ℕ) → (old new : List ℕ)
     → Result K MigrateFault → Result Done Failure → (w0 w1 : Option (List ℕ)) → Type 0
 AnswersMade line old new (Ok kept) answer w0 w1 = DoesPrint (line kept) answer w0 w1
@@ -114,7 +115,7 @@ AnswersMade line old new (Err why) answer w0 w1 = FailsOf why old new answer × 
 
 -- ---- renew
 
--- How many events, scopes, groups and tasks a state has.
+-- The numbers of events, scopes, groups and tasks of a state.
 abbrev pub sizes : State → Sizes
 sizes p = record {
   events = p.count;
@@ -127,24 +128,25 @@ sizes p = record {
 abbrev pub HasSizes : (found : Sizes) → (old read : DiskState) → Type 0
 HasSizes found old read = (p : State) × HasRecovered p old read × (found ≡ sizes p)
 
--- So many rows of so many, as in `; tasks 3 of 8`.
+-- How many rows are left of how many, as in `; tasks 3 of 8`.
 abbrev pub of_text : (word : List ℕ) → (left were : ℕ) → List ℕ
-of_text word left were = word ++ (decimal left ++ (codes " of " ++ decimal were))
+of_text word left were = word ++ decimal left ++ (codes " of " ++ decimal were)
 
--- What is left of what there was before, as in `renewed; events 9; scopes 2 of 4; groups 1 of 3;
--- tasks 3 of 8`.
+-- The line of a renewal, which says how much is left of the old store, as in
+-- `renewed; events 9; scopes 2 of 4; groups 1 of 3; tasks 3 of 8`.
 abbrev pub sizes_line : (before left : Sizes) → List ℕ
 sizes_line before left =
-    codes "renewed; events " ++ (decimal left.events
-    ++ (of_text (codes "; scopes ") left.scopes before.scopes
-    ++ (of_text (codes "; groups ") left.groups before.groups
-    ++ (of_text (codes "; tasks ") left.tasks before.tasks ++ codes "\n"))))
+    codes "renewed; events " ++ decimal left.events
+    ++ of_text (codes "; scopes ") left.scopes before.scopes
+    ++ of_text (codes "; groups ") left.groups before.groups
+    ++ of_text (codes "; tasks ") left.tasks before.tasks
+    ++ codes "\n"
 
 abbrev pub renewed_line : Kept → List ℕ
 renewed_line kept = sizes_line kept.before kept.left
 
--- A store was read, then renewed, and what was made of it was read: so much there was, and so much
--- is left.
+-- A store was read and then renewed, and the new store was read: this many rows there were, and
+-- this many are left.
 pub record HasRemade {D E : Type 0} (from : D → DiskState) (to : E → DiskState) (old : D)
     (given : E) (kept : Kept) (read : D) (left : E) : Type 0 where
   pub seen : D
@@ -153,8 +155,8 @@ pub record HasRemade {D E : Type 0} (from : D → DiskState) (to : E → DiskSta
   pub renewed : Renews from to seen given (Ok made) read
   pub behind : HasSizes kept.left (to made) (to left)
 
--- Why not, and what is left of the two disks: the old store wasn't read, and nothing was made; or
--- none was made of it; or one was, which wasn't read.
+-- Why not, and what is left of the two disks: the old store couldn't be read, and nothing was made;
+-- or no new store was made; or one was made that couldn't be read.
 abbrev pub RemakesNot : {D E : Type 0} → (D → DiskState) → (E → DiskState) → (old : D)
     → (given : E) → MigrateFault → (read : D) → (left : E) → Type 0
 RemakesNot {D = D} from to old given fault read left =

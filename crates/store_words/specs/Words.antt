@@ -1,4 +1,4 @@
--- What each word does with the files that it names.
+-- What each subcommand does with the files that its arguments name.
 use Rattle.std.specs.Prelude.{◌≡◌, ◌⊎◌, ℕ, Bool, true, List, Option, Some, ⊤, Result, Err}
 use Rattle.run_model.specs.declared.faults.Fault.{Fault}
 use Rattle.run_model.specs.declared.layouts.Layout.{Layout}
@@ -7,20 +7,20 @@ use Rattle.run_model.specs.Layouts.{layout_of}
 use Rattle.run_disk.specs.Disk.{DiskState}
 use Rattle.book_model.specs.declared.migrations.MigrateFault.{MigrateFault}
 use Rattle.console_lines.specs.declared.faults.RunFault.{RunFault}
-use Rattle.night_requests.specs.declared.asked.View.{View}
+use Rattle.state_views.specs.declared.views.View.{View}
 use Rattle.console_lines.specs.Faults.{stopped}
 use Rattle.store_files.specs.Files.{FilesView, Holds, HoldsAlone, IsNotMade, IsSettled, Makes}
-use Rattle.word_endings.specs.declared.endings.Done.{Done}
-use Rattle.word_endings.specs.declared.failures.Failure.{Failure}
-use Rattle.word_endings.specs.Failures.{AnswersOver, FailsBy, HasNoFile, Names}
-use Rattle.word_endings.specs.Failures.{NamesSource}
+use Rattle.store_words.specs.declared.endings.Done.{Done}
+use Rattle.store_words.specs.declared.failures.Failure.{Failure}
+use Rattle.store_words.specs.Failures.{AnswersOver, FailsBy, HasNoFile, Names}
+use Rattle.store_words.specs.Failures.{NamesSource}
 use Rattle.store_words.specs.Looks.{LookEnds}
 use Rattle.store_words.specs.Sources.{Serves, ServesNot, migrated_layout}
 use Rattle.store_words.specs.Stores.{AnswersMade, FormatEnds, InspectEnds, MigratesRead, Remakes}
 use Rattle.store_words.specs.Stores.{migrated_line, renewed_line}
 
--- What became of a file after what it was made for: it is the disk that this left. But where that
--- failed, a file that wasn't there before is taken away again.
+-- What a subcommand leaves of a file that it made: the disk as it left it. But if the subcommand
+-- failed, and the file wasn't there before, the file is removed again.
 abbrev pub IsLeft : {F D : Type 0} → FilesView F D → (is_new : Bool) → Result Done Failure
     → List ℕ → (left : D) → (f0 f1 : F) → Type 0
 IsLeft seen true (Err why) name left f0 f1 = seen.removes f0 name f1
@@ -29,7 +29,7 @@ IsLeft seen _ _ name left f0 f1 = seen.puts f0 name left f1
 module _ {F D : Type 0} (state : D → DiskState) (seen : FilesView F D) where
   -- ---- format
 
-  -- The file of this name was made anew, and formatted.
+  -- The file of this name was created or emptied, and formatted.
   pub record Formats (store : List ℕ) (only_new : Bool) (answer : Result Done Failure)
       (f0 f1 : F) (w0 w1 : Option (List ℕ)) : Type 0 where
     pub made : F
@@ -50,8 +50,8 @@ module _ {F D : Type 0} (state : D → DiskState) (seen : FilesView F D) where
 
   -- ---- inspect
 
-  -- The file of this name was opened for reading alone, and what the view shows of the state in it
-  -- printed; and it is the disk that was read.
+  -- The file of this name was opened for reading alone, and this view of the state in it was
+  -- printed. The file is the disk that was read.
   pub record Inspects (view : View) (store : List ℕ) (answer : Result Done Failure)
       (f0 f1 : F) (w0 w1 : Option (List ℕ)) : Type 0 where
     pub given : D
@@ -62,9 +62,9 @@ module _ {F D : Type 0} (state : D → DiskState) (seen : FilesView F D) where
     pub inspects : InspectEnds view state given done left w0 w1
     pub answers : AnswersOver (Names store) done answer
 
-  -- Another program has it open. It was opened for reading alone, and what two readings of it gave
-  -- was looked at. Or no two in a row agreed, and nothing was printed. The file is the disk that
-  -- was read.
+  -- Another program has the file open. It was opened for reading alone, and the bytes that two
+  -- reads of it returned were looked at. Or no two reads in a row agreed, and nothing was printed.
+  -- The file is the disk that was read.
   pub record Looks (view : View) (store : List ℕ) (answer : Result Done Failure)
       (f0 f1 : F) (w0 w1 : Option (List ℕ)) : Type 0 where
     pub given : D
@@ -80,8 +80,8 @@ module _ {F D : Type 0} (state : D → DiskState) (seen : FilesView F D) where
 
   -- ---- a store of another one
 
-  -- The file of the old name was opened for reading alone, and no store is made of what is in it:
-  -- it was given back as it was read, and no other file was touched.
+  -- The file of the old name was opened for reading alone, and no store can be made of the one in
+  -- it. It was given back as it was read, and no other file was touched.
   pub record Spares (of : D → Option Layout) (old : List ℕ) (answer : Result Done Failure)
       (f0 f1 : F) : Type 0 where
     pub source : D
@@ -93,8 +93,8 @@ module _ {F D : Type 0} (state : D → DiskState) (seen : FilesView F D) where
     pub answers :
         FailsBy (NamesSource (layout_of (state source).size) (of source) old) (stopped why) answer
 
-  -- The store in the file of the old name was read whole, and that of the new one couldn't be made
-  -- anew. The old file is the disk that was read.
+  -- The store in the file of the old name was read whole, and the file of the new name couldn't be
+  -- created or emptied. The old file is the disk that was read.
   pub record MakesNone (of : D → Option Layout) (only_new : Bool) (old new : List ℕ)
       (answer : Result Done Failure) (f0 f1 : F) : Type 0 where
     pub source : D
@@ -106,10 +106,9 @@ module _ {F D : Type 0} (state : D → DiskState) (seen : FilesView F D) where
     pub held : Holds seen seen.shows old (IsNotMade seen new only_new) source read f0 f1
     pub answers : HasNoFile new answer
 
-  -- The store in the file of the old name was read whole. Then the file of the new one was made
-  -- anew, of the layout that goes with the old store, and a store made of it so (Ends), of which
-  -- this line was printed; or it failed by the one file or the other. The old file is the disk that
-  -- was read.
+  -- The store in the file of the old name was read whole. Then the file of the new name was created
+  -- or emptied, with the layout that goes with the old store, and a store was made in it so (Ends)
+  -- and its line printed; or one of the two files failed. The old file is the disk that was read.
   pub record MakesOf {K : Type 0} (of : D → Option Layout) (line : K → List ℕ)
       (Ends : (source given : D) → Result K MigrateFault → (read left : D) → Type 0)
       (only_new : Bool) (old new : List ℕ) (answer : Result Done Failure) (f0 f1 : F)
@@ -131,9 +130,9 @@ module _ {F D : Type 0} (state : D → DiskState) (seen : FilesView F D) where
         × Makes state seen new layout only_new is_new given opened made
         × IsLeft seen is_new answer new left made after) source read f0 f1
 
-  -- A store was made of another one so (Ends), of the layout that goes with it. Or nothing was
-  -- printed: the old file couldn't be opened, or no store is made of what is in it, or the new file
-  -- couldn't be made anew.
+  -- A store was made of another one so (Ends), with the layout that goes with it. Or nothing was
+  -- printed: the old file couldn't be opened, or no store can be made of the one in it, or the new
+  -- file couldn't be created or emptied.
   abbrev pub DoesMake : {K : Type 0} → (of : D → Option Layout) → (line : K → List ℕ)
       → (Ends : (source given : D) → Result K MigrateFault → (read left : D) → Type 0)
       → (only_new : Bool) → (old new : List ℕ) → Result Done Failure → (f0 f1 : F)

@@ -1,4 +1,4 @@
-//! A look at a store that another program has open.
+//! A store that another program has open is printed.
 
 ghost use Rattle.std.specs.Prelude.{◌≡◌, IfErr, IfOk, IfSome};
 ghost use Rattle.run_disk.specs.Runs.{OnlyReads};
@@ -6,24 +6,25 @@ ghost use Rattle.store_files.specs.Files.{IsReadTwice};
 ghost use Rattle.store_words.specs.Looks.{IsCopy, IsUnread, LookEnds};
 
 use crate::stores::inspect;
-use console_lines::stopped;
-use night_requests::View;
+use crate::{Done, Failure, done_over, failed_over, no_file};
+use console_lines::RunFault;
 use run_disk::{MemoryDisk, RunDisk};
 use run_model::{Fault, Layout};
+use state_views::View;
 use std::alloc::Global;
 use std::io::Write;
-use store_files::{Files, Opened, Reason};
-use word_endings::{Done, Failure, done_over, failed_over, no_file};
+use store_files::{FileError, Files, Opened};
 
-/// So many readings are made at most.
+/// How often the store is read at most.
 const MOST_READINGS: usize = 100;
 
-/// Prints what the view shows of a store that another program may be writing. It is read until two
-/// readings in a row agree in each byte, with a pause between them; if no two do, it is in use.
+/// Prints a view of a store to which another program may be writing. It reads the store, with
+/// pauses, until two reads in a row return the same bytes. If no two do, the store is reported as
+/// in use.
 pub fn look<'a, F: Files, W: Write>(
     alloc: Global,
     files: &F,
-    opened: Opened<F::Disk, F::Why>,
+    opened: Opened<F::Disk, F::FirstError>,
     store: &'a str,
     view: View<'_>,
     output: &mut W,
@@ -38,13 +39,13 @@ pub fn look<'a, F: Files, W: Write>(
     }
     let answer = match steady_copy(alloc, files, &mut disk) {
         Ok(Some(mut copy)) => done_over(inspect(alloc, &mut copy, view, output), store, &why),
-        Ok(None) => Err(no_file(store, Reason::InUse)),
-        Err(fault) => Err(failed_over(stopped(fault), store, &why)),
+        Ok(None) => Err(no_file(store, FileError::InUse)),
+        Err(fault) => Err(failed_over(RunFault::from(fault), store, &why)),
     };
     (answer, disk)
 }
 
-/// A disk in memory with the bytes that two readings in a row gave, if two did.
+/// A disk in memory with the bytes that two reads in a row returned, if two did.
 fn steady_copy<F: Files>(
     alloc: Global,
     files: &F,
@@ -62,7 +63,7 @@ fn steady_copy<F: Files>(
     }
 }
 
-/// The bytes that two readings in a row gave, if two did.
+/// The bytes that two reads in a row returned, if two did.
 fn steady_bytes<F: Files>(
     alloc: Global,
     files: &F,

@@ -1,28 +1,24 @@
-//! A renewal: a store is read, and another one made of what isn't finished in it.
+//! A renewal reads a store, and makes another one that holds everything that isn't finished in it.
 
 ghost use Rattle.std.specs.Prelude.{◌≡◌, ◌+◌, ◌≤◌, length, IfErr, IfOk};
-ghost use Rattle.std.specs.Fmt.{decimal};
 ghost use Rattle.arrayvec.specs.ArrayVec.{array_vec_len};
 ghost use Rattle.book_model.specs.Openings.{RecoversNone};
-ghost use Rattle.console_lines.specs.Gathers.{Gathers};
-ghost use Rattle.store_words.specs.Stores.{AnswersMade, HasSizes, Prints, Remakes, of_text};
-ghost use Rattle.store_words.specs.Stores.{renewed_line, sizes, sizes_line};
+ghost use Rattle.console_lines.specs.Appended.{Appended};
+ghost use Rattle.run_model.specs.Layouts.{layout_of};
+ghost use Rattle.store_words.specs.Stores.{HasSizes, Prints, Remakes, of_text, renewed_line};
+ghost use Rattle.store_words.specs.Stores.{sizes, sizes_line};
 
-use crate::migrations::push;
+use crate::makings::Making;
 use arrayvec::ArrayVec;
-use console_lines::RunFault;
-use itoa::Buffer;
+use console_lines::{RunFault, push, push_number, write_whole};
 use run_book::{Book, MigrateFault};
 use run_disk::RunDisk;
-use run_model::Fault;
-use run_state::State;
-use state_views::write_whole;
+use run_model::{Fault, Layout};
+use run_session::State;
 use std::alloc::{Allocator, Global};
 use std::io::Write;
-use store_files::Why;
-use word_endings::{Done, Failure, FileName, done_alone, failed_of};
 
-/// How many events, scopes, groups and tasks a state has.
+/// The numbers of events, scopes, groups and tasks of a state.
 #[derive(Clone, Copy)]
 pub(crate) struct Sizes {
     pub(crate) events: u64,
@@ -31,16 +27,16 @@ pub(crate) struct Sizes {
     tasks: u64,
 }
 
-/// How much there was in a store, and how much of it is left in the one that was made of it.
+/// The sizes of a store, and those of the store that a renewal made from it.
 #[derive(Clone, Copy)]
 pub struct Kept {
     before: Sizes,
     left: Sizes,
 }
 
-/// Makes of `new`, a disk of a store's size, a store of what isn't finished in the store on `old`,
-/// and reads how much that is: in the old store before, and in the new one after. The old disk is
-/// only read. The new one is handed back.
+/// Makes of `new`, a disk that has the size of a store, a store that holds everything that isn't
+/// finished in the store on `old`. Reads the sizes of both: of the old one before, and of the new
+/// one after. The old disk is only read. The new one is returned.
 pub fn renew<D: RunDisk, E: RunDisk>(
     alloc: Global,
     old: &mut D,
@@ -62,26 +58,28 @@ pub fn renew<D: RunDisk, E: RunDisk>(
     }
 }
 
-/// Prints what came of a renewal from the one file to the other: `renewed; events N; scopes A of B;
-/// groups C of D; tasks E of F`, if N, A, C and E were read in the new store, and B, D and F before
-/// in the old one. Else the fault names the file that is to blame.
-pub fn renewed<'a, Y: Why, W: Write>(
-    done: Result<Kept, MigrateFault>,
-    old: &'a str,
-    why_old: &Y,
-    new: &'a str,
-    why_new: &Y,
-    output: &mut W,
-) -> Result<Done, Failure<'a>>
-    ensures { AnswersMade renewed_line old.now new.now done result
-        (W.contents output.old) (W.contents output.new) }
-{
-    match done {
-        Ok(kept) => done_alone(print_sizes(kept, output)),
-        Err(fault) => {
-            let old = FileName::Own(old);
-            Err(failed_of(fault, old, why_old, FileName::Own(new), why_new))
-        }
+/// A renewal.
+pub struct Renewal;
+
+impl<D: RunDisk> Making<D> for Renewal {
+    type Made = Kept;
+
+    ghost layout = { layout_of };
+
+    ghost line = { renewed_line };
+
+    ghost ends = { Remakes D.state D.state };
+
+    fn layout_for(&self, size: u64) -> Option<Layout> {
+        Layout::of(size)
+    }
+
+    fn make(&self, alloc: Global, old: &mut D, new: D) -> (Result<Kept, MigrateFault>, D) {
+        renew(alloc, old, new)
+    }
+
+    fn print<W: Write>(&self, kept: Kept, output: &mut W) -> Result<(), RunFault> {
+        print_sizes(kept, output)
     }
 }
 
@@ -117,35 +115,24 @@ pub fn print_sizes<W: Write>(kept: Kept, output: &mut W) -> Result<(), RunFault>
     write_whole(output, line.as_slice())
 }
 
-/// The line of a renewal, with its LF.
+/// Appends the line of a renewal, with its LF.
 fn push_sizes<const N: usize>(line: &mut ArrayVec<u8, N>, before: Sizes, left: Sizes)
     requires { array_vec_len line.old + 195 ≤ N }
-    ensures { Gathers line.old.items line.new.items (sizes_line before left) 195 }
+    ensures { Appended line.old.items line.new.items (sizes_line before left) 195 }
 {
-    push(line, b"renewed; events ");
-    push_number(line, left.events);
+    push_number(line, b"renewed; events ", left.events);
     push_left(line, b"; scopes ", left.scopes, before.scopes);
     push_left(line, b"; groups ", left.groups, before.groups);
     push_left(line, b"; tasks ", left.tasks, before.tasks);
     push(line, b"\n");
 }
 
-/// So many rows of so many, after their word.
+/// Appends how many rows are left of how many, after their word.
 fn push_left<const N: usize>(line: &mut ArrayVec<u8, N>, word: &[u8], left: u64, were: u64)
     requires { array_vec_len line.old + (length word.now + 44) ≤ N }
-    ensures { Gathers line.old.items line.new.items (of_text word.now left were)
+    ensures { Appended line.old.items line.new.items (of_text word.now left were)
         (length word.now + 44) }
 {
-    push(line, word);
-    push_number(line, left);
-    push(line, b" of ");
-    push_number(line, were);
-}
-
-fn push_number<const N: usize>(line: &mut ArrayVec<u8, N>, number: u64)
-    requires { array_vec_len line.old + 20 ≤ N }
-    ensures { Gathers line.old.items line.new.items (decimal number) 20 }
-{
-    let mut digits = Buffer::new();
-    push(line, digits.format(number).as_bytes());
+    push_number(line, word, left);
+    push_number(line, b" of ", were);
 }

@@ -1,5 +1,4 @@
-//! A renewal in place: a store is made beside another one, of what isn't finished in it, and put in
-//! its place.
+//! A renewal in place makes a new store next to the old one, and replaces the old store by it.
 
 ghost use Rattle.std.specs.Prelude.{◌≡◌, IfOk, OnErr, OnOk};
 ghost use Rattle.std.specs.String.{string_bytes};
@@ -8,19 +7,20 @@ ghost use Rattle.store_words.specs.Replacements.{DoesRenewInPlace, EndsInPlace, 
 ghost use Rattle.store_words.specs.Replacements.{LacksBeside, MakesBeside};
 
 use crate::renewals::{print_sizes, renew};
-use console_lines::{RunFault, stopped};
+use crate::{
+    Done, Failure, FileName, done_alone, failed_of, failed_over, no_file, not_put, unopened,
+};
+use console_lines::RunFault;
 use run_disk::RunDisk;
 use run_model::{Fault, Layout};
 use std::alloc::{AllocError, Global};
 use std::io::Write;
-use store_files::{BESIDE, Files, Made, Opened, Reason};
-use word_endings::{
-    Done, Failure, FileName, done_alone, failed_of, failed_over, no_file, not_had, not_put,
-};
+use store_files::{BESIDE, FileError, Files, Made, Opened};
 
-/// Opens the store in the file of this name for this program alone, makes a store of the same size
-/// beside it, of what isn't finished in it, puts that in its place, and prints how much is left.
-/// Until then the store is only read; if it can't be done, the new one is taken away again.
+/// Opens the store in the file with this name, and locks it. Makes a store of the same size next to
+/// it, which holds everything that isn't finished in it. Replaces the store by the new one, and
+/// prints how much is left. Until the replacement, the store is only read. If anything fails, the
+/// new store is removed again.
 pub fn renew_in_place<'a, F: Files, O: Write>(
     alloc: Global,
     store: &'a str,
@@ -32,11 +32,11 @@ pub fn renew_in_place<'a, F: Files, O: Write>(
 {
     let Opened { disk, why } = match files.open(store) {
         Ok(opened) => opened,
-        Err(reason) => return Err(no_file(store, reason)),
+        Err(error) => return Err(no_file(store, error)),
     };
     let Some(layout) = Layout::of(disk.size()) else {
         files.close(store, disk);
-        return Err(failed_over(stopped(Fault::WrongSize), store, &why));
+        return Err(failed_over(RunFault::from(Fault::WrongSize), store, &why));
     };
     let Ok(name) = name_beside(alloc, store) else {
         files.close(store, disk);
@@ -47,9 +47,9 @@ pub fn renew_in_place<'a, F: Files, O: Write>(
             let stored = Opened { disk, why };
             put_renewed(alloc, store, stored, name.as_str(), made, files, output)
         }
-        Err(reason) => {
+        Err(error) => {
             files.close(store, disk);
-            Err(not_had(FileName::Beside(store), reason))
+            Err(unopened(FileName::Beside(store), error))
         }
     }
 }
@@ -61,35 +61,36 @@ fn name_beside(alloc: Global, store: &str) -> Result<String, AllocError>
     [store, BESIDE].concat(alloc)
 }
 
-/// The file of this name, beside the one of the other name and like it, with the size of a store of
-/// this layout. One that a killed renewal left is taken away first, unless another program has it.
+/// Makes the file of this name with the size of a store of this layout, and with the owner and the
+/// rights of `store`. A file that a killed renewal left is removed first, unless another program
+/// has it open.
 fn make_beside<F: Files>(
     name: &str,
     store: &str,
     layout: Layout,
     files: &mut F,
-) -> Result<Made<F::Disk, F::Why>, Reason>
+) -> Result<Made<F::Disk, F::FirstError>, FileError>
     ensures made { IfOk result (λ made. MakesBeside F.Disk.state F.seen name.now layout
         made.disk files.old files.new) }
     ensures not { OnErr result (LacksBeside F.Disk.state F.seen name.now files.old files.new) }
 {
     match files.open(name) {
         Ok(_left) => files.remove(name),
-        Err(Reason::InUse) => return Err(Reason::InUse),
+        Err(FileError::InUse) => return Err(FileError::InUse),
         Err(_) => (),
     }
     files.create_new(name, Some(store), layout.store_len())
 }
 
-/// Makes of the new file, which has this name, a store of what isn't finished in the one that is
-/// open, and puts it in its place; then prints how much is left. If either can't be done, the new
-/// file is taken away again.
+/// Makes of the new file, which has this name, a store of what isn't finished in the open one, and
+/// replaces the open one by it; then prints how much is left. If either fails, the new file is
+/// removed again.
 fn put_renewed<'a, F: Files, O: Write>(
     alloc: Global,
     store: &'a str,
-    stored: Opened<F::Disk, F::Why>,
+    stored: Opened<F::Disk, F::FirstError>,
     name: &str,
-    made: Made<F::Disk, F::Why>,
+    made: Made<F::Disk, F::FirstError>,
     files: &mut F,
     output: &mut O,
 ) -> Result<Done, Failure<'a>>
@@ -107,7 +108,7 @@ fn put_renewed<'a, F: Files, O: Write>(
     match done {
         Ok(kept) => match put(left, source, name, store, files) {
             Ok(()) => done_alone(print_sizes(kept, output)),
-            Err(reason) => Err(not_put(store, reason)),
+            Err(error) => Err(not_put(store, error)),
         },
         Err(fault) => {
             files.remove(name);
@@ -118,15 +119,14 @@ fn put_renewed<'a, F: Files, O: Write>(
     }
 }
 
-/// Puts this disk, which is the file of the first name, in the place of the other one, the file of
-/// the second, or takes it away.
+/// Replaces `over`, the file of the second name, by `disk`, the file of the first, or removes that.
 fn put<F: Files>(
     disk: F::Disk,
     over: F::Disk,
     from: &str,
     to: &str,
     files: &mut F,
-) -> Result<(), Reason>
+) -> Result<(), FileError>
     requires settled { IsSettled (F.Disk.state disk) }
     ensures put { OnOk result (IsReplaced F.seen disk from.now to.now files.old files.new) }
     ensures not { OnErr result

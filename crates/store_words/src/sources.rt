@@ -1,5 +1,5 @@
-//! The source of a migration or of a renewal: an old store, which is read whole before the file of
-//! the new one is opened or made.
+//! The source of a migration or a renewal is the old store. It is read whole before the file of the
+//! new store is opened or made.
 
 ghost use Rattle.std.specs.Prelude.{◌≡◌, IfErr, IfOk, Some};
 ghost use Rattle.store_words.specs.Sources.{Serves, ServesNot, migrated_layout};
@@ -9,8 +9,8 @@ use run_disk::RunDisk;
 use run_model::{Fault, Layout};
 use std::alloc::Global;
 
-/// The layout of the store that a migration makes of one of so many bytes: a large one of a small
-/// one.
+/// Returns the layout of the store that a migration makes from one of `size` bytes: large for a
+/// small store.
 pub fn migrated_layout(size: u64) -> Option<Layout>
     ensures { result ≡ migrated_layout size }
 {
@@ -20,9 +20,9 @@ pub fn migrated_layout(size: u64) -> Option<Layout>
     }
 }
 
-/// Reads the store on a disk whole, if a store of this layout is to be made of it, and returns the
-/// layout. `WrongSize` if none is made of a store of its size, `NumbersSpent` if it has 2^62 events
-/// or more; else the faults of a recovery.
+/// Reads the store on a disk whole, if a store of this layout can be made from it, and returns the
+/// layout. `WrongSize` if none can be made from a store of its size, `NumbersSpent` if it has 2^62
+/// events or more, and otherwise the faults of a recovery.
 pub fn read_source<D: RunDisk>(
     alloc: Global,
     disk: &mut D,

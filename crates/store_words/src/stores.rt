@@ -1,32 +1,31 @@
-//! What the words do to a store, over the disk that holds it.
+//! What the subcommands do with a store, over its disk.
 
 ghost use Rattle.std.specs.Io.KnownBytes.{Appends};
 ghost use Rattle.std.specs.Prelude.{◌≡◌, IfErr, OnErr, OnOk};
 ghost use Rattle.console_lines.specs.Progress.{WritesPart};
 ghost use Rattle.store_words.specs.Stores.{FormatEnds, InspectEnds, view_text};
 
-use console_lines::{RunFault, stopped};
-use night_requests::View;
+use console_lines::{RunFault, write_whole};
 use run_book::Book;
 use run_disk::RunDisk;
-use run_state::State;
-use state_views::{list_tasks, print_json, print_summary, print_tree, write_whole};
+use run_session::State;
+use state_views::{View, list_tasks, print_json, print_summary, print_tree};
 use std::alloc::{Allocator, Global};
 use std::io::Write;
 
-/// Makes a store of a disk, and prints `formatted`. All that the disk held is lost. The disk is
-/// handed back.
+/// Makes a store of a disk, and prints `formatted`. Whatever was on the disk is lost. The disk is
+/// returned.
 pub fn format<D: RunDisk, W: Write>(disk: D, output: &mut W) -> (Result<(), RunFault>, D)
     ensures { FormatEnds D.state disk result.0 result.1
         (W.contents output.old) (W.contents output.new) }
 {
     match Book::format(disk) {
         Ok(disk) => (write_whole(output, b"formatted\n"), disk),
-        Err((fault, disk)) => (Err(stopped(fault)), disk),
+        Err((fault, disk)) => (Err(RunFault::from(fault)), disk),
     }
 }
 
-/// Prints what the view shows of the state that the store on a disk holds. The disk is only read.
+/// Prints this view of the state in the store on a disk. The disk is only read.
 pub fn inspect<D: RunDisk, W: Write>(
     alloc: Global,
     disk: &mut D,
@@ -38,11 +37,11 @@ pub fn inspect<D: RunDisk, W: Write>(
 {
     match Book::recover(alloc, disk) {
         Ok(state) => show(&state, view, output),
-        Err(fault) => Err(stopped(fault)),
+        Err(fault) => Err(RunFault::from(fault)),
     }
 }
 
-/// Prints what the view shows of a state.
+/// Prints this view of a state.
 fn show<W: Write, B: Allocator>(
     state: &State<B>,
     view: View<'_>,

@@ -1,26 +1,30 @@
-//! What each word does with the files that it names.
+//! What each subcommand does with the files that its arguments name.
 
 ghost use Rattle.std.specs.Prelude.{◌≡◌, IfOk, OnErr};
 ghost use Rattle.store_files.specs.Files.{IsNotMade, Makes};
-ghost use Rattle.store_words.specs.Words.{DoesFormat, DoesInspect, DoesMigrate, DoesRenew};
-ghost use Rattle.store_words.specs.Words.{IsLeft};
+ghost use Rattle.store_words.specs.Stores.{AnswersMade};
+ghost use Rattle.store_words.specs.Words.{DoesFormat, DoesInspect, DoesMake, DoesMigrate};
+ghost use Rattle.store_words.specs.Words.{DoesRenew, IsLeft};
 
 use crate::looks::look;
-use crate::migrations::{migrate, migrated};
-use crate::renewals::{renew, renewed};
-use crate::sources::{migrated_layout, read_source};
+use crate::makings::Making;
+use crate::migrations::Migration;
+use crate::renewals::Renewal;
+use crate::sources::read_source;
 use crate::stores::{format, inspect};
-use console_lines::stopped;
-use night_requests::View;
+use crate::{Done, Failure, FileName, done_alone, done_over, failed_of, failed_source, no_file};
+use console_lines::RunFault;
+use run_book::MigrateFault;
 use run_disk::RunDisk;
 use run_model::Layout;
+use state_views::View;
 use std::alloc::Global;
 use std::io::Write;
-use store_files::{Files, Made, Opened, Reason};
-use word_endings::{Done, Failure, done_over, failed_source, no_file};
+use store_files::{FileError, Files, FirstError, Made, Opened};
 
-/// Creates the file of this name or empties it, makes a large store of it, and prints `formatted`.
-/// One that has to be new isn't emptied. A new one of which no store is made is taken away again.
+/// Creates the file with this name or empties it, makes a large store of it, and prints
+/// `formatted`. With `only_new` it fails if there is such a file. If no store can be made of a new
+/// file, the file is removed again.
 pub fn format_file<'a, F: Files, O: Write>(
     store: &'a str,
     only_new: bool,
@@ -37,18 +41,18 @@ pub fn format_file<'a, F: Files, O: Write>(
             leave(files, store, is_new, left, &answer);
             answer
         }
-        Err(reason) => Err(no_file(store, reason)),
+        Err(error) => Err(no_file(store, error)),
     }
 }
 
-/// The file of this name, with the size of a store of this layout: created or emptied, or created
-/// alone.
+/// Makes the file of this name with the size of a store of this layout: it is created or emptied,
+/// or with `only_new` only created.
 fn make<F: Files>(
     name: &str,
     layout: Layout,
     only_new: bool,
     files: &mut F,
-) -> Result<Made<F::Disk, F::Why>, Reason>
+) -> Result<Made<F::Disk, F::FirstError>, FileError>
     ensures made { IfOk result (λ made. Makes F.Disk.state F.seen name.now layout only_new
         made.is_new made.disk files.old files.new) }
     ensures not { OnErr result (IsNotMade F.seen name.now only_new files.old files.new) }
@@ -61,8 +65,7 @@ fn make<F: Files>(
     }
 }
 
-/// Takes the file of this name away again if it is new and what it was made for failed; else it is
-/// the disk that this left.
+/// Removes the file of this name if it is new and the subcommand failed; else closes it.
 fn leave<F: Files>(
     files: &mut F,
     name: &str,
@@ -79,8 +82,8 @@ fn leave<F: Files>(
     }
 }
 
-/// Prints what the view shows of the store in the file of this name, also if another program has it
-/// open. Nothing is written to the store.
+/// Prints this view of the store in the file with this name, even if another program has it open.
+/// Nothing is written to the store.
 pub fn inspect_file<'a, F: Files, O: Write>(
     alloc: Global,
     store: &'a str,
@@ -97,13 +100,12 @@ pub fn inspect_file<'a, F: Files, O: Write>(
             files.close(store, disk);
             done_over(done, store, &why)
         }
-        Err(Reason::InUse) => look_file(alloc, store, view, files, output),
-        Err(reason) => Err(no_file(store, reason)),
+        Err(FileError::InUse) => look_file(alloc, store, view, files, output),
+        Err(error) => Err(no_file(store, error)),
     }
 }
 
-/// Prints what the view shows of the store in the file of this name, which another program has
-/// open.
+/// Prints this view of the store in the file of this name, which another program has open.
 fn look_file<'a, F: Files, O: Write>(
     alloc: Global,
     store: &'a str,
@@ -120,14 +122,14 @@ fn look_file<'a, F: Files, O: Write>(
             files.close(store, read);
             answer
         }
-        Err(reason) => Err(no_file(store, reason)),
+        Err(error) => Err(no_file(store, error)),
     }
 }
 
-/// Opens the small store in the file of the old name for reading alone, and reads it whole. Then it
-/// creates the file of the new name, or empties one that needn't be new, makes a large store of it
-/// with the state of the old one, and prints how many events it has. If the old store can't serve,
-/// no other file is touched.
+/// Opens the small store in the file with the old name for reading only, and reads it whole. Then
+/// it creates the file with the new name, or empties one that needn't be new. It makes a large
+/// store of it, with the state of the old one, and prints how many events it has. If the old store
+/// can't be migrated, no other file is touched.
 pub fn migrate_file<'a, F: Files, O: Write>(
     alloc: Global,
     old: &'a str,
@@ -139,42 +141,13 @@ pub fn migrate_file<'a, F: Files, O: Write>(
     ensures { DoesMigrate F.Disk.state F.seen only_new old.now new.now result
         files.old files.new (O.contents output.old) (O.contents output.new) }
 {
-    let opened = match files.open_to_read(old) {
-        Ok(opened) => opened,
-        Err(reason) => return Err(no_file(old, reason)),
-    };
-    let Opened {
-        disk: mut source,
-        why: why_old,
-    } = opened;
-    let from = Layout::of(source.size());
-    let to = migrated_layout(source.size());
-    let large = match read_source(alloc, &mut source, to) {
-        Ok(layout) => layout,
-        Err(fault) => {
-            files.close(old, source);
-            return Err(failed_source(stopped(fault), from, to, old, &why_old));
-        }
-    };
-    match make(new, large, only_new, files) {
-        Ok(Made { disk, why, is_new }) => {
-            let (done, left) = migrate(alloc, &mut source, disk);
-            let answer = migrated(done, old, &why_old, new, &why, output);
-            leave(files, new, is_new, left, &answer);
-            files.close(old, source);
-            answer
-        }
-        Err(reason) => {
-            files.close(old, source);
-            Err(no_file(new, reason))
-        }
-    }
+    make_from(&Migration, alloc, old, new, only_new, files, output)
 }
 
-/// Opens the store in the file of the old name for reading alone, and reads it whole. Then it
-/// creates the file of the new name, or empties one that needn't be new, makes of it a store of the
-/// same size with what isn't finished in the old one, and prints how much that is. If the old store
-/// can't serve, no other file is touched.
+/// Opens the store in the file with the old name for reading only, and reads it whole. Then it
+/// creates the file with the new name, or empties one that needn't be new. It makes of it a store
+/// of the same size, which holds everything that isn't finished in the old one, and prints how much
+/// that is. If the old store can't be renewed, no other file is touched.
 pub fn renew_file<'a, F: Files, O: Write>(
     alloc: Global,
     old: &'a str,
@@ -186,32 +159,75 @@ pub fn renew_file<'a, F: Files, O: Write>(
     ensures { DoesRenew F.Disk.state F.seen only_new old.now new.now result
         files.old files.new (O.contents output.old) (O.contents output.new) }
 {
+    make_from(&Renewal, alloc, old, new, only_new, files, output)
+}
+
+/// Makes a store in the file of the new name of the one in the file of the old name, by a migration
+/// or a renewal. The old store is opened for reading alone, and read whole before any other file is
+/// touched.
+fn make_from<'a, M: Making<F::Disk>, F: Files, O: Write>(
+    making: &M,
+    alloc: Global,
+    old: &'a str,
+    new: &'a str,
+    only_new: bool,
+    files: &mut F,
+    output: &mut O,
+) -> Result<Done, Failure<'a>>
+    ensures { DoesMake F.Disk.state F.seen (λ source. M.layout (F.Disk.state source).size) M.line
+        M.ends only_new old.now new.now result files.old files.new
+        (O.contents output.old) (O.contents output.new) }
+{
     let Opened {
-        disk: mut stored,
+        disk: mut source,
         why: why_old,
     } = match files.open_to_read(old) {
         Ok(opened) => opened,
-        Err(reason) => return Err(no_file(old, reason)),
+        Err(error) => return Err(no_file(old, error)),
     };
-    let same = Layout::of(stored.size());
-    let layout = match read_source(alloc, &mut stored, same) {
+    let from = Layout::of(source.size());
+    let to = making.layout_for(source.size());
+    let layout = match read_source(alloc, &mut source, to) {
         Ok(layout) => layout,
         Err(fault) => {
-            files.close(old, stored);
-            return Err(failed_source(stopped(fault), same, same, old, &why_old));
+            files.close(old, source);
+            return Err(failed_source(RunFault::from(fault), from, to, old, &why_old));
         }
     };
     match make(new, layout, only_new, files) {
         Ok(Made { disk, why, is_new }) => {
-            let (done, left) = renew(alloc, &mut stored, disk);
-            let answer = renewed(done, old, &why_old, new, &why, output);
+            let (done, left) = making.make(alloc, &mut source, disk);
+            let answer = made_of(making, done, old, &why_old, new, &why, output);
             leave(files, new, is_new, left, &answer);
-            files.close(old, stored);
+            files.close(old, source);
             answer
         }
-        Err(reason) => {
-            files.close(old, stored);
-            Err(no_file(new, reason))
+        Err(error) => {
+            files.close(old, source);
+            Err(no_file(new, error))
+        }
+    }
+}
+
+/// Prints the line of the store that was made in the new file of the one in the old file. If none
+/// was made, or it couldn't be read, the failure names the file that is to blame.
+fn made_of<'a, D: RunDisk, M: Making<D>, Y: FirstError, O: Write>(
+    making: &M,
+    done: Result<M::Made, MigrateFault>,
+    old: &'a str,
+    why_old: &Y,
+    new: &'a str,
+    why_new: &Y,
+    output: &mut O,
+) -> Result<Done, Failure<'a>>
+    ensures { AnswersMade M.line old.now new.now done result
+        (O.contents output.old) (O.contents output.new) }
+{
+    match done {
+        Ok(made) => done_alone(making.print(made, output)),
+        Err(fault) => {
+            let old = FileName::Own(old);
+            Err(failed_of(fault, old, why_old, FileName::Own(new), why_new))
         }
     }
 }

@@ -1,14 +1,14 @@
-//! What a file that is made holds: zeros, or what reads of another one give.
+//! The content of a new file: zeros, or a copy of another file.
 
 use std::fs::File;
 use std::io;
 use std::io::Write;
 use std::os::unix::fs::FileExt;
 
-/// So many bytes are read and written at a time.
+/// How many bytes are read and written at a time.
 const PART: usize = 4096;
 
-/// Writes to a new file what reads of another one give.
+/// Copies a file into a new one, through reads.
 pub fn copy(from: &File, to: &mut File) -> io::Result<()> {
     let size = from.metadata()?.len();
     let mut part = [0u8; PART];
@@ -20,7 +20,7 @@ pub fn copy(from: &File, to: &mut File) -> io::Result<()> {
     Ok(())
 }
 
-/// Empties a file, and fills it with so many zero bytes.
+/// Empties a file, and fills it with `size` zero bytes.
 pub fn fill(file: &mut File, size: u64) -> io::Result<()> {
     file.set_len(0)?;
     let part = [0u8; PART];

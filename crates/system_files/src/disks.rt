@@ -1,17 +1,17 @@
-//! A [`SystemDisk`] is a disk over a file of the system that notes why a call of it failed, and
-//! leaves the store's mark where a sync did, and while that of a slot's gate is under way.
+//! A [`SystemDisk`] is a disk over a file of the system. It keeps the file's first error, and
+//! leaves the store's mark if a sync fails, and while a sync opens the gate of a slot.
 
 ghost use Rattle.std.specs.Prelude.{◌≡◌};
 ghost use Rattle.run_disk.specs.Files.{file_state, is_file_disk};
 
-use crate::complaints::Complaint;
+use crate::error_cells::ErrorCell;
 use crate::marks::Mark;
-use run_disk::{DiskFailed, FileDisk, RunDisk};
+use run_disk::{DiskFailed, FileDisk, OPEN, RunDisk};
 use std::fs;
 use std::fs::{File, Metadata};
 use std::os::unix::fs::MetadataExt;
 
-/// Which of the system's files a file is, whatever its names.
+/// The identity of a file, whatever its names.
 #[derive(Clone, Copy, PartialEq, Eq)]
 pub struct Inode {
     device: u64,
@@ -27,16 +27,13 @@ impl Inode {
     }
 }
 
-/// The gate of a slot that is open.
-const OPEN: u8 = 0xA7;
-
-/// A store's slots are the first two of so many equal parts.
+/// A store's slots are the first two of three equal parts.
 const PARTS: u64 = 3;
 
-/// A disk over a file. Why the first call that failed did is noted where whoever opened the file
-/// finds it; where a sync failed, the store's mark is left before anything else is done. It is
-/// there, too, while a slot is opened by a sync: a program that is killed meanwhile never learns
-/// that the sync failed, and the system tells it to nobody else.
+/// A disk over a file. It notes the error of the first call that fails, for whoever opened the
+/// file. If a sync fails, it leaves the store's mark before anything else is done. The mark also
+/// exists while a sync opens a slot: if the program is killed in the meantime, it never learns that
+/// the sync failed, and the system reports that to nobody else.
 #[derive(Drop)]
 pub struct SystemDisk<'a, S> {
     disk: FileDisk,
@@ -44,7 +41,7 @@ pub struct SystemDisk<'a, S> {
     mark: Mark<'a, S>,
     // the gate of a slot was written open, and not synced yet
     opens_slot: bool,
-    complaint: &'a Complaint,
+    error_cell: &'a ErrorCell,
 }
 
 impl<'a, S: fs::Files<File = File>> SystemDisk<'a, S> {
@@ -52,7 +49,7 @@ impl<'a, S: fs::Files<File = File>> SystemDisk<'a, S> {
         disk: FileDisk,
         inode: Inode,
         mark: Mark<'a, S>,
-        complaint: &'a Complaint,
+        error_cell: &'a ErrorCell,
     ) -> SystemDisk<'a, S>
         ensures { result.disk ≡ disk }
     {
@@ -61,34 +58,34 @@ impl<'a, S: fs::Files<File = File>> SystemDisk<'a, S> {
             inode,
             mark,
             opens_slot: false,
-            complaint,
+            error_cell,
         }
     }
 
-    /// Which file it is a disk over.
+    /// The identity of the file.
     pub fn inode(&self) -> Inode {
         self.inode
     }
 
-    /// Takes the store's mark away: all of the file was written anew, and synced.
-    pub fn forgive(&self) {
+    /// Removes the store's mark, because the whole file was written again and synced.
+    pub fn clear_mark(&self) {
         self.mark.remove();
     }
 
-    /// Says whether a write of these bytes opens a slot.
+    /// Returns whether a write of these bytes opens a slot.
     fn is_opening(&self, at: u64, bytes: &[u8]) -> bool {
         let is_gate = at == 0 || at == self.disk.size() / PARTS;
         is_gate && bytes.len() == 1 && bytes[0] == OPEN
     }
 
-    /// Notes why a call failed that came to this.
+    /// Notes the error of a call that failed, and returns its result.
     fn noted(&self, done: Result<(), DiskFailed>) -> Result<(), DiskFailed>
         ensures { result ≡ done }
     {
         if done.is_err()
             && let Some(error) = self.disk.error()
         {
-            self.complaint.note(error);
+            self.error_cell.note(error);
         }
         done
     }

@@ -1,15 +1,15 @@
-//! The system's files as those that hold stores: locks, syncs, marks of failed syncs, and the file
-//! beside a store that is put in its place. Of a stream, too, it is noted why a call failed.
+//! The system's files, behind the trait `Files`: with locks, syncs, marks of failed syncs, and a
+//! file beside a store that replaces it. [`WatchedStream`] keeps the first error of a stream.
 #![tactic(auto)]
 
-mod complaints;
 mod contents;
 mod disks;
+mod error_cells;
 mod marks;
 mod streams;
 mod system;
 
-pub use complaints::Complaint;
 pub use disks::SystemDisk;
-pub use streams::{Errors, Heard};
-pub use system::{Complaints, SystemFiles};
+pub use error_cells::ErrorCell;
+pub use streams::{Errors, WatchedStream};
+pub use system::{ErrorCells, SystemFiles};

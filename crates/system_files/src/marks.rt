@@ -1,18 +1,18 @@
 //! A [`Mark`] is the file `STORE.failed`: while it is there, a sync of the store has failed.
 //!
-//! The system then takes what it could not write for written. What reads of the store give may not
-//! be on the device, and no later sync brings it there. So whoever sees the sync fail leaves the
-//! mark, and the next opening for writing puts a copy in the store's place. The mark is not synced:
-//! what takes it away, a restart of the machine, also takes away what the system kept.
+//! After a failed sync the system treats the lost bytes as written: reads return them, they may not
+//! be on the device, and no later sync brings them there. So whoever sees the sync fail leaves the
+//! mark, and the next opening for writing replaces the store by a copy. The mark isn't synced: a
+//! restart of the machine, which may remove it, also drops the bytes that the system kept.
 
 use std::alloc::{AllocError, Global};
 use std::fs::{File, OpenOptions};
 use std::{fs, io};
 
-/// What stands after a store's name in that of its mark.
+/// The name of a store's mark is the store's name and this.
 const FAILED: &str = ".failed";
 
-/// Where the mark of a store is left. Where the system doesn't let it be made there, none is.
+/// The place of the mark of a store. If the system lets no file be made there, no mark is left.
 #[derive(Drop)]
 pub struct Mark<'a, S> {
     system: &'a S,
@@ -28,7 +28,7 @@ impl<'a, S: fs::Files<File = File>> Mark<'a, S> {
         })
     }
 
-    /// Leaves the mark, and says whether there was none before. It follows no link.
+    /// Leaves the mark, and returns whether there was none before. It follows no link.
     pub fn leave(&self) -> bool {
         let mut how = OpenOptions::new();
         how.write(true)
@@ -37,8 +37,8 @@ impl<'a, S: fs::Files<File = File>> Mark<'a, S> {
             .is_ok()
     }
 
-    /// Says whether the mark was left. Where the system can't tell, as of a name that is too long
-    /// for it, none could be left.
+    /// Returns whether there is a mark. If the system can't tell, because the name is too long for
+    /// it, there can't be one.
     pub fn is_left(&self) -> io::Result<bool> {
         match fs::symlink_metadata(self.system, self.name.as_str()) {
             Ok(_) => Ok(true),
@@ -47,8 +47,7 @@ impl<'a, S: fs::Files<File = File>> Mark<'a, S> {
         }
     }
 
-    /// Takes the mark away. A file of this name that isn't empty is somebody's, such as a store,
-    /// and stays.
+    /// Removes the mark. A file of this name that isn't empty is no mark, and stays.
     pub fn remove(&self) {
         let found = fs::symlink_metadata(self.system, self.name.as_str());
         if !found.is_ok_and(|it| it.is_file() && it.len() > 0) {

@@ -1,11 +1,11 @@
-//! The system's files, as those that hold stores.
+//! [`SystemFiles`] implements the trait [`Files`] for the system's files.
 
 ghost use Rattle.std.specs.Prelude.{◌≡◌, ⊤, IfOk};
 ghost use Rattle.store_files.specs.Files.{FilesView};
 
-use crate::complaints::Complaint;
 use crate::contents::{copy, fill};
 use crate::disks::{Inode, SystemDisk};
+use crate::error_cells::ErrorCell;
 use crate::marks::Mark;
 use run_disk::{DiskFailed, FileDisk, RunDisk};
 use std::alloc::{AllocError, Global};
@@ -14,98 +14,98 @@ use std::os::unix::fs::{MetadataExt, OpenOptionsExt, fchown};
 use std::path::{Path, PathBuf};
 use std::time::{Clock, Duration};
 use std::{fs, io, thread};
-use store_files::{BESIDE, Files, Made, Opened, Reason};
+use store_files::{BESIDE, FileError, Files, Made, Opened};
 
-/// The file that takes everything, and is empty.
+/// The file that reads as empty and takes every write.
 const NULL: &str = "/dev/null";
 
-/// A pause has so many milliseconds.
+/// The milliseconds of a pause.
 const PAUSE: u64 = 10;
 
-/// A file that is to be like another one is its owner's alone, until it is.
+/// The rights of a file before it gets those of another one: only its owner may use it.
 const PRIVATE: u32 = 0o600;
 
-/// What is told of a store that has a mark, before why no copy could be put in its place.
+/// Printed for a store with a mark, before the error that kept a copy from replacing it.
 const UNCOPIED: &str = "a sync of it failed, and so did a copy of it";
 
-/// What the system said of a file that was opened, and of one that was created.
+/// The first errors of a file that was opened, and of one that was created.
 #[derive(Drop)]
-pub struct Complaints {
-    opened: Complaint,
-    created: Complaint,
+pub struct ErrorCells {
+    opened: ErrorCell,
+    created: ErrorCell,
 }
 
-impl Complaints {
-    pub fn new() -> Complaints {
-        Complaints {
-            opened: Complaint::new(),
-            created: Complaint::new(),
+impl ErrorCells {
+    pub fn new() -> ErrorCells {
+        ErrorCells {
+            opened: ErrorCell::new(),
+            created: ErrorCell::new(),
         }
     }
 }
 
-/// The files of a system. No file of a store ever stands where a standard stream does: the three
-/// descriptors are filled before the first is opened, and stay so.
+/// The files of a system. No file of a store ever gets the descriptor of a standard stream: the
+/// three descriptors are filled before the first file is opened, and stay so.
 #[derive(Drop)]
 pub struct SystemFiles<'a, S> {
     system: &'a S,
     alloc: Global,
-    complaints: &'a Complaints,
+    error_cells: &'a ErrorCells,
     streams: io::Result<[File; 3]>,
-    // the file that was opened or created last: it stays locked once its disk is gone, so that it
-    // is taken away under its lock
+    // the file that was opened or created last: it stays locked when its disk is gone, so that it
+    // is removed under its lock
     held: Option<File>,
 }
 
 impl<'a, S: fs::Files<File = File>> SystemFiles<'a, S> {
     /// Fills the descriptors of the standard streams that are closed.
-    pub fn new(system: &'a S, alloc: Global, complaints: &'a Complaints) -> Self {
+    pub fn new(system: &'a S, alloc: Global, error_cells: &'a ErrorCells) -> Self {
         SystemFiles {
             system,
             alloc,
-            complaints,
+            error_cells,
             streams: filled(system),
             held: None,
         }
     }
 
-    /// Opens the file of this name, once the standard streams stand. A pipe or a device is refused
-    /// before it is opened; a folder the system refuses.
-    fn with(&self, how: &OpenOptions, name: &str) -> Result<File, Reason> {
+    /// Opens the file of this name, if the standard streams are filled. A pipe or a device is
+    /// refused before it is opened; the system refuses a folder.
+    fn with(&self, how: &OpenOptions, name: &str) -> Result<File, FileError> {
         if let Err(error) = &self.streams {
-            return Err(Reason::of_other(NULL, error));
+            return Err(FileError::of_other(NULL, error));
         }
         if fs::metadata(self.system, name).is_ok_and(|it| is_special(&it)) {
-            return Err(Reason::NotAFile);
+            return Err(FileError::NotAFile);
         }
-        let file = or_reason(how.open(self.system, name))?;
-        if or_reason(file.metadata())?.is_file() {
+        let file = or_error(how.open(self.system, name))?;
+        if or_error(file.metadata())?.is_file() {
             Ok(file)
         } else {
-            Err(Reason::NotAFile)
+            Err(FileError::NotAFile)
         }
     }
 
-    /// Opens the file of this name for reading alone. A folder is opened for both, so that the
-    /// system says what is wrong.
-    fn with_reading(&self, name: &str) -> Result<File, Reason> {
+    /// Opens the file of this name for reading alone. A folder is opened for writing, too, so that
+    /// the system refuses it.
+    fn with_reading(&self, name: &str) -> Result<File, FileError> {
         let is_folder = fs::metadata(self.system, name).is_ok_and(|it| it.is_dir());
         let mut how = OpenOptions::new();
         how.read(true).write(is_folder);
         self.with(&how, name)
     }
 
-    /// Has a file for this program alone, as long as it is open, where the system has locks for it.
-    /// One that lost its name before it was had is another program's, too.
-    fn lock(&self, file: &File, name: &str) -> Result<(), Reason> {
+    /// Locks the file until it is closed, if the file system has locks. `InUse` if another program
+    /// holds the lock, or the name no longer leads to this file.
+    fn lock(&self, file: &File, name: &str) -> Result<(), FileError> {
         match file.try_lock() {
-            Err(TryLockError::WouldBlock) => Err(Reason::InUse),
+            Err(TryLockError::WouldBlock) => Err(FileError::InUse),
             _ if self.is_named(file, name) => Ok(()),
-            _ => Err(Reason::InUse),
+            _ => Err(FileError::InUse),
         }
     }
 
-    /// Says whether the file of this name is this one.
+    /// Returns whether the name leads to this file.
     fn is_named(&self, file: &File, name: &str) -> bool {
         match (file.metadata(), fs::metadata(self.system, name)) {
             (Ok(own), Ok(named)) => Inode::of(&own) == Inode::of(&named),
@@ -114,12 +114,12 @@ impl<'a, S: fs::Files<File = File>> SystemFiles<'a, S> {
     }
 
     /// Keeps a file locked until another one is opened or created.
-    fn hold(&mut self, file: &File) -> Result<(), Reason> {
-        self.held = Some(or_reason(file.try_clone())?);
+    fn hold(&mut self, file: &File) -> Result<(), FileError> {
+        self.held = Some(or_error(file.try_clone())?);
         Ok(())
     }
 
-    /// Takes a file away that has this name, under its lock, and its mark.
+    /// Removes the file of this name, if it is this one, and its mark, under its lock.
     fn take_away(&self, file: &File, name: &str) {
         if self.is_named(file, name) {
             let mark = self.mark_of(name);
@@ -130,40 +130,40 @@ impl<'a, S: fs::Files<File = File>> SystemFiles<'a, S> {
         }
     }
 
-    /// Takes the file that is held away, where it has this name.
+    /// Removes the file that is held, if it has this name.
     fn take_held(&self, name: &str) {
         if let Some(file) = &self.held {
             self.take_away(file, name);
         }
     }
 
-    /// The path of the file of this name without a link in it. Where the system can't tell it, it
-    /// is the name, if that is no link.
-    fn path(&self, name: &str) -> Result<PathBuf, Reason> {
+    /// The path of the file of this name without a link in it. If the system can't tell the path,
+    /// it is the name itself, unless that is a link.
+    fn path(&self, name: &str) -> Result<PathBuf, FileError> {
         match self.system.canonicalize(self.alloc, name) {
             Ok(path) => Ok(path),
-            Err(error) if self.is_link(name) => Err(Reason::of(&error)),
+            Err(error) if self.is_link(name) => Err(FileError::of(&error)),
             Err(_) => or_no_memory(PathBuf::from_str(self.alloc, name)),
         }
     }
 
-    /// Says whether this is the name of a link.
+    /// Returns whether this is the name of a link.
     fn is_link(&self, name: &str) -> bool {
         fs::symlink_metadata(self.system, name).is_ok_and(|it| it.is_symlink())
     }
 
     /// The place of the mark of the store in the file of this path.
-    fn mark(&self, path: &str) -> Result<Mark<'a, S>, Reason> {
+    fn mark(&self, path: &str) -> Result<Mark<'a, S>, FileError> {
         or_no_memory(Mark::beside(self.system, self.alloc, path))
     }
 
     /// The place of the mark of the store in the file of this name.
-    fn mark_of(&self, name: &str) -> Result<Mark<'a, S>, Reason> {
+    fn mark_of(&self, name: &str) -> Result<Mark<'a, S>, FileError> {
         let path = self.path(name)?;
         self.mark(path.as_str())
     }
 
-    /// Gives a file the owner and the rights of the one of this name, if there is to be one.
+    /// Gives a file the owner and the rights of the file `like`, if one is named.
     fn liken(&self, file: &File, like: Option<&str>) -> io::Result<()> {
         let Some(name) = like else {
             return Ok(());
@@ -176,14 +176,14 @@ impl<'a, S: fs::Files<File = File>> SystemFiles<'a, S> {
         file.set_permissions(wanted.permissions())
     }
 
-    /// A disk over a file that is synced first, under its mark, which stays where that fails.
+    /// A disk over a file that is synced first, under its mark, which stays if the sync fails.
     fn settled(
         &self,
         file: File,
         mark: Mark<'a, S>,
-        why: &'a Complaint,
-    ) -> Result<SystemDisk<'a, S>, Reason> {
-        let inode = or_reason(inode(&file))?;
+        why: &'a ErrorCell,
+    ) -> Result<SystemDisk<'a, S>, FileError> {
+        let inode = or_error(inode(&file))?;
         let is_left = mark.leave();
         match FileDisk::settled(file) {
             Ok(disk) => {
@@ -194,29 +194,28 @@ impl<'a, S: fs::Files<File = File>> SystemFiles<'a, S> {
             }
             Err(error) => {
                 mark.leave();
-                Err(Reason::of(&error))
+                Err(FileError::of(&error))
             }
         }
     }
 
-    /// A disk over a file that is read alone, as it is.
+    /// A disk over a file that is only read, without a sync.
     fn shown(
         &self,
         file: File,
         mark: Mark<'a, S>,
-    ) -> Result<Opened<SystemDisk<'a, S>, &'a Complaint>, Reason> {
-        let why = &self.complaints.opened;
-        let inode = or_reason(inode(&file))?;
-        let disk = or_reason(FileDisk::unsettled(file))?;
+    ) -> Result<Opened<SystemDisk<'a, S>, &'a ErrorCell>, FileError> {
+        let why = &self.error_cells.opened;
+        let inode = or_error(inode(&file))?;
+        let disk = or_error(FileDisk::unsettled(file))?;
         Ok(Opened {
             disk: SystemDisk::new(disk, inode, mark, why),
             why,
         })
     }
 
-    /// A file that was created, or is emptied, made like that of another name, if there is one, and
-    /// filled with so many zero bytes. It is this program's alone before it is touched, or taken
-    /// away.
+    /// Locks a file that was created or is to be emptied, gives it the owner and the rights of
+    /// `like`, and fills it with `size` zero bytes. A new file is removed again if that fails.
     fn made(
         &mut self,
         file: File,
@@ -224,7 +223,7 @@ impl<'a, S: fs::Files<File = File>> SystemFiles<'a, S> {
         like: Option<&str>,
         size: u64,
         is_new: bool,
-    ) -> Result<Made<SystemDisk<'a, S>, &'a Complaint>, Reason>
+    ) -> Result<Made<SystemDisk<'a, S>, &'a ErrorCell>, FileError>
         ensures size { IfOk result (λ made.
             (⟦<SystemDisk<'a, S> as RunDisk>⟧.state made.disk).size ≡ size) }
         ensures new { IfOk result (λ made. made.is_new ≡ is_new) }
@@ -237,38 +236,38 @@ impl<'a, S: fs::Files<File = File>> SystemFiles<'a, S> {
         }
         Ok(Made {
             disk: done?,
-            why: &self.complaints.created,
+            why: &self.error_cells.created,
             is_new,
         })
     }
 
-    /// A disk over a file that was made like another one, and filled with so many zero bytes. What
-    /// a failed sync left of it before is gone, and so is the mark.
+    /// A disk over a file that gets the owner and the rights of `like` and `size` zero bytes. What
+    /// an earlier failed sync left in it is gone, and so is the mark.
     fn zeros(
         &self,
         file: File,
         name: &str,
         like: Option<&str>,
         size: u64,
-    ) -> Result<SystemDisk<'a, S>, Reason>
+    ) -> Result<SystemDisk<'a, S>, FileError>
         ensures { IfOk result (λ made. (⟦<SystemDisk<'a, S> as RunDisk>⟧.state made).size ≡ size) }
     {
         let mut file = file;
         let mark = self.mark_of(name)?;
-        let _forgiven = or_reason(mark.is_left())?;
-        or_reason(self.liken(&file, like))?;
-        or_reason(fill(&mut file, size))?;
-        or_reason(self.sync_folder(name))?;
-        let disk = self.settled(file, mark, &self.complaints.created)?;
+        let _to_clear = or_error(mark.is_left())?;
+        or_error(self.liken(&file, like))?;
+        or_error(fill(&mut file, size))?;
+        or_error(self.sync_folder(name))?;
+        let disk = self.settled(file, mark, &self.error_cells.created)?;
         if disk.size() != size {
-            return Err(Reason::EndedEarly);
+            return Err(FileError::EndedEarly);
         }
-        disk.forgive();
+        disk.clear_mark();
         Ok(disk)
     }
 
-    /// Syncs the folder that the file of this name lies in, so that a power failure leaves a new
-    /// file its name. Of a link it is the link's own folder.
+    /// Syncs the folder of the file of this name, so that a power failure leaves a new file its
+    /// name. If the name is a link, it is the folder of the link.
     fn sync_folder(&self, name: &str) -> io::Result<()> {
         let here = Path::new(".");
         let path = Path::new(name);
@@ -279,9 +278,9 @@ impl<'a, S: fs::Files<File = File>> SystemFiles<'a, S> {
         File::open(self.system, folder)?.sync_all()
     }
 
-    /// So does [`SystemFiles::sync_folder`] of a store's folder. Where that fails, the store's mark
-    /// is left: the system may take the folder for written, but a copy that the next opening puts
-    /// in the store's place changes the folder once more.
+    /// Syncs the folder of a store. If that fails, it leaves the store's mark: the system may treat
+    /// the folder as written, but the copy that replaces the store at the next opening changes the
+    /// folder once more.
     fn sync_names(&self, name: &str, mark: &Mark<'a, S>) -> io::Result<()> {
         let done = self.sync_folder(name);
         if has_failed(&done) {
@@ -290,7 +289,7 @@ impl<'a, S: fs::Files<File = File>> SystemFiles<'a, S> {
         done
     }
 
-    /// So does [`SystemFiles::sync_names`] after a renaming. The mark is there meanwhile.
+    /// Like [`SystemFiles::sync_names`], after a renaming. The mark is there during the sync.
     fn sync_renamed(&self, name: &str, mark: &Mark<'a, S>) -> io::Result<()> {
         let is_left = mark.leave();
         let done = self.sync_names(name, mark);
@@ -300,17 +299,18 @@ impl<'a, S: fs::Files<File = File>> SystemFiles<'a, S> {
         done
     }
 
-    /// So does [`SystemFiles::sync_names`], as far as the folder may be read and has a sync.
-    fn settle_folder(&self, name: &str, mark: &Mark<'a, S>) -> Result<(), Reason> {
+    /// Like [`SystemFiles::sync_names`], but passes over a folder that may not be read or that has
+    /// no sync.
+    fn settle_folder(&self, name: &str, mark: &Mark<'a, S>) -> Result<(), FileError> {
         match self.sync_names(name, mark) {
-            Err(error) if !is_unsynced(error.kind()) => Err(Reason::of(&error)),
+            Err(error) if !is_unsynced(error.kind()) => Err(FileError::of(&error)),
             _ => Ok(()),
         }
     }
 
-    /// Puts a copy of the file of this path in its place, and gives it: what reads of the old one
-    /// give is on the device then, which it may not have been before.
-    fn renewed(&self, file: &File, path: &str) -> Result<File, Reason> {
+    /// Replaces the file of this path by a copy, and returns the copy. The bytes that reads of the
+    /// old file returned are on the device then; they may not have been before.
+    fn renewed(&self, file: &File, path: &str) -> Result<File, FileError> {
         let beside = or_no_memory([path, BESIDE].concat(self.alloc))?;
         let beside = beside.as_str();
         self.clear(beside)?;
@@ -326,8 +326,8 @@ impl<'a, S: fs::Files<File = File>> SystemFiles<'a, S> {
         Ok(made)
     }
 
-    /// Takes away what a killed renewal left under this name, unless another program has it.
-    fn clear(&self, name: &str) -> Result<(), Reason> {
+    /// Removes what a killed renewal left under this name, unless another program has it open.
+    fn clear(&self, name: &str) -> Result<(), FileError> {
         let mut how = OpenOptions::new();
         match self.with(how.read(true).write(true), name) {
             Ok(left) => {
@@ -339,54 +339,54 @@ impl<'a, S: fs::Files<File = File>> SystemFiles<'a, S> {
         }
     }
 
-    /// Copies a file, and puts the copy, which lies beside it, in its place.
+    /// Copies a file into the one beside it, and replaces the file by the copy.
     fn put_copy(
         &self,
         file: &File,
         made: &mut File,
         beside: &str,
         path: &str,
-    ) -> Result<(), Reason> {
+    ) -> Result<(), FileError> {
         or_uncopied(self.liken(made, Some(path)))?;
         or_uncopied(copy(file, made))?;
         or_uncopied(made.sync_all())?;
-        let (new, old) = (or_reason(inode(made))?, or_reason(inode(file))?);
+        let (new, old) = (or_error(inode(made))?, or_error(inode(file))?);
         match self.put(new, old, beside, path) {
-            Err(Reason::OtherName) => Err(Reason::Unsynced),
+            Err(FileError::OtherName) => Err(FileError::Unsynced),
             done => done,
         }
     }
 
-    /// So does `put`, of a file that was made and is held.
-    fn replaced(&self, new: Inode, old: Inode, from: &str, to: &str) -> Result<(), Reason> {
+    /// Like `put`, for a file that was made and is held.
+    fn replaced(&self, new: Inode, old: Inode, from: &str, to: &str) -> Result<(), FileError> {
         if let Some(file) = &self.held {
             // (of its owner and rights, too, which no sync of a disk asks for)
-            or_reason(file.sync_all())?;
+            or_error(file.sync_all())?;
         }
         self.put(new, old, from, to)
     }
 
-    /// Gives the file of the first name, which has to be `new`, the second name, which has to be
-    /// the only one of `old`, and no link.
-    fn put(&self, new: Inode, old: Inode, from: &str, to: &str) -> Result<(), Reason> {
-        if new != Inode::of(&or_reason(fs::symlink_metadata(self.system, from))?) {
-            return Err(Reason::InUse);
+    /// Renames `from`, which has to be the file `new`, to `to`, which has to be the only name of
+    /// the file `old`, and no link.
+    fn put(&self, new: Inode, old: Inode, from: &str, to: &str) -> Result<(), FileError> {
+        if new != Inode::of(&or_error(fs::symlink_metadata(self.system, from))?) {
+            return Err(FileError::InUse);
         }
         // (one that was moved away meanwhile has another name now)
-        let found = or_reason(fs::symlink_metadata(self.system, to))?;
+        let found = or_error(fs::symlink_metadata(self.system, to))?;
         if !is_only_name(&found) || old != Inode::of(&found) {
-            return Err(Reason::OtherName);
+            return Err(FileError::OtherName);
         }
         let mark = self.mark(to)?;
-        or_reason(fs::rename(self.system, from, to))?;
-        or_reason(self.sync_renamed(to, &mark))
+        or_error(fs::rename(self.system, from, to))?;
+        or_error(self.sync_renamed(to, &mark))
     }
 }
 
 impl<'a, S: fs::Files<File = File> + Clock + Sync> Files for SystemFiles<'a, S> {
     type Disk = SystemDisk<'a, S>;
 
-    type Why = &'a Complaint;
+    type FirstError = &'a ErrorCell;
 
     // What the system's files hold isn't known.
     ghost seen = { record {
@@ -399,13 +399,13 @@ impl<'a, S: fs::Files<File = File> + Clock + Sync> Files for SystemFiles<'a, S> 
       gives = λ disk bytes left. ⊤;
     } };
 
-    fn open(&mut self, name: &str) -> Result<Opened<SystemDisk<'a, S>, &'a Complaint>, Reason> {
+    fn open(&mut self, name: &str) -> Result<Opened<SystemDisk<'a, S>, &'a ErrorCell>, FileError> {
         let mut how = OpenOptions::new();
         let file = self.with(how.read(true).write(true), name)?;
         self.lock(&file, name)?;
         let path = self.path(name)?;
         let mark = self.mark(path.as_str())?;
-        let file = if or_reason(mark.is_left())? {
+        let file = if or_error(mark.is_left())? {
             let made = self.renewed(&file, path.as_str())?;
             mark.remove();
             made
@@ -416,8 +416,8 @@ impl<'a, S: fs::Files<File = File> + Clock + Sync> Files for SystemFiles<'a, S> 
         if self.is_link(name) {
             self.settle_folder(name, &mark)?;
         }
-        let held = or_reason(file.try_clone())?;
-        let why = &self.complaints.opened;
+        let held = or_error(file.try_clone())?;
+        let why = &self.error_cells.opened;
         let disk = self.settled(file, mark, why)?;
         self.held = Some(held);
         Ok(Opened { disk, why })
@@ -426,20 +426,20 @@ impl<'a, S: fs::Files<File = File> + Clock + Sync> Files for SystemFiles<'a, S> 
     fn open_to_read(
         &mut self,
         name: &str,
-    ) -> Result<Opened<SystemDisk<'a, S>, &'a Complaint>, Reason> {
+    ) -> Result<Opened<SystemDisk<'a, S>, &'a ErrorCell>, FileError> {
         let file = self.with_reading(name)?;
         lock_shared(&file)?;
         let path = self.path(name)?;
         // (a mark beside another file that has its name by now would be that one's)
         if !self.is_named(&file, path.as_str()) {
-            return Err(Reason::InUse);
+            return Err(FileError::InUse);
         }
         let mark = self.mark(path.as_str())?;
         settle_under(&mark, &file)?;
         self.shown(file, mark)
     }
 
-    fn look(&mut self, name: &str) -> Result<Opened<SystemDisk<'a, S>, &'a Complaint>, Reason> {
+    fn look(&mut self, name: &str) -> Result<Opened<SystemDisk<'a, S>, &'a ErrorCell>, FileError> {
         let file = self.with_reading(name)?;
         let mark = self.mark_of(name)?;
         self.shown(file, mark)
@@ -459,7 +459,7 @@ impl<'a, S: fs::Files<File = File> + Clock + Sync> Files for SystemFiles<'a, S> 
         &mut self,
         name: &str,
         size: u64,
-    ) -> Result<Made<SystemDisk<'a, S>, &'a Complaint>, Reason> {
+    ) -> Result<Made<SystemDisk<'a, S>, &'a ErrorCell>, FileError> {
         let mut how = OpenOptions::new();
         how.read(true).write(true);
         match self.with(how.create_new(true), name) {
@@ -476,7 +476,7 @@ impl<'a, S: fs::Files<File = File> + Clock + Sync> Files for SystemFiles<'a, S> 
         name: &str,
         like: Option<&str>,
         size: u64,
-    ) -> Result<Made<SystemDisk<'a, S>, &'a Complaint>, Reason> {
+    ) -> Result<Made<SystemDisk<'a, S>, &'a ErrorCell>, FileError> {
         let mut how = OpenOptions::new();
         how.read(true).write(true).create_new(true);
         if like.is_some() {
@@ -492,7 +492,7 @@ impl<'a, S: fs::Files<File = File> + Clock + Sync> Files for SystemFiles<'a, S> 
         over: SystemDisk<'a, S>,
         from: &str,
         to: &str,
-    ) -> Result<(), Reason> {
+    ) -> Result<(), FileError> {
         self.replaced(disk.inode(), over.inode(), from, to)
     }
 
@@ -501,23 +501,23 @@ impl<'a, S: fs::Files<File = File> + Clock + Sync> Files for SystemFiles<'a, S> 
     }
 }
 
-/// Says whether this is no file and no folder, as a pipe or a device.
+/// Returns whether this is a pipe or a device, and so neither a file nor a folder.
 fn is_special(found: &Metadata) -> bool {
     !found.is_file() && !found.is_dir()
 }
 
-/// Says whether this is a file, and no link, with one name alone.
+/// Returns whether this is a file with only one name, and no link.
 fn is_only_name(found: &Metadata) -> bool {
     found.is_file() && found.nlink() == 1
 }
 
-/// Says whether a sync of a folder that failed so wasn't to be had: it may not be read, or its file
-/// system has no sync.
+/// Returns whether a sync of a folder was impossible, and not failed: the folder may not be read,
+/// or its file system has no sync.
 fn is_unsynced(kind: io::ErrorKind) -> bool {
     matches!(kind, io::ErrorKind::PermissionDenied) || has_no_sync(kind)
 }
 
-/// Says whether a sync of a folder failed that was to be had.
+/// Returns whether a sync of a folder failed, and wasn't impossible.
 fn has_failed(done: &io::Result<()>) -> bool {
     match done {
         Ok(()) => false,
@@ -525,8 +525,8 @@ fn has_failed(done: &io::Result<()>) -> bool {
     }
 }
 
-/// Says whether a sync that failed so is one that the file system doesn't have, or is only read.
-/// That a write was denied isn't: it may be what a program wrote before.
+/// Returns whether a sync failed because the file system has no sync, or is read-only. A denied
+/// write is another failure: its bytes may be what a program wrote before.
 fn has_no_sync(kind: io::ErrorKind) -> bool {
     matches!(
         kind,
@@ -534,34 +534,37 @@ fn has_no_sync(kind: io::ErrorKind) -> bool {
     )
 }
 
-/// Which file this is.
+/// The identity of a file.
 fn inode(file: &File) -> io::Result<Inode> {
     Ok(Inode::of(&file.metadata()?))
 }
 
-/// Fills the descriptors below 3 that are closed: a file takes the least number that is free.
+/// Fills the descriptors below 3 that are closed: a new file takes the least free number.
 fn filled<S: fs::Files<File = File>>(system: &S) -> io::Result<[File; 3]> {
     let null = || OpenOptions::new().read(true).write(true).open(system, NULL);
     Ok([null()?, null()?, null()?])
 }
 
-/// Has a file for reading, as long as it is open, beside others that read it.
-fn lock_shared(file: &File) -> Result<(), Reason> {
+/// Locks a file for reading until it is closed; others may read it, too.
+fn lock_shared(file: &File) -> Result<(), FileError> {
     match file.try_lock_shared() {
-        Err(TryLockError::WouldBlock) => Err(Reason::InUse),
+        Err(TryLockError::WouldBlock) => Err(FileError::InUse),
         _ => Ok(()),
     }
 }
 
-/// Syncs a file that is only read, where its mark can be left first: whoever sees a sync fail and
-/// leaves none would take from the next program what tells it of that. One that was left before
+/// Syncs a file that is only read, if its mark can be left first. The system reports a failed sync
+/// once, so without a mark the next program would never learn of it. A mark that was left before
 /// stays, and nothing is synced.
-fn settle_under<S: fs::Files<File = File>>(mark: &Mark<'_, S>, file: &File) -> Result<(), Reason> {
+fn settle_under<S: fs::Files<File = File>>(
+    mark: &Mark<'_, S>,
+    file: &File,
+) -> Result<(), FileError> {
     if !mark.leave() {
         return Ok(());
     }
     match file.sync_data() {
-        Err(error) if !has_no_sync(error.kind()) => Err(Reason::of(&error)),
+        Err(error) if !has_no_sync(error.kind()) => Err(FileError::of(&error)),
         _ => {
             mark.remove();
             Ok(())
@@ -569,26 +572,26 @@ fn settle_under<S: fs::Files<File = File>>(mark: &Mark<'_, S>, file: &File) -> R
     }
 }
 
-/// What a call of the system came to, or why it failed.
-fn or_reason<T>(done: io::Result<T>) -> Result<T, Reason> {
+/// The result of a call of the system, or its error.
+fn or_error<T>(done: io::Result<T>) -> Result<T, FileError> {
     match done {
         Ok(value) => Ok(value),
-        Err(error) => Err(Reason::of(&error)),
+        Err(error) => Err(FileError::of(&error)),
     }
 }
 
-/// What was made in memory, or that none is left.
-fn or_no_memory<T>(made: Result<T, AllocError>) -> Result<T, Reason> {
+/// A value in memory, or the error that there was no memory for it.
+fn or_no_memory<T>(made: Result<T, AllocError>) -> Result<T, FileError> {
     match made {
         Ok(value) => Ok(value),
-        Err(_) => Err(Reason::NoMemory),
+        Err(_) => Err(FileError::NoMemory),
     }
 }
 
-/// What a call came to that a copy of a store needs, or why it failed.
-fn or_uncopied<T>(done: io::Result<T>) -> Result<T, Reason> {
+/// The result of a call for the copy of a store, or its error after [`UNCOPIED`].
+fn or_uncopied<T>(done: io::Result<T>) -> Result<T, FileError> {
     match done {
         Ok(value) => Ok(value),
-        Err(error) => Err(Reason::of_other(UNCOPIED, &error)),
+        Err(error) => Err(FileError::of_other(UNCOPIED, &error)),
     }
 }

@@ -6,20 +6,20 @@ use Rattle.run_model.specs.State.{WorkState}
 use Rattle.run_model.specs.Tasks.{phase_of, admits, limit_of, unfinished_in}
 use Rattle.run_model.specs.WorkChanges.{group_of_task}
 
--- The task is held, and no task of this group with a lesser number is.
+-- The task is held, and no task of this group with a lower number is.
 pub record IsOldestHeld (w : WorkState) (g h : ℕ) : Type 0 where
   pub held : phase_of w h ≡ Some phase.Held
   pub group : group_of_task w h ≡ g
   pub oldest : (j : ℕ) → j < h → group_of_task w j ≡ g → phase_of w j ≢ Some phase.Held
 
--- Task n has ended: the oldest held task of its group is ready, and every other task is as far as
--- it was.
+-- Task n has ended. The oldest held task of its group is ready, and every other task has the same
+-- phase as before.
 pub record AdmitsOldest (old : WorkState) (n : ℕ) (new : WorkState) : Type 0 where
   pub oldest : (h : ℕ) → IsOldestHeld old (group_of_task old n) h
       → phase_of new h ≡ Some phase.Ready
   pub others : (m : ℕ) → m ≢ n → (IsOldestHeld old (group_of_task old n) m → ⊥)
       → phase_of new m ≡ phase_of old m
 
--- How far a new task of the group is: ready if the limit admits one more, otherwise held.
+-- The phase of a new task of the group: ready if the limit admits one more, and otherwise held.
 abbrev pub phase_new : WorkState → ℕ → Phase
 phase_new w g = if admits (limit_of w g) (unfinished_in g w.tasks) then phase.Ready else phase.Held

@@ -1,4 +1,4 @@
-//! Groups and scopes: whether the rows of both fit together.
+//! Tests whether the rows of groups and those of scopes fit together.
 
 ghost use Rattle.std.specs.Prelude.{◌≡◌, IsTrue};
 ghost use Rattle.std.specs.List.{list_any};
@@ -20,7 +20,7 @@ pub fn fit_scopes(groups: &[Group], scopes: &[Scope]) -> bool
     true
 }
 
-/// Returns whether each scope of the kind that groups have is that of a group that isn't bare.
+/// Returns whether each scope of kind Group is that of a group that isn't bare.
 pub fn have_groups(scopes: &[Scope], groups: &[Group]) -> bool
     ensures { result ≡ each_passes (has_group groups.now) 0 scopes.now }
 {

@@ -16,7 +16,7 @@ ghost use Rattle.row_view.specs.RowViews.{group_of, stage_of, task_of};
 ghost use Rattle.row_view.specs.WorkRows.{can_retry};
 ghost use Rattle.row_view.specs.Writing.{put_at};
 
-use crate::rows::is_interrupted;
+use crate::work_rows::is_interrupted;
 use row_view::copies::{limit_of, name_copy, optional_copy, text_copy};
 use row_view::{GroupRow, StageView, TaskRow, group_row, put_group, put_task, task_row};
 use run_model::{Group, MOST_GROUPS, Stage, Task};

@@ -2,7 +2,7 @@
 
 use crate::looks::{Going, going_of};
 use run_model::{GroupLook, Layout, Look, Name, TaskLook, Text};
-use run_state::State;
+use run_session::State;
 use std::alloc::{Allocator, Global};
 
 /// All that a state shows.

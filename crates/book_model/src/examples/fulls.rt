@@ -1,4 +1,4 @@
-//! Examples of a session that has as many scopes, groups or tasks as there can be.
+//! Examples of a session that has as many scopes, groups or tasks as fit into a store.
 
 ghost use Rattle.std.specs.Prelude.{◌≡◌};
 ghost use Rattle.run_model.specs.declared.commands.Wish.TheVariants.{Cause};
@@ -11,7 +11,7 @@ ghost use Rattle.book_model.specs.Examples.Calls.{start, try_go, wait, bare_made
 ghost use Rattle.book_model.specs.Examples.Calls.{refused, scope_made, submitted};
 ghost use Rattle.book_model.specs.Examples.Fulls.{past_moments, session_in};
 
-/// The last scope, group and task that fit in a small store.
+/// The last scope, group and task that fit into a small store are accepted.
 pub fn the_last_ones_of_a_small_store_are_accepted()
     ensures scope { reply_of_step (session_in Small 1023 3 0) (derive "a" "root" Cause)
         ≡ scope_made 1023 }
@@ -26,9 +26,9 @@ pub fn the_last_ones_of_a_small_store_are_accepted()
         ≡ submitted 2047 phase.Ready }
 {}
 
-/// One more scope, group or task doesn't fit in a small store. Want of room for the scope of a
-/// group comes before that for the group, a group that was waited for before want of room for a
-/// task, and that before the limit.
+/// One more scope, group or task doesn't fit into a small store. For a new group, a lack of scopes
+/// is reported before a lack of groups. For a new task, a group that was waited for is reported
+/// before a full store, and a full store before the limit.
 pub fn one_more_in_a_small_store_is_refused()
     ensures scope { reply_of_step (session_in Small 1024 3 0) (derive "a" "root" Cause)
         ≡ refused refusal.TooManyScopes }
@@ -52,8 +52,8 @@ pub fn one_more_in_a_small_store_is_refused()
         ≡ refused refusal.AtLimit }
 {}
 
-/// What isn't there and what is taken is checked before there is room; room for a scope before a
-/// timeout's moment.
+/// Whether a name exists or is taken is checked before whether there is room. Whether a scope fits
+/// is checked before the moment of a timeout.
 pub fn names_are_asked_before_room()
     ensures group { reply_of_step (session_in Small 1024 128 0) (group "g" "nobody")
         ≡ refused refusal.NoSuchScope }
@@ -93,8 +93,8 @@ pub fn a_full_log_is_asked_last()
         (go "open" "copy" "a") ≡ refused refusal.SessionFull }
 {}
 
-/// In a large store fit 4,096 scopes, root among them, 8,192 tasks, and as many groups as in a
-/// small one.
+/// A large store holds 4,096 scopes, including root, 8,192 tasks, and as many groups as a small
+/// one.
 pub fn a_large_store_has_room_for_more()
     ensures last_scope { reply_of_step (session_in Large 4095 3 0) (derive "a" "root" Cause)
         ≡ scope_made 4095 }

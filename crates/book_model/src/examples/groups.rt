@@ -16,7 +16,7 @@ ghost use Rattle.book_model.specs.Examples.Nights.{stopped_night, below_a_done_s
 ghost use Rattle.book_model.specs.Examples.Nights.{limit_taken_away, reopened, two_groups};
 ghost use Rattle.book_model.specs.Examples.Nights.{two_reasons};
 
-/// A task past the limit is held until one before it has finished.
+/// A task beyond the limit is held until a task before it has finished.
 pub fn a_limit_holds_the_third_task()
     ensures answers { IsAnswered limited_group }
     ensures admitted { phase_of (state_of limited_group).work 2 ≡ Some phase.Ready }
@@ -28,7 +28,8 @@ pub fn a_limit_of_zero_admits_none()
     ensures { IsAnswered limit_of_zero }
 {}
 
-/// The first error that comes is the group's, is what each wait repeats, and is its scope's cause.
+/// The first error to arrive is the group's error and the cause of its scope, and each wait repeats
+/// it.
 pub fn the_first_error_is_the_groups()
     ensures answers { IsAnswered first_error }
     ensures reason { reason_after first_error 1 ≡ Some Canceled }
@@ -53,13 +54,14 @@ pub fn a_bare_group_ends_no_scope()
     ensures count { (state_of bare_group).count ≡ 5 }
 {}
 
-/// If something isn't there or is taken, the step is refused, and a refused step is not an event.
+/// A step is refused if it names something that doesn't exist, or gives a name that is taken. A
+/// refused step isn't an event.
 pub fn refused_steps_are_no_events()
     ensures answers { IsAnswered refused_calls }
     ensures count { (state_of refused_calls).count ≡ 3 }
 {}
 
-/// The ready task with the least number is started, whichever job it does.
+/// The ready task with the lowest number is started, whatever its job is.
 pub fn tasks_start_in_order_of_number()
     ensures answers { IsAnswered two_jobs }
     ensures failed { phase_of (state_of two_jobs).work 0 ≡ Some (phase.Failure (codes "x")) }
@@ -68,9 +70,9 @@ pub fn tasks_start_in_order_of_number()
     ensures count { (state_of two_jobs).count ≡ 9 }
 {}
 
-/// A task that runs when the runner stops is interrupted at the next opening: an error of its
-/// group, which ends the group's scope and admits the held task. One more opening changes nothing
-/// but the count.
+/// A task that runs when the program crashes or ends is interrupted at the next opening. This is an
+/// error of its group, which ends the scope of the group and admits the held task. One more opening
+/// changes nothing but the count.
 pub fn a_running_task_is_interrupted()
     ensures answers { IsAnswered stopped_night }
     ensures running { task_look_of (state_of stopped_night) 0 ≡ Some (record {
@@ -97,13 +99,13 @@ pub fn a_running_task_is_interrupted()
     ensures again { reopened 2 stopped_night ≡ record (reopened 1 stopped_night) { count = 8 } }
 {}
 
-/// A scope that isn't there is checked before a name that is taken, and a task that isn't there
-/// before whether it runs. One name can be a bare group's and a scope's.
+/// Whether a scope exists is checked before whether a name is taken, and whether a task exists
+/// before whether it runs. A bare group and a scope may have the same name.
 pub fn what_is_not_there_is_asked_first()
     ensures { IsAnswered two_reasons }
 {}
 
-/// Each group has its own limit and counts its own tasks.
+/// Each group has its own limit, and counts only its own tasks.
 pub fn groups_count_their_own_tasks()
     ensures answers { IsAnswered two_groups }
     ensures result { group_look_of (state_of two_groups) 1 ≡ Some (record {
@@ -116,15 +118,15 @@ pub fn groups_count_their_own_tasks()
     }) }
 {}
 
-/// A group whose limit is taken away has none.
+/// The limit of a group can be taken away again.
 pub fn a_limit_can_be_taken_away()
     ensures answers { IsAnswered limit_taken_away }
     ensures limit { option_and_then (λ row. row.limit)
         (slice_get (state_of limit_taken_away).work.groups 0) ≡ None }
 {}
 
-/// Groups and tasks are taken below a scope that is done, and a task is told as it starts. Who is
-/// done first decides by the events' order, not by the moments of their hits.
+/// Groups and tasks can be added below a scope that is done, and the start of such a task reports
+/// that. The order of the events decides which of two hits came first, not their moments.
 pub fn below_a_done_scope_all_is_done()
     ensures answers { IsAnswered below_a_done_scope }
     ensures group { cause_after below_a_done_scope 2 ≡ Some (codes "stop") }
@@ -138,19 +140,21 @@ pub fn below_a_done_scope_all_is_done()
     }) }
 {}
 
-/// An error of a group below a done scope changes no cause, and a task is told as it starts.
+/// An error of a group below a done scope changes no cause, and the start of a task there reports
+/// that the scope is done.
 pub fn an_error_below_a_done_scope_changes_no_cause()
     ensures answers { IsAnswered error_below_a_done_scope }
     ensures cause { cause_after error_below_a_done_scope 2 ≡ Some (codes "stop") }
 {}
 
-/// A bare group's error cancels nothing; its tasks are told that the scope they live in is done.
+/// An error of a bare group cancels nothing. Once the scope of the group is done, the starts of its
+/// tasks report that.
 pub fn a_bare_group_lives_in_any_scope()
     ensures answers { IsAnswered bare_group_in_a_groups_scope }
     ensures cause { cause_after bare_group_in_a_groups_scope 1 ≡ Some (codes "context canceled") }
 {}
 
-/// A limit is set only while no task of the group is held, ready or running.
+/// A limit can be set only while no task of the group is held, ready or running.
 pub fn a_limit_is_set_between_tasks()
     ensures { IsAnswered limit_set_again }
 {}

@@ -10,15 +10,15 @@ ghost use Rattle.book_model.specs.Examples.TwoNights.{after_first, first_night, 
 ghost use Rattle.book_model.specs.Examples.TwoNights.{store};
 
 /// Three events were acknowledged before the first crash, a fourth was accepted, and a fifth was
-/// asked for. What is stored then is the state after the first three, four or five: nothing that
-/// was acknowledged is lost, nothing else is there, and in no other order.
+/// asked for. The crash leaves the state after the first three, four or five of them, in their
+/// order: no acknowledged event is lost, and nothing else is stored.
 pub fn a_stop_leaves_one_of_three_states()
     ensures { (q : State) → GoesOn (Stored store) (moves_of first_night) (Stored q)
         → (q ≡ after_first 3) ⊎ (q ≡ after_first 4) ⊎ (q ≡ after_first 5) }
 {}
 
-/// The first night may leave the first four, though no reply acknowledged the fourth; the second
-/// begins after a restart of them, and may lose the one command that it accepted.
+/// The first session may leave four events, although no reply acknowledged the fourth. The second
+/// session begins with a restart after those four, and may lose the one command that it accepted.
 #[tactic(auto, using(crate::proofs::ExampleNights::both_nights))]
 pub fn two_nights_lead_to_a_restart_of_four()
     ensures { GoesOn (Stored store) (flat_map moves_of (first_night ∷ second_night ∷ []))

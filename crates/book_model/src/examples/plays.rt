@@ -1,4 +1,4 @@
-//! A night's steps, played over a device that goes on and over one that fails.
+//! The steps of a night, played over a device that works and over one that fails.
 
 ghost use Rattle.std.specs.Prelude.{◌≡◌, [], None, Some};
 ghost use Rattle.run_model.specs.Session.{accepted, acknowledged};
@@ -8,15 +8,15 @@ ghost use Rattle.book_model.specs.Examples.Plays.{after_all, after_three, all_pl
 ghost use Rattle.book_model.specs.Examples.Plays.{numbers_spent, played, refused_all};
 ghost use Rattle.book_model.specs.Examples.Plays.{stopped_at_the_flush, two_saves};
 
-/// Twelve steps of a new store are answered one by one; each flush and the checkpoint return the
+/// Twelve steps over a new store are answered one by one. Each flush and the checkpoint return the
 /// count, and the last one acknowledges all events.
 pub fn a_night_is_played()
     ensures played { Plays (sound new_store) played all_played (sound after_all) }
     ensures acked { last_acked all_played ≡ Some 9 }
 {}
 
-/// The device fails in the first flush: the flush returns this fault, and each step after it is
-/// refused as Broken. The three events before it were accepted, and none is acknowledged.
+/// The device fails in the first flush. The flush returns this fault, and each step after it is
+/// refused as Broken. The three events before it were accepted, and none of them is acknowledged.
 pub fn a_failing_device_ends_a_night()
     ensures played { Plays (sound new_store) played stopped_at_the_flush (stuck after_three) }
     ensures accepted { accepted new_store (taken played stopped_at_the_flush) ≡ first_events }
@@ -24,13 +24,13 @@ pub fn a_failing_device_ends_a_night()
     ensures untold { last_acked stopped_at_the_flush ≡ None }
 {}
 
-/// A book that is broken refuses all twelve.
+/// A broken book refuses all twelve steps.
 pub fn a_broken_book_plays_nothing()
     ensures { Plays (stuck new_store) played refused_all (stuck new_store) }
 {}
 
-/// A checkpoint that finds no number left reports it and breaks nothing: the flush after it is
-/// done.
+/// A checkpoint for which no number is left reports that, and breaks nothing: the flush after it
+/// succeeds.
 pub fn spent_numbers_break_nothing()
     ensures played { Plays (sound new_store) two_saves numbers_spent (sound after_three) }
     ensures acknowledged { acknowledged new_store two_saves numbers_spent ≡ first_events }

@@ -1,4 +1,4 @@
-//! Examples of interrupted tasks that are submitted anew.
+//! Examples of interrupted tasks that are retried.
 
 ghost use Rattle.std.specs.Prelude.{◌≡◌, map, true, false, Some, None, codes};
 ghost use Rattle.run_model.specs.declared.refusals.Refusal.TheVariants as refusal;
@@ -13,7 +13,8 @@ ghost use Rattle.book_model.specs.Examples.Retries.{after_night, one_interrupted
 ghost use Rattle.book_model.specs.Examples.Retries.{retried_again, retried_once, retried_store};
 ghost use Rattle.book_model.specs.Examples.Retries.{retry_started, two_tasks};
 
-/// An interrupted task is retried once, by a task of its own that its group's limit holds.
+/// An interrupted task is retried once. The retry is a new task, which the limit of the group
+/// holds.
 pub fn an_interrupted_task_is_retried_once()
     ensures answers { replies one_interrupted (steps_of retried_once)
         ≡ map (λ line. line.1) retried_once }
@@ -36,7 +37,7 @@ pub fn an_interrupted_task_is_retried_once()
     ensures count { retried_store.state.count ≡ 8 }
 {}
 
-/// A retry that is interrupted itself is retried by its own number.
+/// A retry that is interrupted itself is retried under its own number.
 pub fn a_retry_is_retried_by_its_own_number()
     ensures before { replies retried_store (steps_of retry_started)
         ≡ map (λ line. line.1) retry_started }
@@ -45,7 +46,7 @@ pub fn a_retry_is_retried_by_its_own_number()
         ≡ map (λ line. line.1) retried_again }
 {}
 
-/// A task that ended by itself is not an interrupted one, nor is one that runs.
+/// A task that has ended by itself can't be retried, and neither can one that runs.
 pub fn only_an_interrupted_task_is_retried()
     ensures running { reply_of_step (two_tasks false Running None 0 0) (retry 0)
         ≡ refused refusal.NotInterrupted }
@@ -57,7 +58,8 @@ pub fn only_an_interrupted_task_is_retried()
         ≡ submitted 2 phase.Ready }
 {}
 
-/// Each refusal of a retry comes before those that stand after it here, all of which hold at once.
+/// Each refusal of a retry comes before those that are listed after it here, although all of them
+/// apply at once.
 pub fn a_retry_is_refused_in_this_order()
     ensures no_task { reply_of_step (two_tasks true Fresh (Some 2048) 2046 1048576) (retry 2048)
         ≡ refused refusal.NoSuchTask }

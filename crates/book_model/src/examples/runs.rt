@@ -2,7 +2,7 @@
 
 ghost use Rattle.std.specs.Prelude.{◌≡◌, Some, None};
 ghost use Rattle.run_model.specs.declared.layouts.Layout.TheVariants.{Small};
-ghost use Rattle.run_model.specs.Allowed.{IsFront, after};
+ghost use Rattle.run_model.specs.Allowed.{IsPrefix, after};
 ghost use Rattle.run_model.specs.Event as event;
 ghost use Rattle.run_model.specs.State.{State, formatted};
 ghost use Rattle.book_model.specs.Examples.Nights.{new_store, reopened, state_of, stopped_night};
@@ -16,11 +16,11 @@ pub fn a_restart_is_always_allowed()
     ensures start { after new_store.state (event.Start 0) ≡ None }
 {}
 
-/// If the first of two events is acknowledged, a crash leaves what one or both lead to; and no
-/// crash leaves what holds a third.
-pub fn fronts_hold_what_is_acknowledged()
-    ensures one { IsFront new_store.state two_advances 1 at_seven }
-    ensures both { IsFront new_store.state two_advances 1 at_eight }
-    ensures all { IsFront new_store.state two_advances 2 at_eight }
-    ensures third { (p : State) → IsFront new_store.state two_advances 3 p → ⊥ }
+/// If the first of two events is acknowledged, a crash leaves the state after one or both of them,
+/// and never a state with a third event.
+pub fn prefixes_hold_what_is_acknowledged()
+    ensures one { IsPrefix new_store.state two_advances 1 at_seven }
+    ensures both { IsPrefix new_store.state two_advances 1 at_eight }
+    ensures all { IsPrefix new_store.state two_advances 2 at_eight }
+    ensures third { (p : State) → IsPrefix new_store.state two_advances 3 p → ⊥ }
 {}

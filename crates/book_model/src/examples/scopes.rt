@@ -22,7 +22,7 @@ pub fn a_child_has_its_parents_cause()
     ensures count { (state_of parent_cancelled).count ≡ 4 }
 {}
 
-/// A value scope stops no cancellation.
+/// A value scope doesn't stop a cancellation.
 pub fn a_value_scope_is_done_with_its_parent()
     ensures answers { IsAnswered value_between }
     ensures value { cause_after value_between 2 ≡ Some (codes "stop") }
@@ -37,13 +37,13 @@ pub fn a_later_cancel_of_the_parent_changes_no_cause()
     ensures count { (state_of child_cancelled_first).count ≡ 5 }
 {}
 
-/// A scope that is done is not cancelled again, and stays as it is.
+/// A scope that is done can't be cancelled again, and stays as it is.
 pub fn a_second_cancel_is_refused()
     ensures answers { IsAnswered child_cancelled_again }
     ensures same { state_of child_cancelled_again ≡ state_of child_cancelled_first }
 {}
 
-/// Of two deadlines of one moment, the scope with the lesser number is exceeded first.
+/// Of two scopes with the same deadline, the one with the lower number is exceeded first.
 pub fn equal_deadlines_pass_in_order_of_number()
     ensures answers { IsAnswered equal_deadlines }
     ensures parent { cause_after equal_deadlines 1 ≡ Some (codes "p") }
@@ -53,7 +53,7 @@ pub fn equal_deadlines_pass_in_order_of_number()
     ensures count { (state_of equal_deadlines).count ≡ 4 }
 {}
 
-/// Of two deadlines that one advance passes, the earlier one is exceeded first.
+/// If one advance passes two deadlines, the earlier one is exceeded first.
 pub fn deadlines_pass_in_order_of_moment()
     ensures answers { IsAnswered child_deadline_first }
     ensures parent { cause_after child_deadline_first 1 ≡ Some (codes "p") }
@@ -64,7 +64,7 @@ pub fn deadlines_pass_in_order_of_moment()
     ensures child_deadline { deadline_after child_deadline_first 2 ≡ Some 100 }
 {}
 
-/// A detached scope isn't done when its parent is, and values are still found through it.
+/// A detached scope isn't done when its parent is, and values are still found beyond it.
 pub fn a_detached_scope_goes_on()
     ensures answers { IsAnswered detached_part }
     ensures cancelled { cause_after detached_part 2 ≡ Some (codes "stop") }
@@ -88,7 +88,7 @@ pub fn a_deadline_at_the_clock_is_exceeded_at_once()
     ensures count { (state_of deadlines_at_the_clock).count ≡ 4 }
 {}
 
-/// A timeout past the greatest moment is refused; a value is not found above its scope.
+/// A timeout beyond the greatest moment is refused. A value isn't found above its scope.
 pub fn a_timeout_past_the_greatest_moment_is_refused()
     ensures answers { IsAnswered timeout_past_all_moments }
     ensures value { value_after timeout_past_all_moments 1 (codes "k") ≡ Some (codes "x") }
@@ -97,7 +97,8 @@ pub fn a_timeout_past_the_greatest_moment_is_refused()
     ensures live { reason_after timeout_past_all_moments 1 ≡ None }
 {}
 
-/// A deadline that passes on a scope that is done already is its own hit, and changes no cause.
+/// If a deadline passes on a scope that is already done, the scope gets a hit of its own, and no
+/// cause changes.
 pub fn a_deadline_passes_on_a_done_scope()
     ensures answers { IsAnswered deadline_of_a_done_scope }
     ensures hit { own_hit (state_of deadline_of_a_done_scope).tree.scopes 2
@@ -112,8 +113,8 @@ pub fn a_deadline_passes_on_a_done_scope()
     ensures cause { cause_after deadline_of_a_done_scope 2 ≡ Some (codes "stop") }
 {}
 
-/// A deadline scope that was cancelled before its deadline stays cancelled; a detached part has
-/// the deadlines below it alone.
+/// A deadline scope that was cancelled before its deadline stays cancelled. Deadlines above a
+/// detached scope don't count below it.
 pub fn deadlines_stop_at_a_detached_scope()
     ensures answers { IsAnswered deadlines_round_a_detached_scope }
     ensures parent_cause { cause_after deadlines_round_a_detached_scope 1 ≡ Some (codes "p") }
@@ -130,7 +131,8 @@ pub fn deadlines_stop_at_a_detached_scope()
     ensures count { (state_of deadlines_round_a_detached_scope).count ≡ 7 }
 {}
 
-/// The first deadline that passes on a chain is the cause, even if an own one passes later.
+/// The first deadline to pass on a scope's chain is the cause, even if a deadline of the scope's
+/// own passes later.
 pub fn the_first_deadline_on_the_chain_is_the_cause()
     ensures answers { IsAnswered nested_deadlines }
     ensures cause { cause_after nested_deadlines 3 ≡ Some (codes "ten") }
@@ -139,7 +141,8 @@ pub fn the_first_deadline_on_the_chain_is_the_cause()
     ensures deadline { deadline_after nested_deadlines 3 ≡ Some 10 }
 {}
 
-/// The nearest value of a key counts, and a value of another key hides none.
+/// Of several values under one key the nearest one counts, and a value under another key hides
+/// none.
 pub fn the_nearest_value_counts()
     ensures answers { IsAnswered nested_values }
     ensures far { value_after nested_values 2 (codes "k") ≡ Some (codes "far") }
@@ -149,7 +152,7 @@ pub fn the_nearest_value_counts()
     ensures missing { value_after nested_values 5 (codes "j") ≡ None }
 {}
 
-/// Of several reasons for a refusal, the first in order is answered.
+/// If there are several reasons to refuse a step, the answer is the first of them in order.
 pub fn refusals_come_in_order()
     ensures { IsAnswered orders_of_refusals }
 {}

@@ -12,7 +12,7 @@ ghost use Rattle.book_model.specs.Examples.Rooms.{start_alone, start_and_finish,
 ghost use Rattle.book_model.specs.Examples.Rooms.{three_saves, all_saved, checkpoint_refused};
 ghost use Rattle.book_model.specs.Examples.Rooms.{device_failed};
 
-/// A start has a record of 5 bytes, and keeps 80 bytes for each task that then runs.
+/// The record of a start has 5 bytes, and the log keeps 80 bytes free for each task that then runs.
 pub fn a_start_keeps_room_for_the_finish()
     ensures fits { replies (with_log 1048491 one_ready) start_alone
         ≡ started 4 0 "copy" "a" ∷ [] }
@@ -24,15 +24,15 @@ pub fn a_start_keeps_room_for_the_finish()
         ≡ refused refusal.SessionFull ∷ [] }
 {}
 
-/// A finish is accepted when nothing else is, and its record of 6 bytes is in the log.
+/// A finish is accepted even if nothing else is, and its record of 6 bytes is in the log.
 pub fn a_finish_always_has_room()
     ensures answers { replies (with_log 1048491 one_ready) start_and_finish
         ≡ started 4 0 "copy" "a" ∷ finished 5 ∷ [] }
     ensures log { (session_after (with_log 1048491 one_ready) start_and_finish).log ≡ 1048502 }
 {}
 
-/// A repeated wait is answered in a full session, since it is no event; an advance has a record
-/// of 11 bytes.
+/// A repeated wait is answered even if the session is full, since it isn't an event. The record of
+/// an advance has 11 bytes.
 pub fn a_repeated_wait_needs_no_room()
     ensures full { replies (with_log 1048576 one_waited) wait_and_advance
         ≡ waited ∷ refused refusal.SessionFull ∷ [] }
@@ -41,7 +41,7 @@ pub fn a_repeated_wait_needs_no_room()
         ≡ waited ∷ refused refusal.SessionFull ∷ [] }
 {}
 
-/// An event is acknowledged if a save after it was done.
+/// An event is acknowledged if a save after it has succeeded.
 pub fn what_a_save_acknowledges()
     ensures answers { replies new_store three_saves ≡ all_saved }
     ensures all { acknowledged new_store three_saves all_saved

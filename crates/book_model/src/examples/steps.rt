@@ -1,11 +1,11 @@
-//! Steps over a book of a new store: a flush that is done, one that fails, and a crash between two
+//! Steps over a book on a new store: a flush that succeeds, one that fails, and a crash between two
 //! calls.
 
 ghost use Rattle.std.specs.Prelude.{◌≡◌, ◌<◌, ◌≤◌, ◌+◌, ◌++◌, [], ◌∷◌, Err, ℕ, List};
 ghost use Rattle.run_model.specs.declared.faults.Fault.TheVariants.{DiskFailed, Memory, NotAStore};
 ghost use Rattle.run_model.specs.declared.faults.Fault.TheVariants.{NumbersSpent, WrongSize};
 ghost use Rattle.run_model.specs.declared.refusals.Refusal.TheVariants.{Broken};
-ghost use Rattle.run_model.specs.Allowed.{IsFront};
+ghost use Rattle.run_model.specs.Allowed.{IsPrefix};
 ghost use Rattle.run_model.specs.Session.{accepted, acknowledged};
 ghost use Rattle.run_model.specs.State.{State};
 ghost use Rattle.run_disk.specs.Disk.{last_moment};
@@ -26,8 +26,9 @@ ghost use Rattle.book_model.specs.Examples.Steps.{last_flushed, new_book, second
 ghost use Rattle.book_model.specs.Examples.Steps.{second_replies, short_state_of, state_of};
 ghost use Rattle.book_model.specs.Examples.Stores.{two_events};
 
-/// Three commands are accepted, and a flush of them is done by six calls: it returns the count 4. A
-/// flush after it has nothing to save: it returns the same, by no call. No other count is returned.
+/// Three commands are accepted. A flush saves them with six device calls, and returns the count 4.
+/// A second flush has nothing to save: it makes no call, and returns 4 again. No other count can be
+/// returned.
 pub fn a_flush_is_done()
     ensures answered { Steps state_of new_book first_call first_replies flushed }
     ensures again { AnswersStep state_of flushed flush (acked 4) flushed }
@@ -36,15 +37,16 @@ pub fn a_flush_is_done()
     ensures batched { AnswersStep state_of book_after_three flush (acked 4) flushed_twice → ⊥ }
 {}
 
-/// The first of the three is answered by scope 1, and by no other; and then the book has its event.
+/// The answer to the first of the three commands is scope 1 and no other, and after it the book has
+/// the event.
 pub fn a_command_is_answered_as_its_session_says()
     ensures told { (new : BookView Counts) → AnswersStep state_of new_book first_command
         (scope_made 2) new → ⊥ }
     ensures taken { AnswersStep state_of new_book first_command (scope_made 1) new_book → ⊥ }
 {}
 
-/// If no generation is left, a checkpoint reports that the numbers are spent, and changes nothing;
-/// a flush after it, whose records fit, is done. No checkpoint is done there.
+/// If no generation is left, no checkpoint succeeds: it reports that the numbers are spent, and
+/// changes nothing. A flush after it still succeeds, if its records fit.
 pub fn the_last_generation_has_no_checkpoint()
     ensures answered { Steps state_of last_book (checkpoint ∷ flush ∷ [])
         (faulty NumbersSpent ∷ acked 4 ∷ []) last_flushed }
@@ -52,15 +54,16 @@ pub fn the_last_generation_has_no_checkpoint()
         → AnswersStep state_of last_book checkpoint (acked n) new → ⊥ }
 {}
 
-/// A state that lacks one of the acknowledged events is not a front: three are acknowledged, and
-/// with the opening a front of them has four events at least.
-pub fn a_front_lacks_no_acknowledged_event()
+/// The prefix that a crash may leave contains every acknowledged event. If three are acknowledged,
+/// the state has at least four events, including the opening.
+pub fn a_prefix_lacks_no_acknowledged_event()
     ensures { (q : State) → q.count ≡ 3
-        → IsFront new_store.state (first_events ++ two_events) 3 q → ⊥ }
+        → IsPrefix new_store.state (first_events ++ two_events) 3 q → ⊥ }
 {}
 
-/// The first call of a flush fails: the flush returns this fault, the book is broken, and each step
-/// after it is refused and leaves the book as it is. The flush doesn't return it without a call.
+/// The first device call of a flush fails. The flush returns this fault, the book is broken, and
+/// each later step is refused and leaves the book as it is. Without a device call a flush can't
+/// return that fault.
 pub fn a_flush_fails()
     ensures flush { AnswersStep state_of book_after_three flush (faulty DiskFailed) failed }
     ensures after { AnswersStep state_of failed start (refused Broken) failed }
@@ -70,8 +73,9 @@ pub fn a_flush_fails()
         book_after_three → ⊥ }
 {}
 
-/// A crash between two calls, or within the second: three events were acknowledged by the first
-/// call, two more are accepted in the second, and whatever is left has four events, five or six.
+/// A crash comes between two calls, or within the second one. The first call acknowledged three
+/// events, and the second one accepts two more. The state that is left has four, five or six
+/// events, including the opening.
 pub fn a_stop_comes_between_two_calls()
     ensures acknowledged { acknowledged new_store first_call first_replies ≡ first_events }
     ensures accepted { accepted new_store
@@ -82,8 +86,8 @@ pub fn a_stop_comes_between_two_calls()
         → (4 ≤ kept.state.count) × (kept.state.count ≤ 6) }
 {}
 
-/// A disk that lacks one byte of a small store's is neither recovered nor opened nor formatted,
-/// and no call is made. Nothing is stored in a disk without a byte.
+/// A disk that is one byte smaller than a small store can't be recovered, opened or formatted, and
+/// no call is made. A disk without a byte stores nothing.
 pub fn a_disk_of_another_size_is_no_store()
     ensures recovered { (d : Counts) → Recovers short_state_of d (Err WrongSize) d }
     ensures opened { (d : Counts) → Opens short_state_of d (Err (WrongSize, d)) }
@@ -91,9 +95,9 @@ pub fn a_disk_of_another_size_is_no_store()
     ensures none { StoresNone [] WrongSize }
 {}
 
-/// If the size is right, memory is refused before the first call; a first read that fails is
-/// counted. Before a read no fault of the bytes is reported, and no failure of a disk that isn't
-/// spent.
+/// If the size is right, a lack of memory is reported before the first call, and a first read that
+/// fails is counted. Before any read, no fault of the bytes can be reported, and a failed device
+/// only if the disk is spent.
 pub fn a_recovery_is_told_by_its_reads()
     ensures memory { (d : Counts) → Recovers state_of d (Err Memory) d }
     ensures failed { (calls failures : ℕ) → Recovers state_of

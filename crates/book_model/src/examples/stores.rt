@@ -15,8 +15,9 @@ ghost use Rattle.book_model.specs.Examples.Stores.{interrupted_image, rest_of_re
 ghost use Rattle.book_model.specs.Examples.Stores.{retry_record, three_records, two_records};
 ghost use Rattle.book_model.specs.Examples.Stores.{with_len, with_parent, with_tag};
 
-/// A store as it was formatted has root alone and no event; opened once it has one event; and with
-/// three records and then two in its segment it has four events and six. Both versions are read.
+/// A store that was just formatted holds a state with no row but root, and no event. Once opened it
+/// has one event. With a batch of three records it has four events, and with another one of two it
+/// has six. Both versions are read.
 pub fn two_flushes_mean_six_events()
     ensures formatted { MeansIn Two Small (empty_image 2 0) [] (formatted Small) }
     ensures opened { MeansIn Two Small (empty_image 2 1) [] new_store.state }
@@ -25,8 +26,9 @@ pub fn two_flushes_mean_six_events()
     ensures older { MeansIn One Small (empty_image 1 1) (three_records ∷ []) at_four }
 {}
 
-/// A version that isn't known, a record over two batches, a tag whose body has another length, a
-/// length that its tag's body doesn't have, and a parent that isn't there mean nothing.
+/// Each of these means nothing: an unknown version, a record that spans two batches, a tag whose
+/// body has another length, a length that doesn't fit the body of the tag, and a parent that
+/// doesn't exist.
 pub fn damaged_stores_mean_nothing()
     ensures version { MeansNone Small (empty_image 9 1) (three_records ∷ []) BadImage }
     ensures cut { MeansNone Small (empty_image 2 1) (cut_record ∷ rest_of_records ∷ []) BadRecord }
@@ -35,7 +37,7 @@ pub fn damaged_stores_mean_nothing()
     ensures parent { MeansNone Small (empty_image 2 1) (with_parent 5 ∷ []) BadEvent }
 {}
 
-/// A retry stands after an image of version 2, and after none of version 1.
+/// A retry may follow an image of version 2, but not one of version 1.
 pub fn a_retry_stands_after_version_2()
     ensures two { MeansIn Two Small (interrupted_image Two) (retry_record ∷ [])
         (step one_interrupted.state (Retry 0)) }

@@ -1,4 +1,4 @@
-//! A moment as its date and time in UTC.
+//! The date and time of a moment.
 
 ghost use Rattle.std.specs.Prelude.{◌≡◌, length};
 ghost use Rattle.console_lines.specs.Dates.{moment_text};
@@ -8,7 +8,7 @@ use jiff::Timestamp;
 use jiff::fmt::temporal::DateTimePrinter;
 use run_model::Moment;
 
-/// A moment as its date and time in UTC, `2024-02-29T02:00:00Z`.
+/// Returns the date and time of a moment in UTC, such as `2024-02-29T02:00:00Z`.
 pub fn moment_text(moment: Moment) -> ArrayString<33>
     ensures text { result.bytes ≡ moment_text moment }
     ensures long { length result.bytes ≡ 20 }

@@ -1,5 +1,5 @@
-//! Examples of the definitions: what words write, and the texts of moments, with dates counted by
-//! another program.
+//! Examples of the definitions: the moments that words stand for, and the texts of moments. The
+//! dates were counted by another program.
 //!
 //! Each function has an empty body, and its clauses are the examples: they are computed from the
 //! definition alone, without any of the code that reads a word.
@@ -7,7 +7,7 @@
 
 ghost use Rattle.console_lines.specs.MomentExamples.{HasText, IsNoMoment, IsOutOfRange, Writes};
 
-/// Digits are seconds, and zeros may stand first.
+/// Digits are seconds, and may begin with zeros.
 pub fn digits_are_seconds()
     ensures zero { Writes "0" 0 }
     ensures zeros { Writes "000000000007" 7 }
@@ -19,7 +19,7 @@ pub fn digits_are_seconds()
     ensures sign { IsNoMoment "-1" }
 {}
 
-/// A date and time has an offset, which comes after its local time.
+/// A date and time has an offset, which comes after the local time.
 pub fn a_date_and_time_has_an_offset()
     ensures zulu { Writes "2024-01-01T02:00:00Z" 1704074400 }
     ensures east { Writes "2024-01-01T03:00:00+01:00" 1704074400 }
@@ -37,7 +37,7 @@ pub fn the_form_comes_before_the_year()
     ensures hour { IsNoMoment "2024-01-01T24:00:00Z" }
 {}
 
-/// The first and the greatest moment, and those beside them.
+/// The first and the greatest moment, and their neighbours.
 pub fn the_ends_of_the_range_are_moments()
     ensures first { Writes "1969-12-31T23:30:00-01:00" 1800 }
     ensures before { IsOutOfRange "1969-12-31T23:59:59Z" }
@@ -45,7 +45,7 @@ pub fn the_ends_of_the_range_are_moments()
     ensures past { IsOutOfRange "9987-04-02T17:46:41Z" }
 {}
 
-/// A moment has its date and time, over leap years and at the ends of months and years.
+/// A moment has its date and time, also in leap years, and at the ends of months and years.
 pub fn moments_have_texts()
     ensures first { HasText 0 "1970-01-01T00:00:00Z" }
     ensures leap { HasText 951827696 "2000-02-29T12:34:56Z" }

@@ -1,9 +1,9 @@
-//! A list of steps, taken one after another.
+//! A list of steps, which are taken one after another.
 
 ghost use Rattle.std.specs.Prelude.{◌≡◌, ◌+◌, ◌≤◌, length, vec_capacity, vec_len};
 ghost use Rattle.run_model.specs.declared.answers.Reply.TheVariants as reply;
 ghost use Rattle.run_model.specs.Session.{replied};
-ghost use Rattle.run_state.specs.Lasting.{Stays};
+ghost use Rattle.run_session.specs.Lasting.{Stays};
 ghost use Rattle.book_model.specs.Books.{CarriesOn};
 ghost use Rattle.book_model.specs.Steps.{AnswersStep, PlaysInto, reply_of_save};
 
@@ -13,9 +13,8 @@ use run_model::{Answer, Refusal, Reply, Started, Step, Trouble};
 use std::alloc::Allocator;
 
 impl<D: RunDisk, A: Allocator> Book<D, A> {
-    /// Takes the steps in order, and puts one reply for each at the end of the list, which has
-    /// room for them and doesn't grow. After a failure of the device each step is refused as
-    /// `Broken`.
+    /// Takes the steps in order, and appends one reply for each of them to `replies`, which has
+    /// room for them. After a failure of the device each step is refused as `Broken`.
     pub fn play<B: Allocator>(&mut self, steps: &[Step], replies: &mut Vec<Reply, B>)
         requires room { vec_len replies.old + length steps.now ≤ vec_capacity replies.old }
         ensures plays { PlaysInto D.state self.old steps.now replies.old.items
@@ -31,8 +30,8 @@ impl<D: RunDisk, A: Allocator> Book<D, A> {
         }
     }
 
-    /// Takes one step, as the call of its name does, and answers as that call does. A broken book
-    /// refuses it as `Broken`.
+    /// Takes one step, and replies as the call with its name does. A broken book refuses it as
+    /// `Broken`.
     pub fn step(&mut self, step: &Step) -> Reply
         ensures answers { AnswersStep D.state self.old step.now result self.new }
         ensures carries_on { CarriesOn D.state self.old self.new }

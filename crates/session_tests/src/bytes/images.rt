@@ -3,7 +3,7 @@
 use crate::asserts::{done, holds};
 use row_view::ImageVersion;
 use run_model::{Fault, Layout};
-use run_state::State;
+use run_session::State;
 use std::alloc::Global;
 use std::process::Abort;
 
@@ -70,7 +70,7 @@ pub fn read(alloc: Global, layout: Layout, image: &[u8]) -> Result<(State, Image
 
 /// Says whether these bytes are what a state writes, over bytes of 0xEE.
 fn is_written(state: &State, out: &mut [u8], again: &[u8]) -> bool {
-    if 1 << 63 <= state.count() || out.len() < state.image_room() {
+    if 1 << 63 <= state.count() || out.len() < state.image_bound() {
         return false;
     }
     let len = state.write_image(out);

@@ -5,7 +5,7 @@ use crate::asserts::holds;
 use crate::bytes::images::{Counts, Head, Pieces, image, is_read, is_refused, read, read_again};
 use row_view::ImageVersion;
 use run_model::Layout;
-use run_state::State;
+use run_session::State;
 use std::alloc::Global;
 use std::process::Abort;
 use test_fixtures::{Seen, seen_of};

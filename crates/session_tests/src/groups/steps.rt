@@ -161,7 +161,7 @@ fn is_shown<A: Allocator>(groups: &Groups<A>, step: Step) -> bool {
         Step::Again(task, argument, of) => is_again(groups, task, argument, of),
         Step::Groups(layout, count, scope) => are_groups(groups, layout, count, scope),
         Step::Names(names) => are_named(groups, names),
-        Step::Room(answer) => groups.check_room() == answer,
+        Step::Room(answer) => groups.check_capacity() == answer,
         Step::Absent(group, task) => are_absent(groups, group, task),
         _ => false,
     }

@@ -3,8 +3,7 @@
 use crate::values::name;
 use record_view::EventView;
 use run_model::{Look, TaskLook};
-use run_session::Session;
-use run_state::State;
+use run_session::{Session, State};
 use std::alloc::Allocator;
 use std::process::Abort;
 use test_fixtures::{Going, GroupSeen, Seen, going_of, is_group, seen_of};

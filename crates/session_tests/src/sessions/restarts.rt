@@ -5,8 +5,7 @@ use crate::sessions::steps::Step::{Count, Records, Refuses, Running, Says, Scope
 use crate::sessions::steps::{Step, play, take};
 use record_view::EventView;
 use run_model::{Command, Layout, Refusal};
-use run_session::Session;
-use run_state::State;
+use run_session::{Session, State};
 use std::alloc::Global;
 use std::process::Abort;
 use test_fixtures::Call::{Bare, Go, Group, Limit, Retry, Start, Succeed, Wait};

@@ -5,7 +5,7 @@ use crate::sessions::steps::Step::{Refuses, Says, Scopes, Value};
 use crate::sessions::steps::{Step, begun, play, take};
 use crate::values::name;
 use run_model::{Layout, Name, Refusal};
-use run_state::State;
+use run_session::State;
 use std::process::Abort;
 use test_fixtures::Call::{Advance, Cancel, Derive};
 use test_fixtures::{Ask, Said, Seen};

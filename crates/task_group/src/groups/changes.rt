@@ -1,4 +1,4 @@
-//! What changes groups and tasks. Each change has as its precondition what its test checks.
+//! The calls that change groups and tasks. The precondition of a change is what its test checks.
 
 ghost use Rattle.std.specs.Prelude.{◌≡◌, ◌<◌, ◌≤◌, ◌+◌, ◌++◌, false, fold, length, is_some, IsTrue};
 ghost use Rattle.std.specs.Prelude.{◌==◌, ◌&&◌, ◌∷◌, [], true, Some, not, is_none};
@@ -25,20 +25,20 @@ ghost use Rattle.task_group.specs.Told.{told_by_end, told_by_restart};
 
 use crate::flags::note_retry;
 use crate::groups::Groups;
-use crate::rows::{
+use crate::seats::{enter, leave, link, push_seats};
+use crate::work_rows::{
     admits, end_in_group, interruption, push_group, push_task, set_row_limit, set_stage,
     set_waited, stage_with,
 };
-use crate::seats::{enter, leave, link, push_seats};
 use arrayvec::ArrayVec;
 use row_view::copies::name_copy;
 use run_model::{Group, Limit, MOST_GROUPS, Name, Stage, Task};
 use std::alloc::Allocator;
 
 impl<A: Allocator> Groups<A> {
-    /// Makes a group of this name, without a limit, and returns its number. Its tasks live in this
-    /// scope, which is the group's own unless it is bare. [`Groups::check_make`] tests whether it
-    /// is allowed.
+    /// Makes a group with this name, without a limit, and returns its number. Its tasks belong to
+    /// this scope, which is the group's own unless the group is bare. [`Groups::check_make`] tests
+    /// whether that is allowed.
     pub fn make(&mut self, name: &[u8], scope: u16, bare: bool) -> u16
         requires name { IsName name.now }
         requires accepted { IsTrue (is_none (group_named self.old name.now)
@@ -63,8 +63,8 @@ impl<A: Allocator> Groups<A> {
         n
     }
 
-    /// Changes the limit of a group, none of whose tasks is unfinished. [`Groups::check_limit`]
-    /// tests whether it is allowed.
+    /// Changes the limit of a group that has no unfinished task. [`Groups::check_limit`] tests
+    /// whether that is allowed.
     pub fn set_limit(&mut self, group: u16, limit: Limit)
         requires accepted { IsTrue
             (is_open self.old group && (unfinished_in group self.old.tasks == 0)) }
@@ -74,8 +74,8 @@ impl<A: Allocator> Groups<A> {
         set_row_limit(&mut self.groups, group as usize, limit);
     }
 
-    /// Submits a task, and returns its number: it is ready if the limit admits one more, otherwise
-    /// held. [`Groups::check_go`] tests whether it is allowed.
+    /// Submits a task, and returns its number. The task is ready if the limit admits one more, and
+    /// otherwise held. [`Groups::check_go`] tests whether that is allowed.
     pub fn go(&mut self, group: u16, job: &[u8], argument: &[u8]) -> u16
         requires names { IsName job.now × IsName argument.now }
         requires accepted { IsTrue
@@ -89,7 +89,7 @@ impl<A: Allocator> Groups<A> {
     }
 
     /// Submits a task that is ready at once, and returns its number. [`Groups::check_try`] tests
-    /// whether it is allowed.
+    /// whether that is allowed.
     pub fn try_go(&mut self, group: u16, job: &[u8], argument: &[u8]) -> u16
         requires names { IsName job.now × IsName argument.now }
         requires accepted { IsTrue
@@ -103,8 +103,8 @@ impl<A: Allocator> Groups<A> {
         self.go(group, job, argument)
     }
 
-    /// Submits an interrupted task anew, with the same job and argument in the same group. Returns
-    /// the new task's number. [`Groups::check_retry`] tests whether it is allowed.
+    /// Submits an interrupted task again, with the same job and argument in the same group. Returns
+    /// the number of the new task. [`Groups::check_retry`] tests whether that is allowed.
     pub fn retry(&mut self, task: u16) -> u16
         requires accepted { IsTrue (has_stage is_interrupted self.old task
             && not (is_retried self.old task) && is_open self.old (group_of_task self.old task)
@@ -122,9 +122,9 @@ impl<A: Allocator> Groups<A> {
         self.submit(group, job, argument, Some(task))
     }
 
-    /// Starts the ready task with the least number, and returns that. [`Groups::next_ready`]
-    /// tests whether there is one: if it returns `None`, the caller refuses the start as
-    /// `NothingReady`.
+    /// Starts the ready task with the lowest number, and returns that number.
+    /// [`Groups::next_ready`] tests whether there is one. If it returns `None`, the caller refuses
+    /// the start as `NothingReady`.
     pub fn start(&mut self) -> u16
         requires { IsTrue (is_some (first_ready self.old)) }
         ensures least { first_ready self.old ≡ Some result }
@@ -140,10 +140,10 @@ impl<A: Allocator> Groups<A> {
         n
     }
 
-    /// Ends a running task with this error, or without one as a success; if its group has a held
-    /// task, the oldest one is ready then. Returns the scope that must be cancelled with the error
-    /// as its cause: the group's own, if the error is the first of a group that isn't bare.
-    /// [`Groups::check_finish`] tests whether it is allowed.
+    /// Ends a running task with this error, or, if there is none, as a success. Then the oldest
+    /// held task of its group is ready, if there is one. Returns the scope that the caller must
+    /// cancel with the error as its cause. This is the group's own scope, if the error is the first
+    /// one of a group that isn't bare. [`Groups::check_finish`] tests whether that is allowed.
     pub fn finish(&mut self, task: u16, error: Option<&[u8]>) -> Option<u16>
         requires error { IfSome error (λ e. IsText e.now) }
         requires running { IsTrue (has_stage is_running self.old task) }
@@ -157,9 +157,9 @@ impl<A: Allocator> Groups<A> {
         self.end(task, stage_with(error), error)
     }
 
-    /// Waits for a group whose tasks have all finished. Returns the scope that must be cancelled,
-    /// without a cause: the group's own, unless it is bare. A group is waited for once.
-    /// [`Groups::check_wait`] tests whether it is allowed.
+    /// Waits for a group whose tasks have all finished. Returns the scope that the caller must
+    /// cancel, without a cause. This is the group's own scope, unless the group is bare. A group is
+    /// waited for only once. [`Groups::check_wait`] tests whether that is allowed.
     pub fn wait(&mut self, group: u16) -> Option<u16>
         requires accepted { IsTrue
             (is_open self.old group && (unfinished_in group self.old.tasks == 0)) }
@@ -173,10 +173,10 @@ impl<A: Allocator> Groups<A> {
         told
     }
 
-    /// Interrupts each running task, by ascending number, and returns the scopes that must be
-    /// cancelled with the cause [`interruption`]: those of the groups, not bare, that got their
-    /// first error, each once and in the order in which they did. No task runs then, and the held
-    /// ones that the limits admit are ready. Takes no memory.
+    /// Interrupts the running tasks, in the order of their numbers. Returns the scopes that the
+    /// caller must cancel with the cause [`interruption`]: those of the groups that aren't bare and
+    /// have just got their first error, each once and in that order. After that no task runs, and
+    /// the held tasks that the limits admit are ready. Takes no memory.
     pub fn restart(&mut self) -> ArrayVec<u16, MOST_GROUPS>
         ensures told { result.items ≡ told_by_restart self.old }
         ensures after { self.new ≡ fold after_interrupt self.old (running_tasks self.old) }

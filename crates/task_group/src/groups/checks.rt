@@ -1,5 +1,5 @@
-//! Tests: each returns why a change is refused, the first reason that holds in the order in which
-//! they are checked, and `Ok` exactly when none does. None takes memory.
+//! Tests. Each returns why a change is refused, and `Ok` exactly if nothing refuses it. Reasons are
+//! checked in a fixed order, and the first one that applies is returned. No test takes memory.
 
 ghost use Rattle.std.specs.Prelude.{◌≡◌, ◌<◌, ◌∷◌, ℕ, List, Option, [], length, not, true, is_none};
 ghost use Rattle.std.specs.Prelude.{IfOk};
@@ -15,20 +15,20 @@ ghost use Rattle.run_model.specs.declared.bounds.TheConstants.{MOST_GROUPS};
 ghost use Rattle.task_group.specs.Checks.{Answers};
 
 use crate::groups::Groups;
-use crate::rows::is_interrupted;
+use crate::work_rows::is_interrupted;
 use run_model::{MOST_GROUPS, Refusal};
 use std::alloc::Allocator;
 
 impl<A: Allocator> Groups<A> {
-    /// Returns why a group of this name can't be made: `NameTaken`, `TooManyGroups`, the first that
-    /// holds.
+    /// Returns why a group with this name can't be made, which is the first of these that applies:
+    /// `NameTaken`, `TooManyGroups`.
     pub fn check_make(&self, name: &[u8]) -> Result<(), Refusal>
         ensures { (count : ℕ) (tree : TreeState) (s : ℕ) → has_row tree.scopes s ≡ true
             → result ≡ tested (refusals
             (record { count = count; tree = tree; work = self.now }) (Bare name.now s)) }
     {
         self.check_name(name)?;
-        self.check_room()
+        self.check_capacity()
     }
 
     /// The first part of [`Groups::check_make`]: `NameTaken`.
@@ -43,7 +43,7 @@ impl<A: Allocator> Groups<A> {
     }
 
     /// The second part of [`Groups::check_make`]: `TooManyGroups`.
-    pub fn check_room(&self) -> Result<(), Refusal>
+    pub fn check_capacity(&self) -> Result<(), Refusal>
         ensures { result
             ≡ tested ((not (has_room MOST_GROUPS self.now.groups), refusal.TooManyGroups) ∷ []) }
     {
@@ -53,8 +53,8 @@ impl<A: Allocator> Groups<A> {
         Ok(())
     }
 
-    /// Returns why the limit of a group can't be set: `NoSuchGroup`, `Waited`, `LimitWhileActive`,
-    /// the first that holds.
+    /// Returns why the limit of a group can't be set, which is the first of these that applies:
+    /// `NoSuchGroup`, `Waited`, `LimitWhileActive`.
     pub fn check_limit(&self, group: u16) -> Result<(), Refusal>
         ensures { (limit : Option ℕ) → Answers self.now (SetLimit group limit) result }
     {
@@ -65,17 +65,17 @@ impl<A: Allocator> Groups<A> {
         Ok(())
     }
 
-    /// Returns why a task can't be submitted to a group: `NoSuchGroup`, `Waited`, `TooManyTasks`,
-    /// the first that holds.
+    /// Returns why a task can't be submitted to a group, which is the first of these that applies:
+    /// `NoSuchGroup`, `Waited`, `TooManyTasks`.
     pub fn check_go(&self, group: u16) -> Result<(), Refusal>
         ensures { (job argument : List ℕ) → Answers self.now (Go group job argument) result }
     {
         self.check_open(group)?;
-        self.check_task_room()
+        self.check_task_capacity()
     }
 
-    /// Returns why a task that is to be ready at once can't be submitted: as [`Groups::check_go`],
-    /// then `AtLimit`.
+    /// Returns why a task that has to be ready at once can't be submitted: first as
+    /// [`Groups::check_go`], and then `AtLimit`.
     pub fn check_try(&self, group: u16) -> Result<(), Refusal>
         ensures { (job argument : List ℕ) → Answers self.now (TryGo group job argument) result }
     {
@@ -86,8 +86,8 @@ impl<A: Allocator> Groups<A> {
         Ok(())
     }
 
-    /// Returns why a task can't be submitted anew: `NoSuchTask`, `NotInterrupted`,
-    /// `AlreadyRetried`, `Waited`, `TooManyTasks`, the first that holds.
+    /// Returns why a task can't be retried, which is the first of these that applies: `NoSuchTask`,
+    /// `NotInterrupted`, `AlreadyRetried`, `Waited`, `TooManyTasks`.
     pub fn check_retry(&self, task: u16) -> Result<(), Refusal>
         ensures { Answers self.now (Retry task) result }
     {
@@ -103,8 +103,9 @@ impl<A: Allocator> Groups<A> {
         self.check_go(self.group_of(task))
     }
 
-    /// Returns why a group can't be waited for: `NoSuchGroup`, `Unfinished`, `Waited`, the first
-    /// that holds. To answer a second wait as the first, call [`Groups::was_waited`] before.
+    /// Returns why a group can't be waited for, which is the first of these that applies:
+    /// `NoSuchGroup`, `Unfinished`, `Waited`. To answer a second wait like the first, call
+    /// [`Groups::was_waited`] before.
     pub fn check_wait(&self, group: u16) -> Result<(), Refusal>
         ensures { Answers self.now (Wait group) result }
     {
@@ -121,7 +122,8 @@ impl<A: Allocator> Groups<A> {
         Ok(())
     }
 
-    /// Returns why a task can't be finished: `NoSuchTask`, `NotRunning`, the first that holds.
+    /// Returns why a task can't be finished, which is the first of these that applies:
+    /// `NoSuchTask`, `NotRunning`.
     pub fn check_finish(&self, task: u16) -> Result<(), Refusal>
         ensures { (outcome : Outcome) → Answers self.now (Finish task outcome) result }
     {
@@ -151,7 +153,7 @@ impl<A: Allocator> Groups<A> {
     }
 
     /// The second part of [`Groups::check_go`]: `TooManyTasks`.
-    fn check_task_room(&self) -> Result<(), Refusal>
+    fn check_task_capacity(&self) -> Result<(), Refusal>
         ensures { result ≡ tested ((
           not (has_room (most_tasks self.now.layout) self.now.tasks),
           refusal.TooManyTasks,

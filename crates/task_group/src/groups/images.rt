@@ -1,5 +1,6 @@
-//! The rows of groups and tasks in an image: they are written in order of number, and read one by
-//! one, each tested against those before it. As a row is read, what is counted beside it is made.
+//! The rows of groups and tasks in an image. They are written in the order of their numbers. They
+//! are read one by one, and each is tested against those before it. The counters and lists besides
+//! the rows are built in the course of reading.
 
 ghost use Rattle.std.specs.List.{flat_map, AllByRecursion};
 ghost use Rattle.std.specs.Option.{IfNone, IfSome};
@@ -28,16 +29,16 @@ use crate::flags::note_retry;
 use crate::image_rows::{
     can_retry, group_copy, is_fresh, lost_groups, put_groups, put_tasks, task_copy,
 };
-use crate::rows::{is_running, push_group, push_task};
 use crate::seats::{enter, push_none, push_seats};
+use crate::work_rows::{is_running, push_group, push_task};
 use row_view::{ImageHead, read_group, read_task};
 use run_model::{Fault, Group, Layout, MOST_GROUPS, Scope, Task};
 use std::alloc::Allocator;
 
 impl<A: Allocator> Groups<A> {
-    /// Writes the rows of the groups at a place, in order of number, and those of the tasks after
-    /// them, in version 2. Returns the place after them all. A group's row has 103 bytes at most, a
-    /// task's 136. Takes no memory.
+    /// Writes the rows of the groups at a place, and those of the tasks after them, both in the
+    /// order of their numbers, in version 2. Returns the place after all of them. The row of a
+    /// group has at most 103 bytes, and that of a task 136. Takes no memory.
     pub fn write_rows(&self, out: &mut [u8], at: usize) -> usize
         requires room { at + 103 * length self.now.groups + 136 * length self.now.tasks
             ≤ length out.old }
@@ -53,10 +54,10 @@ impl<A: Allocator> Groups<A> {
         put_tasks(&self.tasks, out, end)
     }
 
-    /// Returns the groups and tasks that the bytes after an image's scopes begin with, and the
-    /// bytes after their rows: these, which are none yet, are filled with the rows. `BadImage`
-    /// exactly when the bytes don't begin with so many rows as the head says, or these don't keep
-    /// the rules of the work. Takes no memory.
+    /// Returns the groups and tasks with whose rows these bytes begin, and the bytes after them.
+    /// The bytes come after the scopes of an image. `self` has no group or task yet, and is filled
+    /// with the rows. `BadImage` exactly if the bytes don't begin with as many rows as the head
+    /// says, or if these don't keep the rules of the work. Takes no memory.
     pub fn read_rows<'a>(
         mut self,
         head: &ImageHead,
@@ -78,9 +79,9 @@ impl<A: Allocator> Groups<A> {
         }
     }
 
-    /// Returns whether these scopes and the groups fit together: the scope of each group exists;
-    /// that of a group that isn't bare has the kind of a group's, and its name, and is hit if the
-    /// group has an error or was waited for; and each scope of that kind has such a group.
+    /// Returns whether these scopes and the groups fit together. The scope of each group has to
+    /// exist. If a group isn't bare, its scope has kind Group and the group's name, and is hit if
+    /// the group has an error or was waited for. Each scope of kind Group belongs to such a group.
     pub fn fits(&self, scopes: &[Scope]) -> bool
         ensures { result ≡ fits_between scopes.now self.now.groups }
     {

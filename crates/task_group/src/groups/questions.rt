@@ -1,5 +1,5 @@
-//! Questions on groups and tasks. Each takes a number, which the caller knows to be there or which
-//! is answered `None`.
+//! Questions about groups and tasks. Each takes a number. Either the caller knows that the row
+//! exists, or the answer is `None` if it doesn't.
 
 ghost use Rattle.std.specs.Prelude.{◌≡◌, ◌<◌, ◌≤◌, ℕ, length, position, slice_get};
 ghost use Rattle.std.specs.Option.{option_copied};
@@ -13,12 +13,12 @@ ghost use Rattle.run_model.specs.Tasks.{first_ready, phase_of, running_count};
 ghost use Rattle.run_model.specs.Tasks.{unfinished_in, has_stage, is_running, admits, limit_of};
 
 use crate::groups::Groups;
-use crate::rows::{admits, group_look, is_from, is_running, phase_of as stage_phase};
+use crate::work_rows::{admits, group_look, is_from, is_running, phase_of as stage_phase};
 use run_model::{Group, GroupLook, Layout, MOST_GROUPS, Phase, Task, is_spelled};
 use std::alloc::Allocator;
 
 impl<A: Allocator> Groups<A> {
-    /// Returns the layout of the store, which says how many tasks there can be.
+    /// Returns the layout of the store, which limits the number of tasks.
     pub fn layout(&self) -> Layout
         ensures { result ≡ self.now.layout }
     {
@@ -33,7 +33,7 @@ impl<A: Allocator> Groups<A> {
         self.groups.len()
     }
 
-    /// Returns the number of the group of this name. `None` exactly when no group has it.
+    /// Returns the number of the group with this name; `None` exactly if there is none.
     pub fn find(&self, name: &[u8]) -> Option<u16>
         ensures { result ≡ group_named self.now name.now }
     {
@@ -41,8 +41,8 @@ impl<A: Allocator> Groups<A> {
         Some(n as u16)
     }
 
-    /// Returns the row of a group, lent until the groups change. `None` exactly when there is no
-    /// such group.
+    /// Returns the row of a group, which is lent until the groups change; `None` exactly if there
+    /// is no such group.
     pub fn group_row(&self, group: u16) -> Option<&Group>
         ensures { option_copied result ≡ slice_get self.now.groups group }
     {
@@ -50,8 +50,8 @@ impl<A: Allocator> Groups<A> {
         self.groups.get(g)
     }
 
-    /// Returns what is seen of a group: the number of its unfinished tasks, its limit, whether it
-    /// was waited for, and its first error. `None` if there is no such group.
+    /// Returns the name and the scope of a group, the number of its unfinished tasks, its limit,
+    /// whether it was waited for, and its first error; `None` if there is no such group.
     pub fn result(&self, group: u16) -> Option<GroupLook>
         ensures { (count : ℕ) (tree : TreeState) → result
             ≡ group_look_of (record { count = count; tree = tree; work = self.now }) group }
@@ -62,7 +62,7 @@ impl<A: Allocator> Groups<A> {
         Some(group_look(row, self.unfinished(group)))
     }
 
-    /// Returns whether there is a group of this number that was waited for.
+    /// Returns whether there is a group with this number that was waited for.
     pub fn was_waited(&self, group: u16) -> bool
         ensures { result ≡ has_waited self.now group }
     {
@@ -72,7 +72,7 @@ impl<A: Allocator> Groups<A> {
         }
     }
 
-    /// Returns how many tasks of a group are not finished.
+    /// Returns the number of unfinished tasks of a group.
     pub fn unfinished(&self, group: u16) -> u16
         requires { group < length self.now.groups }
         ensures { result ≡ unfinished_in group self.now.tasks }
@@ -80,7 +80,7 @@ impl<A: Allocator> Groups<A> {
         self.seats[group as usize].unfinished
     }
 
-    /// Returns whether a task that came in now would be ready.
+    /// Returns whether a task that was submitted now would be ready.
     pub fn has_seat(&self, group: u16) -> bool
         requires { group < length self.now.groups }
         ensures { result ≡ admits (limit_of self.now group) (unfinished_in group self.now.tasks) }
@@ -97,8 +97,8 @@ impl<A: Allocator> Groups<A> {
         self.tasks.len()
     }
 
-    /// Returns the row of a task, lent until the groups change. `None` exactly when there is no
-    /// such task.
+    /// Returns the row of a task, which is lent until the groups change; `None` exactly if there is
+    /// no such task.
     pub fn task_row(&self, task: u16) -> Option<&Task>
         ensures { option_copied result ≡ slice_get self.now.tasks task }
     {
@@ -106,7 +106,7 @@ impl<A: Allocator> Groups<A> {
         self.tasks.get(n)
     }
 
-    /// Returns how far a task is. `None` if there is no such task.
+    /// Returns how far a task has come; `None` if there is no such task.
     pub fn phase(&self, task: u16) -> Option<Phase>
         ensures { result ≡ phase_of self.now task }
     {
@@ -117,7 +117,7 @@ impl<A: Allocator> Groups<A> {
         Some(stage_phase(&row.stage, is_from(first, task)))
     }
 
-    /// Returns whether there is a task of this number that is running.
+    /// Returns whether there is a task with this number that is running.
     pub fn is_running(&self, task: u16) -> bool
         ensures { result ≡ has_stage is_running self.now task }
     {
@@ -135,8 +135,8 @@ impl<A: Allocator> Groups<A> {
         self.running
     }
 
-    /// Returns the ready task with the least number, which [`Groups::start`] starts. `None` exactly
-    /// when no task is ready; a start is refused as `NothingReady` then.
+    /// Returns the ready task with the lowest number, which is the one that [`Groups::start`]
+    /// starts; `None` exactly if no task is ready. Then a start is refused as `NothingReady`.
     pub fn next_ready(&self) -> Option<u16>
         ensures { result ≡ first_ready self.now }
     {

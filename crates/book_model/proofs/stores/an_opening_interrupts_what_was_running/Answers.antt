@@ -1,4 +1,4 @@
-use Rattle.book_model.proofs.FrontLemmas.{opened_endings, opened_rules}
+use Rattle.book_model.proofs.PrefixLemmas.{opened_endings, opened_rules}
 use Rattle.model_laws.proofs.Reaches.{reaches_down}
 use Rattle.model_laws.proofs.Interrupts.{restarted}
 use Rattle.book_model.specs.Stores as stores

@@ -1,6 +1,6 @@
 use Rattle.std.specs.Prelude.{Some}
 use Rattle.std.proofs.Common.{sym, ◌∙◌, ap}
-use Rattle.console_lines.specs.Asked.{asks_cancel}
+use Rattle.console_lines.specs.LineRequests.{asks_cancel}
 use Rattle.console_lines.specs.Words.{lent}
 use Rattle.console_lines.proofs.WordLemmas.{rest_is}
 use Rattle.console_lines.proofs.cancel_lines.cancel_line.Goals as goal

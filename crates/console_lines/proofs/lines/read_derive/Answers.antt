@@ -1,6 +1,6 @@
 use Rattle.std.specs.Prelude.{Some}
 use Rattle.std.proofs.Common.{◌∙◌, ap}
-use Rattle.console_lines.specs.Asked.{wish_of}
+use Rattle.console_lines.specs.LineRequests.{wish_of}
 use Rattle.console_lines.specs.Words.{words_in, lent}
 use Rattle.console_lines.proofs.WishLemmas.{derive_wished}
 use Rattle.console_lines.proofs.lines.read_derive.Goals as goal

@@ -1,6 +1,6 @@
 use Rattle.std.proofs.Common.{sym, ap}
 use Rattle.std.specs.Option.{option_map}
-use Rattle.console_lines.specs.Asked.{judged}
+use Rattle.console_lines.specs.LineRequests.{judged}
 use Rattle.console_lines.proofs.WordLemmas.{alone_more}
 use Rattle.console_lines.proofs.wishes.read_alone.Goals as goal
 

@@ -1,6 +1,6 @@
 use Rattle.std.proofs.Common.{◌≡◌, ◌∙◌, ℕ, arith, inl, inr, refl, subst, vec_len}
 use Rattle.std.specs.Prelude.{None, Some}
-use Rattle.run_console.specs.Crews.{CrewEnds}
+use Rattle.run_crew.specs.Crews.{CrewEnds}
 use Rattle.night_program.specs.Crews.{IsLooked, IsOpen}
 use Rattle.night_program.proofs.Looking.{found_is, looked_first, looked_not}
 use Rattle.night_program.proofs.crews.crew_file.Goals as goal
@@ -53,7 +53,7 @@ returns-in-Err-unknown_on g c =
           (
             c.failed_over.result,
             refl,
-            c.failed_over.ensures.fault ∙ c.stopped.ensures,
+            c.failed_over.ensures.fault ∙ c.from-in-Err-unknown_on.ensures,
             c.failed_over.ensures.file,
           ),
         );

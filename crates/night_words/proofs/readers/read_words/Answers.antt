@@ -7,8 +7,8 @@ use Rattle.night_words.proofs.AnswerLemmas.{error_asks_nothing, error_is_answere
 use Rattle.night_words.proofs.AnswerLemmas.{error_is_no_clash}
 use Rattle.night_words.proofs.readers.read_words.Goals as goal
 
-pub asked_of-requires : goal.asked_of-requires
-asked_of-requires c =
+pub request_of-requires : goal.request_of-requires
+request_of-requires c =
     command_is_named (app_of c.in-Ok.command) (map string_bytes c.args.words.now)
     c.in-Ok-try_get_matches_from.matches c.in-Ok.ensures
     c.in-Ok-try_get_matches_from.ensures.kinds c.in-Ok-try_get_matches_from.ensures.matches
@@ -19,7 +19,7 @@ returns-in-Ok-try_get_matches_from-clause-answer c =
     command_is_answer (app_of c.in-Ok.command) (map string_bytes c.args.words.now)
     c.in-Ok-try_get_matches_from.matches c.in-Ok.ensures
     c.in-Ok-try_get_matches_from.ensures.kinds c.in-Ok-try_get_matches_from.ensures.matches
-    c.asked_of.result c.asked_of.ensures
+    c.request_of.result c.request_of.ensures
 
 pub returns-in-Ok-try_get_matches_from-clause-asks
     : goal.returns-in-Ok-try_get_matches_from-clause-asks
@@ -27,7 +27,7 @@ returns-in-Ok-try_get_matches_from-clause-asks c =
     command_is_asked (app_of c.in-Ok.command) (map string_bytes c.args.words.now)
     c.in-Ok-try_get_matches_from.matches c.in-Ok.ensures
     c.in-Ok-try_get_matches_from.ensures.kinds c.in-Ok-try_get_matches_from.ensures.matches
-    c.asked_of.result c.asked_of.ensures
+    c.request_of.result c.request_of.ensures
 
 pub returns-in-Err-clause-answer : goal.returns-in-Err-clause-answer
 returns-in-Err-clause-answer c =
@@ -45,7 +45,7 @@ returns-in-Ok-try_get_matches_from-clause-cause c =
     command_is_cause (app_of c.in-Ok.command) (map string_bytes c.args.words.now)
     c.in-Ok-try_get_matches_from.matches c.in-Ok.ensures
     c.in-Ok-try_get_matches_from.ensures.kinds c.in-Ok-try_get_matches_from.ensures.matches
-    c.asked_of.result c.asked_of.ensures
+    c.request_of.result c.request_of.ensures
 
 pub returns-in-Err-clause-cause : goal.returns-in-Err-clause-cause
 returns-in-Err-clause-cause c =

@@ -1,4 +1,4 @@
-use Rattle.console_lines.specs.Inspected.{lines_below}
+use Rattle.state_views.specs.Inspected.{lines_below}
 use Rattle.state_views.specs.Forms.{text_of}
 use Rattle.state_views.specs.Sheets.{Adds}
 use Rattle.state_views.proofs.forms.add_rows.Given as goal

@@ -1,8 +1,8 @@
 use Rattle.std.specs.Option.{option_map_or}
 use Rattle.std.specs.Prelude.{◌≡◌, ◌≤◌, false}
 use Rattle.run_model.specs.Questions.{task_look_of}
-use Rattle.console_lines.specs.Inspected.{count_below}
-use Rattle.console_lines.specs.Summaries.{is_in_phase}
+use Rattle.state_views.specs.Inspected.{count_below}
+use Rattle.state_views.specs.Summaries.{is_in_phase}
 use Rattle.state_views.proofs.summaries.tasks_in.Given as goal
 
 -- So many of the first ones are.

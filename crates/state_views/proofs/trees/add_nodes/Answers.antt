@@ -1,7 +1,7 @@
 use Rattle.std.proofs.Common.{◌≡◌, ◌∷◌, ◌∙◌, ℕ, List, Option, IfSome, subst, sym}
-use Rattle.console_lines.specs.Branches.{nodes_of}
-use Rattle.console_lines.specs.Walks.{AreRising, IsAt, drawn_from, drawn_next}
-use Rattle.console_lines.proofs.StateTrees.{nodes_rise}
+use Rattle.state_views.specs.Branches.{nodes_of}
+use Rattle.state_views.specs.Walks.{AreRising, IsAt, drawn_from, drawn_next}
+use Rattle.state_views.proofs.StateTrees.{nodes_rise}
 use Rattle.state_views.proofs.Drawing.{IsDrawnTo, drawn_first, drawn_more}
 use Rattle.state_views.proofs.trees.add_nodes.Goals as goal
 

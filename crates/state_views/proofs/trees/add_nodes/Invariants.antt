@@ -1,5 +1,5 @@
 use Rattle.std.proofs.Common.{length}
-use Rattle.console_lines.specs.Walks.{drawn_next}
+use Rattle.state_views.specs.Walks.{drawn_next}
 use Rattle.state_views.proofs.Drawing.{IsDrawnTo}
 use Rattle.state_views.proofs.trees.add_nodes.Given as goal
 

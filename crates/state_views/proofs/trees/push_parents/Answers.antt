@@ -1,6 +1,6 @@
 use Rattle.std.proofs.Common.{ap, arith, length}
-use Rattle.console_lines.proofs.StateTrees.{within_nodes}
-use Rattle.state_views.specs.declared.rows.Rows.TheVariants.{Scopes, Groups}
+use Rattle.state_views.proofs.StateTrees.{within_nodes}
+use Rattle.state_views.specs.declared.row_kinds.RowKind.TheVariants.{Scopes, Groups}
 use Rattle.state_views.proofs.Drawing.{branches_are, grown, parents_are}
 use Rattle.state_views.proofs.trees.push_parents.Goals as goal
 

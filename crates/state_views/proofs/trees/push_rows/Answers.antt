@@ -1,5 +1,5 @@
 use Rattle.std.proofs.Common.{◌<◌, ◌∙◌, sym, ap, length, arith, append-nil, ◌++◌, take_all}
-use Rattle.state_views.specs.Rows.{parents_in}
+use Rattle.state_views.specs.RowKinds.{parents_in}
 use Rattle.state_views.proofs.Drawing.{as_many, has_one, one_fits, one_pushed}
 use Rattle.state_views.proofs.trees.push_rows.Goals as goal
 use Rattle.state_views.proofs.trees.push_rows.Goals.{in-Some, in_default}

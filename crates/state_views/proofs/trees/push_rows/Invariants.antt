@@ -1,5 +1,5 @@
 use Rattle.std.proofs.Common.{◌≡◌, ◌++◌, take}
-use Rattle.state_views.specs.Rows.{parents_in}
+use Rattle.state_views.specs.RowKinds.{parents_in}
 use Rattle.state_views.proofs.trees.push_rows.Given as goal
 
 -- The parents of the first ones were appended.

@@ -40,7 +40,7 @@ returns g c =
             (
               w.failed_over.result,
               refl,
-              w.failed_over.ensures.fault ∙ w.stopped.ensures,
+              w.failed_over.ensures.fault ∙ w.from.ensures,
               w.failed_over.ensures.file,
             ),
           ),

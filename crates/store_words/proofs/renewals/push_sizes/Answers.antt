@@ -1,10 +1,7 @@
-use Rattle.console_lines.proofs.Gathered.{gathers_then, gathers_three}
+use Rattle.console_lines.proofs.Appending.{◌followed_by◌}
 use Rattle.store_words.proofs.renewals.push_sizes.Goals as goal
 
 pub returns : goal.returns
 returns g c =
-    gathers_then _ _ _ _ _ _ _ c.push.ensures
-    (gathers_then _ _ _ _ _ _ _ c.push_number.ensures
-    (gathers_then _ _ _ _ _ _ _ c.push_left.ensures
-    (gathers_three _ _ _ _ _ _ _ _ _ _
-    c.push_left-2.ensures c.push_left-3.ensures c.push-2.ensures)))
+    c.push_number.ensures followed_by c.push_left.ensures followed_by c.push_left-2.ensures
+    followed_by c.push_left-3.ensures followed_by c.push.ensures

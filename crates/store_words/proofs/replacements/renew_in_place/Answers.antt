@@ -17,7 +17,7 @@ returns-in_default g c =
         answers = (
           c.failed_over.result,
           refl,
-          c.failed_over.ensures.fault ∙ c.stopped.ensures,
+          c.failed_over.ensures.fault ∙ c.from.ensures,
           c.failed_over.ensures.file,
         );
       },
@@ -61,7 +61,7 @@ pub returns : goal.returns
 returns g c =
     inr (inl (
       inr (inr (
-        (c.not_had.result, refl, c.not_had.ensures),
+        (c.unopened.result, refl, c.unopened.ensures),
         c.in-Ok.opened.disk,
         record {
           opened = c.open.new.self;

@@ -14,4 +14,4 @@ returns-in-Ok g c =
     )
 
 pub returns-in-Err : goal.returns-in-Err
-returns-in-Err g c = inr (c.in-Err.fault, ap Err c.stopped.ensures, c.in-Err.ensures, refl)
+returns-in-Err g c = inr (c.in-Err.fault, ap Err c.from.ensures, c.in-Err.ensures, refl)

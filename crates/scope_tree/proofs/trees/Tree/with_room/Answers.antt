@@ -2,9 +2,9 @@ use Rattle.run_model.proofs.Common.{◌≡◌, ◌∷◌, length, [], true, is_n
 use Rattle.run_model.proofs.Common.{◌∙◌, arith, bytes_eq, is_root, false≢true, root}
 use Rattle.std.specs.List.{position}
 use Rattle.run_model.specs.declared.scopes.Scope.{Scope}
-use Rattle.tree_index.specs.Rows.{Numbered}
+use Rattle.scope_tree.specs.IndexedRows.{Numbered}
 use Rattle.scope_tree.proofs.Rooting.{root_pushed, root_sound, one_fits}
-use Rattle.scope_tree.proofs.Sounding.{tree_of, sound_fields, rows_are, room_is}
+use Rattle.scope_tree.proofs.Sounding.{tree_of, sound_fields, rows_are, capacity_is}
 use Rattle.scope_tree.proofs.trees.Tree.with_room.Goals as goal
 
 pub push-requires-clause-room : goal.push-requires-clause-room
@@ -12,8 +12,8 @@ push-requires-clause-room g c =
     omega (
       arith,
       ap (λ (r : Numbered). length r.rows) c.in-Ok.ensures,
-      ap (λ (r : Numbered). r.room) c.in-Ok.ensures,
-      c.most_scopes-room.ensures.value,
+      ap (λ (r : Numbered). r.capacity) c.in-Ok.ensures,
+      c.most_scopes-capacity.ensures.value,
       one_fits c.args.layout,
     )
 
@@ -33,5 +33,5 @@ invariant_of-result g c =
     (ap (λ (r : Numbered). r.rows) c.in-Ok.ensures) c.new-root.ensures c.name_copy.ensures in
     sound_fields (tree_of c.args.layout c.moment_of.result (root ∷ [])) _ _ rows
     (root_sound c.args.layout c.moment_of.result)
-    (room_is _ _ c.push.ensures ∙ ap (λ (r : Numbered). r.room) c.in-Ok.ensures
-    ∙ c.most_scopes-room.ensures.value)
+    (capacity_is _ _ c.push.ensures ∙ ap (λ (r : Numbered). r.capacity) c.in-Ok.ensures
+    ∙ c.most_scopes-capacity.ensures.value)

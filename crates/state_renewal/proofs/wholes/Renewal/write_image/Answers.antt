@@ -5,7 +5,7 @@ use Rattle.row_view.specs.Image.{group_bytes, head_bytes, in_version, scope_byte
 use Rattle.row_view.specs.Writing.{put_at}
 use Rattle.row_view.proofs.Joins.{put_then}
 use Rattle.state_renewal.specs.Renewed.{renewed}
-use Rattle.run_state.proofs.Imaging.{written}
+use Rattle.run_session.proofs.Imaging.{written}
 use Rattle.state_renewal.proofs.Renewing.{renewed_image, room_there}
 use Rattle.state_renewal.proofs.wholes.Renewal.write_image.Goals as goal
 

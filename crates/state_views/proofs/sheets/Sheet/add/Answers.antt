@@ -8,7 +8,7 @@ returns-then-self g c =
 
 pub returns : goal.returns
 returns g c =
-    adds_tried c.gather_bytes.result c.args.bytes.now c.args.self.now _
-    (g.W.Write.contents c.args.output.now) (g.W.Write.contents c.gather_bytes.new.output)
-    c.if-self.false c.is_err-self.ensures.value c.gather_bytes.ensures.told
-    c.gather_bytes.ensures.cut
+    adds_tried c.append_bytes.result c.args.bytes.now c.args.self.now _
+    (g.W.Write.contents c.args.output.now) (g.W.Write.contents c.append_bytes.new.output)
+    c.if-self.false c.is_err-self.ensures.value c.append_bytes.ensures.buffered
+    c.append_bytes.ensures.cut

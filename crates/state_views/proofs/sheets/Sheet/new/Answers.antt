@@ -7,4 +7,4 @@ pub returns : goal.returns
 returns g c = λ w.
     let first = first_of c.args.form c.args.state.now in
     holds_first first _ w refl
-    (c.gather_first.ensures ∙ ap (λ t. t ++ first) c.new-gathered.ensures)
+    (c.append_first.ensures ∙ ap (λ t. t ++ first) c.new-buffer.ensures)

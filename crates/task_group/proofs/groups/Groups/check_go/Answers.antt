@@ -18,5 +18,5 @@ returns-in_err-check_open g c job argument count tree =
 pub returns : goal.returns
 returns g c job argument count tree =
     let w = c.args.self.now in
-    c.check_task_room.ensures
+    c.check_task_capacity.ensures
     ∙ tested_then (opens w c.args.group) (room w) (Ok tt) c.in_ok-check_open.ensures.first

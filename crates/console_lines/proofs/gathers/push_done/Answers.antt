@@ -1,6 +1,0 @@
-use Rattle.console_lines.proofs.Gathered.{◌followed_by◌}
-use Rattle.console_lines.proofs.gathers.push_done.Goals as goal
-
-pub returns : goal.returns
-returns g c =
-    c.push_deadline.ensures followed_by c.push_ending.ensures

@@ -1,7 +1,0 @@
-use Rattle.console_lines.proofs.Gathered.{◌followed_by◌}
-use Rattle.console_lines.proofs.gathers.push_tally.Goals as goal
-
-pub returns : goal.returns
-returns g c =
-    c.push_name.ensures followed_by c.push_count.ensures followed_by
-    c.push_count-2.ensures followed_by c.push_count-3.ensures followed_by c.push_count-4.ensures

@@ -1,8 +1,0 @@
-use Rattle.std.proofs.Common.{◌≡◌, drop}
-use Rattle.console_lines.specs.Trees.{behind, places_of}
-use Rattle.console_lines.proofs.walks.first_after.Given as goal
-
--- The places up to this one have another parent.
-abbrev pub invariant-loop-place : goal.invariant-loop-place
-invariant-loop-place l =
-    behind l.parents l.node l.parent ≡ places_of l.parent l.place (drop l.place l.parents)

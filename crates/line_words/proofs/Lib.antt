@@ -1,3 +1,0 @@
-mod Begins
-pub mod LineLemmas
-mod TimedLemmas

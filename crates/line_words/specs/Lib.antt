@@ -1,4 +1,0 @@
-pub mod Demos
-pub mod Lasting
-pub mod Scripts
-pub mod Timed

@@ -1,0 +1,71 @@
+-- A book over a new store begins as a newly opened session, and so does the demo's.
+use Rattle.std.specs.Prelude.{◌≡◌, ℕ, List, Option, Result, Ok, Err}
+use Rattle.std.specs.Global.{Global}
+use Rattle.std.proofs.Common.{arith, refl, ap, inl, inr, ◌∙◌}
+use Rattle.run_model.specs.declared.faults.Fault.{Fault}
+use Rattle.run_model.specs.declared.faults.Fault.TheVariants as fault
+use Rattle.run_model.specs.declared.layouts.Layout.{Layout}
+use Rattle.run_model.specs.declared.layouts.Layout.TheVariants.{Small, Large}
+use Rattle.run_model.specs.Layouts.{store_len}
+use Rattle.run_model.specs.Session.{opened, begun_at}
+use Rattle.run_model.specs.State.{formatted}
+use Rattle.run_disk.specs.declared.memory_disks.MemoryDisk.{MemoryDisk}
+use Rattle.run_disk.specs.Disk.{DiskState, IsDisk}
+use Rattle.run_disk.specs.MemoryDisks.{state_of}
+use Rattle.book_model.specs.Books.{BookView}
+use Rattle.book_model.specs.Openings.{HasFormatted}
+use Rattle.book_model.specs.Stores.{restarted}
+use Rattle.book_model.proofs.Storing.{stores_one}
+use Rattle.console_lines.specs.declared.faults.RunFault.{RunFault}
+use Rattle.console_lines.specs.declared.rejections.RejectedLine.{RejectedLine}
+use Rattle.console_lines.specs.Faults.{stopped}
+use Rattle.run_console.specs.declared.untils.Until.{Until}
+use Rattle.night_program.specs.Demos.{DemoEnds, IsNew, IsUnopened}
+use Rattle.night_program.specs.Scripts.{RunsOver, ScriptEnds}
+
+-- The number of bytes tells the layout.
+small_is : (size : ℕ) (layout : Layout)
+    → size ≡ store_len layout → size ≡ store_len Small → layout ≡ Small
+small_is size Small is small = refl
+small_is size Large is small = absurd (omega (arith, is, small))
+
+pub made_new : (first given : DiskState) → IsDisk given → first.honest
+    → first.size ≡ store_len Small → HasFormatted first given → IsNew given
+made_new first given is_disk honest size made =
+    let then = made.passed.honest honest in (
+      then,
+      rw (← small_is first.size made.layout made.sized size)
+          (made.stores honest given.now (is_disk.now_is_image then)),
+    )
+
+begins : {D : Type 0} {Ran : BookView D → BookView D → Type 0} (state : D → DiskState)
+    (given left : D) (over : RunsOver state Ran given left) → IsNew (state given)
+    → over.before.session ≡ opened Small
+begins state given left over new =
+    let is = over.opened.answer in
+    let start : over.before.session.start ≡ restarted (formatted Small) =
+    ap (λ s. s.start) is.opened.session ∙ ap restarted (stores_one (state given).now is.stored
+    (formatted Small) (is.found.stores new.0) new.1) in
+    over.begun ∙ ap begun_at start
+
+pub unopened : (why : Fault) → IsUnopened (stopped why)
+unopened fault.Memory = tt
+unopened fault.WrongSize = tt
+unopened fault.DiskFailed = tt
+unopened fault.NotAStore = tt
+unopened fault.BadSlot = tt
+unopened fault.BadImage = tt
+unopened fault.BadBatch = tt
+unopened fault.BadRecord = tt
+unopened fault.BadEvent = tt
+unopened fault.NumbersSpent = tt
+
+pub demo_ends : (until : Until) (r : Result (Option RejectedLine) RunFault)
+    (given left : MemoryDisk Global) (r0 r1 w0 w1 : Option (List ℕ)) → IsNew (state_of given)
+    → ScriptEnds state_of until given r left r0 r1 w0 w1 → DemoEnds until r r0 r1 w0 w1
+demo_ends until (Ok stray) given left r0 r1 w0 w1 new (inl over) =
+    (over.before, over.after, begins state_of given left over new, over.runs)
+demo_ends until (Err why) given left r0 r1 w0 w1 new (inl over) =
+    inr (over.before, over.after, begins state_of given left over new, over.runs.0)
+demo_ends until r given left r0 r1 w0 w1 new (inr (why, told, opens, unread, quiet)) =
+    rw told (inl (unopened why, unread, quiet))

@@ -1,4 +1,0 @@
-use Rattle.run_console.proofs.crews.crew.Goals as goal
-
-pub returns : goal.returns
-returns g c = (c.crew_over-done.result.1, c.crew_over-done.ensures)

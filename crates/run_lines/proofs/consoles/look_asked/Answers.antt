@@ -1,9 +1,0 @@
-use Rattle.std.proofs.Common.{sym}
-use Rattle.run_lines.proofs.Looks.{looked}
-use Rattle.run_lines.proofs.consoles.look_asked.Goals as goal
-
-pub returns : goal.returns
-returns g c =
-    looked c.args.state.now c.args.line.now c.in_ok-scope_word.field-0.now c.in_ok-scope.scope
-    c.look_view.result (sym c.in_ok-scope_word.ensures) c.in_ok-scope.ensures.name
-    (sym c.in_ok-scope.ensures.scope) c.look_view.ensures.look c.look_view.ensures.text

@@ -1,7 +1,0 @@
-use Rattle.std.proofs.Common.{◌≡◌, take}
-use Rattle.console_lines.specs.Tallies.{tallies_of}
-use Rattle.run_lines.proofs.tallies.count_tasks.Given as goal
-
--- The first tasks were counted.
-abbrev pub invariant-loop-task : goal.invariant-loop-task
-invariant-loop-task g l = l.tallies ≡ tallies_of (take l.task l.state.work.tasks)

@@ -1,3 +1,0 @@
-pub mod Asked
-pub mod Lasting
-pub mod Shown

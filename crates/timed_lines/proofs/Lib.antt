@@ -1,4 +1,0 @@
-pub mod Clocks
-pub mod Taken
-pub mod Told
-pub mod Woven

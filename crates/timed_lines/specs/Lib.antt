@@ -1,4 +1,0 @@
-pub mod Forward
-pub mod Timed
-pub mod Times
-pub mod Weaving

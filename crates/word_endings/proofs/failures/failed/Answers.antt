@@ -1,4 +1,0 @@
-use Rattle.word_endings.proofs.failures.failed.Goals as goal
-
-pub returns-in-Store-clause-file : goal.returns-in-Store-clause-file
-returns-in-Store-clause-file g c = rw c.in-Store.is (c.file_failed.ensures c.in-Store.field-0)
