@@ -16,10 +16,9 @@ from typing import TextIO
 import kit as needs
 import machine
 from crates import PARTS, Crate, crates_of, sum_of, sum_of_text
-from figures import GB, Figure, Figures, kept_file
 from kit import Kit
 from lanes import Lanes, Step
-from meter import Meter
+from meter import GB, Figure, Figures, Meter, Of
 from progress import Progress, minutes
 from schedule import length
 
@@ -54,7 +53,7 @@ class Build:
             raise Missing(f"crates.txt has no crate {PROGRAM}")
         self.program = found[0]
         self.crates = [*self.program.below(), self.program]
-        self.figures = Figures(kept_file(self.way), self.factor)
+        self.figures = Figures(self.way, self.factor)
         self.took, self.told = 0.0, 0.0  # of crates that ended, by the clock and by the figures
 
     def begin(self) -> None:
@@ -139,7 +138,7 @@ class Build:
 
     def end(self, crate: Crate, took: float, is_new: bool) -> None:
         """Says that a crate is proved, and keeps its figures if that was from nothing."""
-        spent = self.meter.seconds(crate.name, "proof")
+        spent = self.meter.seconds(crate.name, Of.PROOF)
         self.progress.end(crate.name, f"proved in {took:.0f} s ({spent:.0f} processor seconds)")
         if is_new and spent:
             self.took, self.told = self.took + took, self.told + self.figures.of(crate.name).clock
@@ -246,19 +245,22 @@ class ByRt(Build):
         return self.well
 
     def check_all(self) -> None:
-        """Has `rt` check all crates, and says of each how it ended."""
-        crates, loose = {it.name: it for it in self.left}, ""
+        """Has `rt` check all crates, and says of each how it ended: at its verdict, or at the
+        summary, since a library that was checked in another checkout gets no verdict here."""
+        crates, undecided, loose = {it.name: it for it in self.left}, dict[str, str](), ""
         with needs.check_all(self.kit, self.program, self.lanes_by_memory()) as ran:
             assert ran.stdout
             for name, said in sections(ran.stdout):
                 if name == "summary":
-                    self.read_summary(said, crates)
+                    self.read_summary(said, crates, undecided)
                 if name not in crates:
                     loose += said
-                elif name not in self.well and said:
+                elif name not in self.well and "\nlogic=" in f"\n{said}":
                     self.end_section(crates[name], said)
+                elif name not in self.well:
+                    undecided[name] = said
         if ran.returncode and False not in self.well.values():
-            self.end_badly(self.program, loose)
+            self.end_badly(self.program, "".join([loose, *undecided.values()]))
 
     def lanes_by_memory(self) -> int:
         """Returns how many crates fit side by side: `rt all check` doesn't look at memory."""
@@ -286,12 +288,14 @@ class ByRt(Build):
         self.well[crate.name] = False
         self.progress.end(crate.name, f"NOT BUILT{self.why(log, None)}")
 
-    def read_summary(self, said: str, crates: dict[str, Crate]) -> None:
-        """Reads which crates are well, those among them of which nothing was left to do."""
+    def read_summary(self, said: str, crates: dict[str, Crate], undecided: dict[str, str]) -> None:
+        """Reads how crates ended that got no verdict, of which something or nothing was said."""
         for line in said.splitlines():
             name, _, how = line.partition(": ")
             if name in crates and name not in self.well and how == "ok":
                 self.end_section(crates[name], "logic=proved")
+            elif name in crates and name not in self.well and how.startswith("failed"):
+                self.end_badly(crates[name], undecided.get(name, ""))
 
     def run_program(self) -> bool:
         log = f"{self.program.folder}/out/build.log"

@@ -7,7 +7,7 @@ from __future__ import annotations
 import hashlib
 import os
 import re
-from collections.abc import Iterator
+from collections.abc import Callable, Iterator
 from dataclasses import dataclass, field
 
 PARTS = ("src", "specs", "proofs")
@@ -107,15 +107,20 @@ def sum_of(path: str) -> str:
         return "none"
 
 
-def sum_of_text(crate: Crate, known: dict[str, str] | None = None) -> str:
-    """Returns the checksum of all texts that a proof of the crate goes by. Sums that were taken a
-    moment ago can be given, and are added to."""
+def bytes_of(path: str) -> bytes:
+    with open(path, "rb") as file:
+        return file.read()
+
+
+def sum_of_text(crate: Crate, known: dict[str, str] | None = None,
+                read: Callable[[str], bytes] = bytes_of) -> str:
+    """Returns the checksum of all texts that a proof of the crate goes by, as `read` reads them.
+    Sums that were taken a moment ago in the same way can be given, and are added to."""
     known = {} if known is None else known
     if crate.name not in known:
         found = hashlib.sha256(crate.row.encode())
         for path in crate.files():
-            with open(path, "rb") as file:
-                found.update(repr((os.path.relpath(path, crate.folder), file.read())).encode())
-        found.update(repr([sum_of_text(it, known) for it in crate.deps]).encode())
+            found.update(repr((os.path.relpath(path, crate.folder), read(path))).encode())
+        found.update(repr([sum_of_text(it, known, read) for it in crate.deps]).encode())
         known[crate.name] = found.hexdigest()
     return known[crate.name]

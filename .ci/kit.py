@@ -146,45 +146,21 @@ def run_program(kit: Kit, crate: Crate, jobs: int, out: IO[str]) -> int:
     return guard.run([kit.rt, "run", "--jobs", str(jobs), "--", "--version"], crate.folder, out)
 
 
-# Steps of the gate, each by itself
+# The modules of a proof
 
 
-def lacks_checks(kit: Kit) -> str:
-    """Returns what the kit lacks for a check of changed texts over what an earlier one kept."""
-    words = (*CHECK, "--incremental", "--test", "--progress", "--only")
-    return kit.lacks("check", words, FOR_A_CHECK)
+def lacks_parts(kit: Kit) -> str:
+    """Returns what the kit lacks for a check that keeps the modules of a proof."""
+    return kit.lacks("check", (*CHECK, "--incremental"), FOR_A_CHECK)
 
 
-def checked(kit: Kit, crate: Crate, texts: Mapping[str, str], kept: str = "") -> Ran:
-    """Returns how a check ends of a crate with these texts in place of its own, over built
-    libraries, and over what is kept in a folder, if one is given."""
-    words = [kit.rattle, "check", *words_for(kit, crate, 1)]
-    words += ["--incremental", kept] if kept else []
-    with tempfile.TemporaryDirectory(prefix="rt-edit-") as folder:
-        copy_parts(crate, folder)
-        for path, text in texts.items():
-            write(f"{folder}/{path}", text)
-        with guard.start(words, folder, subprocess.PIPE) as ran:
-            said, _ = ran.communicate()
-        return Ran(words, ran.returncode, said)
-
-
-def is_refused(ran: Ran) -> bool:
-    """Returns whether the prover refused a text, and didn't only fail to read it."""
-    return ran.returncode == 1 and "\nlogic=not-proved" in ran.stdout
-
-
-def check_of_tests(kit: Kit, crate: Crate, *more: str) -> subprocess.Popen[str]:
-    """Starts a check of a crate's tests over built libraries."""
-    words = [kit.rattle, "check", *words_for(kit, crate, 1), "--test", *more]
-    return guard.start(words, crate.folder, subprocess.PIPE)
-
-
-def by_rt(kit: Kit, folder: str, *words: str) -> Ran:
-    """Returns how a command of `rt` ends in a folder."""
-    with guard.start([kit.rt, *words], folder, subprocess.PIPE) as ran:
+def checked(kit: Kit, crate: Crate, kept: str) -> Ran:
+    """Returns how a check of a crate ends, over built libraries and what a folder keeps, and with
+    one job."""
+    words = [kit.rattle, "check", *words_for(kit, crate, 1), "--incremental", kept]
+    with guard.start(words, crate.folder, subprocess.PIPE) as ran:
         said, _ = ran.communicate()
-    return Ran(words, ran.returncode, said)
+        return Ran(words, ran.returncode, said)
 
 
 # A look at a crate without its proofs

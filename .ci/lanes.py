@@ -38,7 +38,7 @@ class Running(NamedTuple):
 class Lanes:
     """The steps that are left, those that run, and what these use."""
 
-    def __init__(self, steps: Mapping[str, Step], lanes: int, memory: float):
+    def __init__(self, steps: Mapping[str, Step], lanes: int, memory: float) -> None:
         self.steps, self.lanes, self.memory = steps, lanes, memory
         self.left, self.well = set(steps), dict[str, bool]()
         self.running: dict[Future[bool], Running] = {}

@@ -21,7 +21,7 @@ class Progress:
     """The steps that run and those that ended, of so many."""
 
     def __init__(self, total: int, left: Callable[[dict[str, float]], float],
-                 out: TextIO = sys.stdout):
+                 out: TextIO = sys.stdout) -> None:
         self.total, self.left, self.out = total, left, out
         self.running: dict[str, float] = {}
         self.ended: list[str] = []

@@ -2,7 +2,9 @@
 each was last refused.
 
 A mutant is a file crates/NAME/mutants/WHAT.edit. It stands on its own bytes, and on its crate and
-all below it: their lines of crates.txt, and each file of src/, specs/ and proofs/.
+all below it: their lines of crates.txt, and each file of src/, specs/ and proofs/, without the
+lines that are a comment and nothing else. A proof doesn't depend on those, so a sentence that is
+written better has no mutant tried again.
 """
 import hashlib
 import os
@@ -10,11 +12,14 @@ import re
 from collections.abc import Iterable, Mapping
 from typing import NamedTuple
 
-from crates import crates_of, sum_of_text
+from crates import bytes_of, crates_of, sum_of_text
 
 FILE = ".ci/mutants.tried"
 HEAD = ("# .ci/mutants alone writes this file: each mutant that the prover refused, after the sum of"
         " the text\n# that it stood on; last the sum of these lines.\n")
+
+
+COMMENTS = {".rt": b"//", ".antt": b"--"}
 
 
 class NotBelieved(Exception):
@@ -52,10 +57,18 @@ class Text:
 
     def sum_of(self, mutant: Mutant, folder: str = "mutants") -> str:
         """Returns the sum of all that a mutant stands on."""
-        whole = hashlib.sha256(sum_of_text(self.crates[mutant.crate], self.sums).encode())
+        text = sum_of_text(self.crates[mutant.crate], self.sums, without_comments)
+        whole = hashlib.sha256(text.encode())
         with open(f"{self.top}/{mutant.path(folder)}", "rb") as file:
             whole.update(file.read())
         return whole.hexdigest()[:32]
+
+
+def without_comments(path: str) -> bytes:
+    """Returns the lines of a file but those that are a comment and nothing else."""
+    mark = COMMENTS.get(os.path.splitext(path)[1])
+    lines = bytes_of(path).splitlines(keepends=True)
+    return b"".join(it for it in lines if not mark or not it.lstrip().startswith(mark))
 
 
 def sum_of_lines(text: str) -> str:
