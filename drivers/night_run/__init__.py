@@ -2,17 +2,24 @@
 
     words      the command line                    jobs        the file of commands
     state      what `inspect --json` prints        facts       what a night has so far
-    plan       what may be begun now (pure)        loop        the rules, and the loop
+    planner    what may be begun, by `night plan`  loop        the rules, and the loop
     night      the program `night`                 opening     a session, made ready for the loop
     commands   processes: begun, stopped, reaped   leftovers   those of a driver that was killed
-    far        commands that run elsewhere
+    far        commands that run elsewhere         outputs     what the commands print
     cancels    what another terminal asks for      renewal     of a store that is nearly full
     files      what lies beside the store          past, log   two of these files
     views      rows for a list and a report        summary     what is printed at the end
     exits      the one way out of a run            alarms      what is run as a night ends
-    signals    what asks for the end               terminal    standard error, never waited for
+    early      signals before a run listens        signals     what asks for the end
     keeping    what is kept of earlier nights      nights      when these began: STORE.nights
+    asking     that process                        timing      when deadlines pass, and the clock
+    standing   how commands stand, in words
+    scoping    the scopes of an opening            stopping    what has to end
+    restarts   whether another `night` follows     sight       whether the store is in its place
+    batches    lines that are sent together        terminal    standard error, never waited for
     mounts     looks that may never end            clock       whether the machine's is set
+    strangers  others who have the store open      foreign     files that aren't night-run's
+    raised     alarms that were given              descriptors how many files may be open
 
 docs/pipe.md has the rules that keep it safe, and docs/troubles.md its limits.
 """

@@ -1,20 +1,20 @@
-"""Every file beside a store is opened here, and the file of commands: nowhere else.
+"""Opens every file beside a store, and the file of commands. No other module opens them.
 
-Who runs a night trusts root and himself. So a file counts only if nobody else can have made it,
-written it, or put it in its place:
+Whoever runs a night trusts root, and nobody else. So a file counts only if nobody else can have
+made it, written it, or put it in its place:
 
-- **each folder** on the way to it belongs to who runs this or to root, and nobody else may write
-  there, or it is sticky, as /tmp is, where nobody takes away what is another's;
-- **the file** is a regular one, no link, has one name, belongs to who runs this or to root, and
-  nobody else may write it.
+- **each folder** on the way to it belongs to that user or to root, and nobody else may write there,
+  unless it is sticky, as /tmp is, where nobody can remove the files of others;
+- **the file** is a regular one, no link, has one name, belongs to that user or to root, and nobody
+  else may write it.
 
-What isn't so raises NotOurs, which names the file, its owner, its mode, and what to do. A group
-that has nobody but the owner in it is nobody else.
+Otherwise NotOurs is raised, which names the file, its owner, its mode, and what to do. A group
+whose only member is the owner counts as the owner.
 
-A file is opened in its folder's descriptor, with O_NOFOLLOW and O_NONBLOCK, and looked at before
-anything is done with it: it isn't emptied before, and a pipe in its place keeps nobody waiting.
-Files are made with the mode 0600 and folders with 0700; what an older driver made with more is
-tightened when it is opened to be written.
+A file is opened in the descriptor of its folder, with O_NOFOLLOW and O_NONBLOCK, and checked before
+anything is done with it: it isn't emptied before the check, and a pipe in its place makes nobody
+wait. Files are made with the mode 0600 and folders with 0700. If an older driver made a file with a
+wider mode, the mode is tightened when the file is opened for writing.
 """
 
 from __future__ import annotations
@@ -25,9 +25,13 @@ import errno
 import grp
 import os
 import pwd
+import re
 import stat
-from collections.abc import Iterator
+from collections.abc import Callable, Iterator
 from enum import Enum
+from typing import BinaryIO
+
+from . import Fault
 
 # The modes of what is made.
 FILE, FOLDER = 0o600, 0o700
@@ -35,7 +39,9 @@ FILE, FOLDER = 0o600, 0o700
 ALWAYS = os.O_NOFOLLOW | os.O_NONBLOCK | os.O_CLOEXEC
 # So often a file that somebody makes and takes away meanwhile is opened again.
 TIMES = 20
-# So many links may lie on the way to a file.
+# A file that is read whole has this many bytes at most.
+MOST_BYTES = 64 << 20
+# How many links may lie on the way to a file.
 MOST_LINKS = 40
 KINDS = {stat.S_IFDIR: "a folder", stat.S_IFLNK: "a link", stat.S_IFIFO: "a pipe",
          stat.S_IFSOCK: "a socket", stat.S_IFCHR: "a device", stat.S_IFBLK: "a device"}
@@ -64,6 +70,16 @@ class Part(Enum):
     FAR = ".far"
     FAILED = ".failed"
     MAKING = ".making"
+
+
+# What else may have the name of a store before its own.
+BESIDE = re.compile(rf"(?:{'|'.join(re.escape(it.value) for it in Part)}|\.renewing|\.log\.[0-9]+)"
+                    r"(?:\.new)?")
+
+
+def is_beside(name: str, store: str) -> bool:
+    """Whether a file of this name belongs to the store of that one."""
+    return name.startswith(store) and BESIDE.fullmatch(name[len(store):]) is not None
 
 
 # --- whose it is
@@ -116,7 +132,8 @@ def judge_file(found: os.stat_result, shown: str, at: int | str) -> None:
                              " its place, or move it away")
     judge_owner(found, shown, whose)
     if others_may_write(found, at):
-        raise NotOurs(shown, f"{whose}, so others may write it: if nobody has, chmod go-w {shown}")
+        raise NotOurs(shown, f"{whose}, so others may write it: if nobody has changed it,"
+                             f" chmod go-w {shown}")
 
 
 def judge_folder(found: os.stat_result, path: str) -> None:
@@ -135,8 +152,8 @@ def judge_owner(found: os.stat_result, shown: str, whose: str) -> None:
     if not is_trusted(found.st_uid):
         me = name_of(os.geteuid())
         trusted = me if me == "root" else f"{me} or root"
-        raise NotOurs(shown, f"{whose}, and this is run by {me}: run it as"
-                             f" {name_of(found.st_uid)}, or make it {trusted}'s")
+        raise NotOurs(shown, f"{whose}, and you are {me}: run night-run as"
+                             f" {name_of(found.st_uid)}, or give it to {trusted} (chown)")
 
 
 def is_unmapped(uid: int) -> bool:
@@ -158,7 +175,7 @@ def way_to(path: str) -> str:
     """The real path. Each folder and each link on the way is looked at, from the root on, so that
     nobody else can lead it elsewhere later. The last part need not be there."""
     at = "/"
-    left = collections.deque(os.path.abspath(path).split("/"))
+    left = collections.deque(from_root(path).split("/"))
     links = 0
     while left:
         part = left.popleft()
@@ -187,8 +204,19 @@ def way_to(path: str) -> str:
             continue
         if stat.S_ISDIR(found.st_mode):
             judge_folder(found, here)
+        elif left:
+            raise NotADirectoryError(errno.ENOTDIR, os.strerror(errno.ENOTDIR), here)
         at = here
     return at
+
+
+def from_root(path: str) -> str:
+    """A path from the root on, with each `..` in its place: after a link it is the folder above
+    that which the link leads to."""
+    try:
+        return path if path.startswith("/") else f"{os.getcwd()}/{path}"
+    except FileNotFoundError:
+        raise Fault(f"{path}: the folder in which night-run was started is gone") from None
 
 
 def open_commands(given: str) -> int:
@@ -284,8 +312,8 @@ class Folder:
             with contextlib.suppress(OSError):
                 found = self.stat(name)
             if found and error.errno == errno.ELOOP:
-                raise NotOurs(shown, f"it is a link of {name_of(found.st_uid)}'s: nothing beside a"
-                                     " store is one; remove it") from None
+                raise NotOurs(shown, f"it is a link of {name_of(found.st_uid)}'s: no file beside"
+                                     " a store may be a link; remove it") from None
             if found and (error.errno == errno.ENXIO or not is_trusted(found.st_uid)):
                 judge_file(found, shown, self.file)
             if found and error.errno in (errno.EACCES, errno.EPERM):
@@ -298,15 +326,18 @@ class Folder:
         """A descriptor of a file that is trusted. It is made where the flags have O_CREAT, and
         emptied, after it was looked at, where they have O_TRUNC. What is written is for its user
         alone from now on, unless it is left as it was found."""
-        with self.named(name):
-            file = self.opened(name, flags)
-            os.set_blocking(file, True)
-            try:
-                self.look_at(file, name, flags, as_found)
-            except BaseException:
+        for _ in range(TIMES):
+            with self.named(name):
+                file = self.opened(name, flags)
+                try:
+                    os.set_blocking(file, True)
+                    if self.look_at(file, name, flags, as_found):
+                        return file
+                except BaseException:
+                    os.close(file)
+                    raise
                 os.close(file)
-                raise
-            return file
+        raise NotOurs(self.shown_of(name), "its name is given to other files again and again")
 
     def opened(self, name: str, flags: int) -> int:
         wanted = flags & ~(os.O_CREAT | os.O_TRUNC | os.O_EXCL) | ALWAYS
@@ -323,20 +354,29 @@ class Folder:
                     raise
         raise FileNotFoundError(errno.ENOENT, os.strerror(errno.ENOENT), name)
 
-    def look_at(self, file: int, name: str, flags: int, as_found: bool) -> None:
+    def look_at(self, file: int, name: str, flags: int, as_found: bool) -> bool:
+        """Looks at a file that was opened by this name; whether it has that still. (Who had a
+        second name of it, and none now, didn't open it by the first.)"""
         found = os.fstat(file)
         judge_file(found, self.shown_of(name), file)
+        named = self.stat(name)
+        if named is None or not os.path.samestat(found, named):
+            return False
+        judge_file(named, self.shown_of(name), file)
         if flags & (os.O_WRONLY | os.O_RDWR) and not as_found:
             tighten(file, found, FILE)
         if flags & os.O_TRUNC and found.st_size:
             os.ftruncate(file, 0)
+        return True
 
     def read(self, name: str) -> bytes:
-        with open(self.open(name), "rb") as file:
-            return file.read()
+        """All of a file; OSError where it is larger than any file of a night."""
+        with open(self.open(name), "rb") as file, self.named(name):
+            return read_all(file)
 
-    def put(self, name: str, data: bytes) -> None:
-        """Puts a file with this in place of what has the name, whole and durable, or not at all."""
+    def put(self, name: str, data: bytes, may: Callable[[], bool] = lambda: True) -> None:
+        """Puts a file with this instead of what has the name, whole and durable, or not at all:
+        only if it may be once it is durable."""
         making = f"{name}.new"
         self.remove(making)
         file = self.open(making, os.O_WRONLY | os.O_CREAT | os.O_EXCL)
@@ -347,6 +387,9 @@ class Folder:
                     os.fsync(file)
                 finally:
                     os.close(file)
+            if not may():
+                self.remove(making)
+                return
             self.move(making, name)
         except OSError:
             with contextlib.suppress(OSError):
@@ -403,14 +446,23 @@ def judge_folder_beside(found: os.stat_result, shown: str, at: int) -> None:
     whose = f"it belongs to {name_of(found.st_uid)}, mode {mode_of(found)}"
     judge_owner(found, shown, whose)
     if others_may_write(found, at):
-        raise NotOurs(shown, f"{whose}, so others may put files there: if nobody has, chmod go-w"
-                             f" {shown}, or move it away")
+        raise NotOurs(shown, f"{whose}, so others may put files there: if nobody has done so,"
+                             f" chmod go-w {shown}; else move it away")
 
 
 def tighten(file: int, found: os.stat_result, mode: int) -> None:
     """Leaves others nothing of what is ours, as an older driver left it."""
     if found.st_uid == os.geteuid() and stat.S_IMODE(found.st_mode) & ~mode:
         os.fchmod(file, mode)
+
+
+def read_all(file: BinaryIO) -> bytes:
+    """All of a file, unless it is so large that nobody meant it."""
+    data = file.read(MOST_BYTES + 1)
+    if len(data) > MOST_BYTES:
+        raise OSError(errno.EFBIG, f"it has more than {MOST_BYTES >> 20} MB, and so is no file of"
+                                   " a night")
+    return data
 
 
 def write_all(file: int, data: bytes) -> None:

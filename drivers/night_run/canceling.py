@@ -1,8 +1,9 @@
-"""What `--cancel` does: the driver that runs is asked for it (`cancels`); where none runs, it is
-done here.
+"""What `--cancel` does. If a driver is active, it is asked to cancel (`cancels`); otherwise the
+cancel is done here.
 
-A group, or all groups together, is a scope of the store, which is cancelled. A command is none: a
-task of it ends as canceled before it begins. `--failed` runs again what was canceled either way.
+A group, or all groups together, is a scope of the store, and that scope is canceled. A command has
+no scope: a task of it is made, and ends as canceled before it begins. `--failed` runs again
+whatever was canceled in either way.
 """
 
 from __future__ import annotations
@@ -22,15 +23,17 @@ from .jobs import Jobs, check_group, check_key
 from .night import ALREADY_DONE, FULL, Session, refusal
 from .opening import advance, inspected, now_of, opened, withdraw
 from .past import read_past
-from .plan import CANCELLED, standings
+from .planner import Planner
 from .rounds import Role, base_of, role_name
 from .settings import OF_ALL, Wrong, short
+from .standing import CANCELLED
 from .state import JOB
+from .strangers import keep_out
 from .telling import note
 from .tries import running_now
 
 BY_HAND = "canceled by hand"
-# So many seconds a driver has to obey.
+# How many seconds a driver has to obey.
 SECONDS = 60.0
 LOOK = 0.05
 
@@ -58,7 +61,7 @@ def target_of(word: str) -> Target:
         if slash:
             check_key(key)
             if made.group == OF_ALL:
-                raise Wrong(f"the group {OF_ALL} is all groups together")
+                raise Wrong(f"the group {OF_ALL} stands for all groups")
     except Wrong as wrong:
         raise Mistake(f"--cancel {short(word)}: {wrong}") from None
     return made
@@ -98,9 +101,12 @@ def cancelled(files: Files, jobs: str | None, target: Target, why: str) -> str:
     finally:
         cancels.withdraw(files, request)
     if target.key:
-        raise Fault(f"{target} hasn't ended in {SECONDS:.0f} s; it was asked to")
-    raise Fault(f"the driver hasn't looked into {files.shown}.cancel in {SECONDS:.0f} s: {target}"
-                " is not canceled")
+        raise Fault(f"{target} was asked to end, and hasn't ended within {SECONDS:.0f} s")
+    if files.lock.holder() is None:
+        raise Fault(f"{files.shown}: in use by a night-run that isn't seen here, as one in a"
+                    f" container is: cancel {target} from there")
+    raise Fault(f"the active night-run hasn't read {files.shown}.cancel within {SECONDS:.0f} s:"
+                f" {target} is not canceled")
 
 
 class Alone:
@@ -155,7 +161,7 @@ class Alone:
         if target.name not in jobs.all:
             raise Mistake(cancels.no_command(target.group, target.key))
         facts = facts_of(self.state, self.past, {}, self.book, time.time(), {})
-        found = standings(jobs, facts)[target.name]
+        found = Planner(jobs).standings(facts)[target.name]
         if found.phase == CANCELLED:
             return found.why
         if found.is_final:
@@ -173,6 +179,7 @@ class Alone:
     @contextlib.contextmanager
     def opened(self) -> Iterator[Session]:
         """A session, whose events are durable at its end."""
+        keep_out(self.files)
         wake, wakes = os.pipe()
         try:
             session, self.state = opened(self.files, self.state, wake, lambda: 1e9)

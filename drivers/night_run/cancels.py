@@ -1,17 +1,17 @@
-"""STORE.cancel, a folder: what somebody at another terminal wants to have cancelled. Each process
-that waits for a cancel has a file in it, by its own name,
+"""STORE.cancel, a folder with the cancels that are asked for from other terminals. Each process
+that waits for a cancel has a file in it, named after the process,
 
     BOOT.PID.START             GROUP WHY, or GROUP/KEY WHY
 
-and once that is durable the driver puts the answer beside it, which the process takes away:
+Once the cancel is durable, the driver puts the answer beside it, and the process removes both:
 
     BOOT.PID.START.answer      GROUP ANSWER
 
-ANSWER is how the group's scope is then, or how the command ended; `-` where there is no such group,
-and `- ` with the reason where nothing is canceled. Each file is renamed into place whole. One
-counts while its process lives: what an earlier driver left is taken away, so that it doesn't cancel
-another night. Nobody else can open the folder, so nobody else cancels, and nobody forges an answer.
-(In the place of the folder an older driver had a file, which is taken away.)
+ANSWER is the state of the group's scope afterwards, or how the command ended; `-` if there is no
+such group, and `- ` with the reason if nothing is canceled. Each file is put in place whole, by a
+rename. A request counts while its process lives: requests from the time of an earlier driver are
+removed, so that they don't cancel another night. Nobody else can open the folder, so nobody else
+can cancel, or forge an answer. (An older driver had a file of this name, which is removed.)
 """
 
 from __future__ import annotations
@@ -59,7 +59,7 @@ def process_of(name: str) -> Process | None:
 
 @contextlib.contextmanager
 def opened(files: Files) -> Iterator[Folder]:
-    """The folder, which is made where it isn't there, or where an older driver's file is."""
+    """The folder, which is made if it isn't there, or if an older driver's file has its name."""
     found = files.stat(Part.CANCEL)
     if found and stat.S_ISREG(found.st_mode) and is_trusted(found.st_uid):
         files.remove(Part.CANCEL)
@@ -78,9 +78,9 @@ def read_request(folder: Folder, name: str, process: Process) -> Request | None:
 # --- why nothing is canceled
 
 def is_key(group: str, key: str) -> str:
-    """Why a reason that begins with a key of its group is none."""
-    return (f"{key} is a key of {group}: --cancel {group}/{key} cancels that command alone; a"
-            " reason for all of the group has to begin with another word")
+    """Why a reason that begins with a key of its group isn't taken as a reason."""
+    return (f"{key} is a key of {group}: --cancel {group}/{key} cancels that command alone; to"
+            f" cancel all of {group}, begin the reason with another word")
 
 
 def no_command(group: str, key: str) -> str:
@@ -94,17 +94,18 @@ def has_ended(group: str, key: str, how: str) -> str:
 # --- the driver
 
 class Desk:
-    """The driver's side of the folder. What can't be read or written is told once."""
+    """The driver's side of the folder. If something can't be read or written, that is reported
+    once."""
 
     def __init__(self, files: Files) -> None:
         self.files = files
 
     def failed(self, error: OSError) -> None:
         note_once(f"{error.filename or self.files.shown_of(Part.CANCEL)}: {error.strerror};"
-                  " no cancel is taken")
+                  " no cancel can be read")
 
     def pass_over(self) -> None:
-        """Takes away what nobody waits for any more, and makes the folder."""
+        """Removes requests and answers that nobody waits for any more, and makes the folder."""
         try:
             with opened(self.files) as folder:
                 for name in folder.names():
@@ -119,7 +120,8 @@ class Desk:
         request = read_request(folder, name, process) if process else None
         folder.remove(name)
         if request:
-            note_once(f"a cancel of {request.what} is passed over: who asked for it has gone")
+            note_once(f"a cancel of {request.what} is ignored: the process that asked for it has"
+                      " ended")
 
     def requests(self) -> list[Request]:
         """What is asked for now, and not answered yet."""
@@ -143,7 +145,8 @@ class Desk:
                 yield request
 
     def answer(self, done: Mapping[Request, str]) -> None:
-        """Answers requests, which are durable. Of one that was withdrawn nothing is left."""
+        """Answers requests, whose effects are durable. Nothing is left of one that was
+        withdrawn."""
         try:
             with contextlib.closing(self.files.below(Part.CANCEL)) as folder:
                 for request, answer in done.items():
@@ -164,7 +167,7 @@ def ask(files: Files, group: str, key: str, why: str) -> Request:
 
 
 def answered(files: Files, request: Request) -> str:
-    """The answer to a request, which is taken away with it; or an empty text."""
+    """The answer to a request, which is removed together with it; empty if there is none yet."""
     try:
         with contextlib.closing(files.below(Part.CANCEL)) as folder:
             text = folder.read(f"{request.name}{ANSWER}").decode("ascii", "replace")
@@ -175,7 +178,7 @@ def answered(files: Files, request: Request) -> str:
 
 
 def withdraw(files: Files, request: Request) -> None:
-    """Takes away a request, and what was answered."""
+    """Removes a request, and its answer."""
     with contextlib.suppress(FileNotFoundError), \
             contextlib.closing(files.below(Part.CANCEL)) as folder:
         folder.remove(request.name)

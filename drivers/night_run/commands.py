@@ -1,10 +1,10 @@
-"""A command that runs: how it is begun, stopped, and how it ended.
+"""A running command: how it is begun, how it is stopped, and how it ended.
 
-A command is begun by a shell that leads a session and a process group of its own. Just before the
-command begins it writes its process into the file of the try (`tries`), then waits for the command,
-and writes how that ended: so what runs is known there, and how it ended, also where its driver was
-killed meanwhile. What stops a group it outlives, but for SIGKILL. The command holds nothing of the
-driver's.
+A shell that leads a session of its own begins the command. Just before the command begins, it
+writes its process into the file of the try (`tries`). Then it waits for the command, and writes how
+that ended. So the file shows what runs and how it ended, even if the driver was killed meanwhile.
+The shell outlives what stops its session, except for SIGKILL. The command inherits nothing from the
+driver.
 """
 
 from __future__ import annotations
@@ -22,13 +22,14 @@ from .far import BEGUN, PATIENCE, Elsewhere, Far
 from .files import Files
 from .jobs import Job
 from .mounts import Folders, NoAnswer
-from .processes import boot, group_exists, group_lives, signal_group
+from .processes import (boot, group_exists, groups_in, session_exists, session_lives, signal_groups,
+                        signal_session)
 from .telling import note_once, told_of
 from .tries import Named, Told, Tries, naming
 
 SHELL = "/bin/sh"
 # Writes `process $1 PID START` into the file 8, runs the words after $2 in the folder $2, and
-# writes how they ended. What the shell itself tells stands there, too. (SIGINT isn't ignored by a
+# writes how they ended. What the shell itself prints stands there, too. (SIGINT isn't ignored by a
 # command in the foreground, as it would be in the background.)
 BEGINNING = """\
 exec 2>&8; trap : HUP INT QUIT USR1 USR2 PIPE ALRM TERM
@@ -42,9 +43,9 @@ LATER = (errno.EAGAIN, errno.ENOMEM, errno.EMFILE, errno.ENFILE, errno.ENOSPC, e
          errno.EROFS)
 # How a shell ends that can't be run itself, and how often in a row that is no reason to wait.
 NO_SHELL, MOST_MISSES = 127, 100
-# So many characters of a folder's path are told, the last ones.
+# How many characters of a folder's path are printed, the last ones.
 MOST_OF_PATH = 32
-# Behind SIGKILL so many seconds are given to a process group that doesn't go.
+# After SIGKILL a session that doesn't go is waited for this many seconds.
 STUCK = 5.0
 
 
@@ -53,7 +54,7 @@ class NotNow(Exception):
 
 
 class Running:
-    """A process group with a command, of this driver or of one that was killed."""
+    """A session with a command, of this driver or of one that was killed."""
 
     def __init__(self, job_name: tuple[str, str], pid: int) -> None:
         self.name, self.pid = job_name, pid
@@ -65,7 +66,7 @@ class Running:
 
     @property
     def is_here(self) -> bool:
-        """Whether its process group is surely its own."""
+        """Whether its session is surely its own."""
         return True
 
     def stop(self, why: End | None) -> None:
@@ -85,7 +86,7 @@ class Running:
             self.signal(signal.SIGKILL)
 
     def signal(self, which: signal.Signals) -> None:
-        signal_group(self.pid, which)
+        signal_session(self.pid, which)
 
     def is_late(self, grace: float) -> bool:
         """Whether one that was stopped is asked for no more, wherever it may run."""
@@ -109,6 +110,7 @@ class Command(Running):
         self.failure = ""  # why it couldn't be started
         self.is_gone = False
         self.left_since: float | None = None
+        self.is_clear = False  # whether nothing but its shell was left of it as that ended
         self.tries: Tries | None = None
         self.is_noted = False  # whether it stands in STORE.far
         self.put_off = ""  # why its shell couldn't begin it
@@ -124,7 +126,7 @@ class Command(Running):
                 "NIGHT_TRY": str(self.tried)}
 
     def begin(self, tries: Tries, events: int, far: Far, inherited: Mapping[str, str]) -> None:
-        """Begins it, in a store that has so many events; NotNow where the system has no room for
+        """Begins it, in a store that has this many events; NotNow where the system has no room for
         it."""
         self.began, self.since = time.time(), time.monotonic()
         folder, way = from_here(self.job.folder or ""), self.job.way
@@ -150,7 +152,8 @@ class Command(Running):
         except OSError as error:
             if error.errno in LATER:
                 raise NotNow(told_of(error)) from None
-            self.failure = error.strerror or str(error)
+            where = f"{end_of_path(str(error.filename))}: " if error.filename else ""
+            self.failure = f"{where}{error.strerror or error}"
         except ValueError as error:
             self.failure = str(error)
 
@@ -176,7 +179,7 @@ class Command(Running):
         """Begins the shell of these words, to which a file of its try is given."""
         with contextlib.ExitStack() as left:
             with naming(files.shown_of(Part.OUT)):
-                out = files.open_output(self.output, os.O_WRONLY | os.O_CREAT | os.O_TRUNC)
+                out = files.outputs.open(self.output, os.O_WRONLY | os.O_CREAT | os.O_TRUNC)
             left.callback(os.close, out)
             left.enter_context(Umask.restored())
             self.pid = os.posix_spawn(
@@ -219,7 +222,7 @@ class Command(Running):
         self.status = -signal.SIGKILL
 
     def poll(self, grace: float) -> bool:
-        """Whether it has ended, and its process group, too; and elsewhere, if it runs there."""
+        """Whether it has ended, and its session, too; and elsewhere, if it runs there."""
         if not self.is_gone and self.has_begun:
             if self.status is None:
                 self.reap()
@@ -260,15 +263,19 @@ class Command(Running):
             if os.waitid(os.P_PID, self.pid, os.WEXITED | os.WNOHANG | os.WNOWAIT) is None:
                 return
             self.took = time.monotonic() - self.since
+            groups = set() if self.may_leave else groups_in(self.pid)
             if not self.may_leave:
-                signal_group(self.pid, signal.SIGTERM)
+                signal_groups({self.pid, *groups}, signal.SIGTERM)
             self.status = os.waitstatus_to_exitcode(os.waitpid(self.pid, 0)[1])
+            if not groups and group_exists(self.pid):
+                groups = groups_in(self.pid)  # (what began while /proc was read was missed)
+            self.is_clear = not groups
         except ChildProcessError:
             self.took, self.status = time.monotonic() - self.since, -signal.SIGKILL
 
     def is_left_alone(self, grace: float) -> bool:
         """Whether nothing of its group is left; what doesn't go is killed."""
-        if not group_exists(self.pid):
+        if self.is_clear or not session_exists(self.pid):
             return True
         now = time.monotonic()
         if self.left_since is None:
@@ -276,12 +283,12 @@ class Command(Running):
         late = now - self.left_since - grace
         if late < 0:
             return False
-        signal_group(self.pid, signal.SIGKILL)
-        return not group_lives(self.pid) or late >= STUCK
+        signal_session(self.pid, signal.SIGKILL)
+        return not session_lives(self.pid) or late >= STUCK
 
     @property
     def is_lingering(self) -> bool:
-        """Whether it has ended, and its process group hasn't."""
+        """Whether it has ended, and its session hasn't."""
         return self.status is not None and not self.is_gone
 
     def end(self) -> End | None:

@@ -1,4 +1,4 @@
-"""How a try ended, and the one text that the store, STORE.log and STORE.ended have of that:
+"""How a try ended, and the one text that the store, STORE.log and STORE.ended have for that:
 
     ok                it succeeded
     canceled: WHY     a cancel or a deadline stopped it, or kept it from starting
@@ -6,9 +6,9 @@
     withdrawn         a task that was submitted and never started: it counts as if it weren't there
     WHY               it failed: `exit 3`, `signal 9`, `timeout 10m`, `can't be started: ..`, or
                       what its group's `ask` printed after `error`
-    error WHY         likewise, where WHY alone would be read as another end
+    error WHY         it failed, and WHY alone would be read as another end
 
-A text is 1 to 64 bytes of printable ASCII, as a store wants it; what is longer is cut.
+A text is 1 to 64 bytes of printable ASCII, as the store requires. A longer one is cut.
 """
 
 from __future__ import annotations
@@ -33,7 +33,8 @@ class Kind(enum.Enum):
 
 @dataclass(frozen=True)
 class End:
-    """How a try ended, and why, where it failed or was canceled. Two of one text are equal."""
+    """How a try ended, and, if it failed or was canceled, why. Two ends with the same text are
+    equal."""
 
     kind: Kind
     why: str = ""
@@ -57,7 +58,7 @@ class End:
 
     @property
     def words(self) -> str:
-        """What a line `finish` says of it."""
+        """How a line `finish` says it."""
         return "ok" if self.is_ok else f"{ERROR}{self.text}"
 
 
@@ -66,7 +67,7 @@ PLAIN = {it.kind.value: it for it in (OK, INTERRUPTED, WITHDRAWN)}
 
 
 def text_of(words: str, most: int = MOST) -> str:
-    """Words as a text of a store: printable ASCII, and so many bytes at most."""
+    """Words as a text of a store: printable ASCII, and at most this many bytes."""
     return re.sub(r"[^ -~]", "?", words)[:most] or "?"
 
 
@@ -75,7 +76,7 @@ def canceled(why: str) -> End:
 
 
 def failed(why: str) -> End:
-    """A failure. One whose text wants `error` before it loses as many bytes of its end."""
+    """A failure. If its text needs `error` before it, the text loses as many bytes at its end."""
     made = End(Kind.FAILED, text_of(why))
     return made if len(made.text) <= MOST else End(Kind.FAILED, made.why[:MOST - len(ERROR)])
 

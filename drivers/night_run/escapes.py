@@ -1,7 +1,8 @@
-"""Texts of others, as they are shown: a command, an output, a name of a file, a cancel's reason.
+"""Shows texts that others have written: a command, an output, the name of a file, the reason of a
+cancel.
 
-One may have what moves a terminal's cursor, sets its title, or turns the direction of what follows:
-each such character is shown as an escape instead.
+Such a text may contain characters that move a terminal's cursor, set its title, or change the
+direction of writing. Each of them is shown as an escape.
 """
 
 from __future__ import annotations
@@ -21,7 +22,7 @@ def plain(text: str) -> str:
 
 
 def plain_lines(text: str) -> str:
-    """Likewise of a text of several lines, which stay lines."""
+    """The same of a text of several lines, which stay lines."""
     return "\n".join(map(plain, text.split("\n")))
 
 

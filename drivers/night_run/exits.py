@@ -1,6 +1,6 @@
-"""The one way out of a run. Whatever a run came to is an Outcome; one that isn't all well is told
-to the command of `--on-failure` first, once, and printed then. So a standard output that is full or
-stalls keeps no alarm from being raised. By then the run has let its locks go.
+"""The one way out of a run. The result of a run is an Outcome. If it isn't all well, the command
+of `--on-failure` gets it first, once, and then it is printed. So the alarm is raised even if
+standard output is full or stalls. By then the run has released its locks.
 """
 
 from __future__ import annotations
@@ -11,7 +11,7 @@ import traceback
 from collections.abc import Mapping
 from dataclasses import dataclass, field, replace
 
-from . import Fault, Mistake, telling
+from . import Fault, Mistake, descriptors, raised, telling
 from .alarms import Alarm
 from .beside import write_all
 from .escapes import plain_lines
@@ -26,7 +26,7 @@ DEBUG = "NIGHT_DEBUG"
 
 @dataclass(frozen=True)
 class Outcome:
-    """What a run came to."""
+    """The result of a run."""
 
     status: int
     told: tuple[str, ...] = ()  # for standard error
@@ -35,7 +35,9 @@ class Outcome:
     left: int = 0  # those that are left
     has_run: bool = False  # whether there was something to do
     is_silent: bool = False  # whether nothing is printed
-    missed: int = 0  # commands of the night before that didn't end well, and are told of first now
+    missed: int = 0  # commands of the night before that didn't end well, and are reported first now
+    alarm: raised.Alarm | None = None  # what an alarm would be about, if it is of a whole night
+    is_given: bool = False  # whether an earlier run gave it
 
     @property
     def is_well(self) -> bool:
@@ -52,21 +54,22 @@ class Outcome:
 
 
 def outcome_of(error: BaseException) -> Outcome:
-    """What a run came to that this ended."""
+    """The result of a run that this ended."""
     if isinstance(error, Mistake):
         return Outcome(MISTAKE, tuple(str(error).split("\n")))
     return Outcome(FAULT, (said_of(error),))
 
 
 def said_of(error: BaseException) -> str:
-    """Why a run ended, in a line; with the place of an error that nobody foresaw if asked for."""
+    """Why a run ended, in a line; for an error that nobody foresaw with its place, if that is asked
+    for."""
     if isinstance(error, (Fault, NightEnded)):
         return str(error)
     if isinstance(error, KeyboardInterrupt):
         return "ended before it began"
     if isinstance(error, OSError) and not os.environ.get(DEBUG):
-        return f"{error.filename}: {error.strerror}" if error.filename else \
-            error.strerror or str(error)
+        return f"{error.filename}: {descriptors.why(error)}" if error.filename else \
+            descriptors.why(error)
     line = " ".join(f"{type(error).__name__}: {error}".split())
     if not os.environ.get(DEBUG):
         return f"an error that nobody foresaw: {line}; {DEBUG}=1 shows its place"
@@ -75,21 +78,27 @@ def said_of(error: BaseException) -> str:
 
 @dataclass
 class Hooks:
-    """The commands that are run as a night begins and ends."""
+    """The commands that are run when a night begins and when it ends."""
 
     store: str = ""
     signals: Signals | None = None
     alarms: Mapping[str, Alarm] = field(default_factory=dict)
+    has_failed: bool = False  # whether what is run at the end didn't end well
 
-    def run(self, word: str, text: str, environment: Mapping[str, str]) -> None:
-        if word in self.alarms:
-            self.alarms[word].run(text, {"NIGHT_STORE": self.store, **environment})
+    def run(self, word: str, text: str, environment: Mapping[str, str]) -> bool:
+        return word not in self.alarms or self.alarms[word].run(
+            text, {"NIGHT_STORE": self.store, **environment})
+
+    @property
+    def has_alarm(self) -> bool:
+        return "--on-failure" in self.alarms
 
     def begin(self) -> None:
         self.run("--on-begin", "", {})
 
     def end(self, it: Outcome) -> None:
-        self.run("--on-success" if it.is_well else "--on-failure", it.text(), it.environment())
+        word = "--on-success" if it.is_well else "--on-failure"
+        self.has_failed |= not self.run(word, it.text(), it.environment())
 
 
 def hooks_of(commands: Mapping[str, str | None], store: str, signals: Signals) -> Hooks:
@@ -99,11 +108,11 @@ def hooks_of(commands: Mapping[str, str | None], store: str, signals: Signals) -
 
 def leave(it: Outcome, hooks: Hooks) -> int:
     """Ends a run: raises the alarm, prints, and returns the status."""
-    if not it.is_well:
+    if not it.is_well and not it.is_given:
         hooks.end(it)
     if not it.is_silent:
         telling.let_go()
-        telling.flush()  # (on a terminal, what was told comes first)
+        telling.flush()  # (on a terminal, earlier messages come first)
         why = unprinted(it.lines, hooks.signals)
         if why:
             before, it = it, replace(it, status=FAULT, told=(*it.told, f"standard output: {why}"))
@@ -118,7 +127,8 @@ def leave(it: Outcome, hooks: Hooks) -> int:
 
 
 def unprinted(lines: tuple[str, ...], signals: Signals | None) -> str:
-    """Prints lines, with escapes for what others put there. Why that can't be, or nothing."""
+    """Prints lines, with escapes for the texts of others. Returns why that can't be done, or
+    nothing."""
     text = "".join(f"{plain_lines(it)}\n" for it in lines).encode("utf-8", "backslashreplace")
     try:
         with signals.raising() if signals else contextlib.nullcontext():

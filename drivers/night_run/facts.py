@@ -1,4 +1,4 @@
-"""What a night has so far: how each command ended in it, and which groups are done."""
+"""The facts of a night so far: how each command ended in it, and which groups are done."""
 
 from __future__ import annotations
 
@@ -28,14 +28,26 @@ class Facts:
     interrupted: set[Name] = field(default_factory=set)
     done: dict[str, str] = field(default_factory=dict)  # groups, with the cause
     busy: set[Name] = field(default_factory=set)  # those that live, or whose end isn't recorded
+    changed: set[Name] = field(default_factory=set)  # whose ends did since a planner got them
 
     def ended(self, name: Name, end: End, now: float) -> None:
         """Takes in the end of a command."""
         self.interrupted.discard(name)
+        self.changed.add(name)
         self.ends[name] = end
         if not end.is_ok:
             self.failures[name] = self.failures.get(name, 0) + 1
             self.failed_at[name] = now
+
+    def cut_off(self, name: Name) -> None:
+        """Takes in that a command was interrupted."""
+        self.interrupted.add(name)
+        self.changed.add(name)
+
+    def unsay(self, name: Name) -> None:
+        """The end of a command was taken in, and doesn't count."""
+        self.ends.pop(name, None)
+        self.changed.add(name)
 
     def is_ok(self, name: Name) -> bool:
         return name in self.ends and self.ends[name].is_ok
@@ -57,7 +69,7 @@ class Book:
     limits: dict[str, int | None] = field(default_factory=dict)  # of the store's groups
     rounds: dict[str, Round] = field(default_factory=dict)  # the greatest one of each group
     is_new: bool = False  # whether nothing of it is in the store yet
-    free: dict[str, str] = field(default_factory=dict)  # likewise, one without a limit
+    free: dict[str, str] = field(default_factory=dict)  # the same for a group without a limit
     tries: collections.Counter[tuple[str, str]] = field(default_factory=collections.Counter)
     said: dict[str, str] = field(default_factory=dict)  # the deadlines, as the file said them
     last: dict[Name, Task] = field(default_factory=dict)
@@ -126,6 +138,13 @@ def numbered(state: State) -> Iterator[tuple[Task, Tried]]:
         counts[it.group, it.key] += 1
 
 
+def ended_in(state: State, night: int) -> Iterator[tuple[Task, Tried]]:
+    """The tasks of a night that have ended, each with which try it is."""
+    ours = state.groups_of(night)
+    return ((task, tried) for task, tried in numbered(state)
+            if task.end and task.group in ours and not task.is_withdrawn)
+
+
 def logged_groups(state: State, past: Past) -> set[str]:
     """The groups whose lines in the log say something of what the store and its ends have."""
     return {it.name for it in state.groups} | {it for it, _, _ in past.ends} | set(past.had)
@@ -133,7 +152,7 @@ def logged_groups(state: State, past: Past) -> set[str]:
 
 def facts_of(state: State, past: Past, lines: Mapping[Tried, Line], book: Book, now: float,
              forgiven: Mapping[Name, int]) -> Facts:
-    """What a night has so far. So many failures of a command as are forgiven don't count."""
+    """What a night has so far. Failures of a command that are forgiven don't count."""
     facts = Facts()
     if past.night == book.night:
         read_past_ends(facts, past, lines, now)

@@ -1,23 +1,24 @@
-"""Commands that run elsewhere, by three settings of their group: `via` hands a command over, `ask`
-asks how a try of it ended, `stop` asks for its end. The driver knows no more of a way than these.
+"""Commands that run elsewhere. Three settings of their group name programs: `via` takes a command
+over, `ask` reports how a try of it ended, and `stop` asks for its end. The driver knows nothing
+else about such a place.
 
-In their words `{store}`, `{group}`, `{key}` and `{try}` are replaced by what names the try: the
-store's path with - for each /, and `_` with two hexadecimal digits for each byte that is no letter,
-digit or dot; and the three parts of its output's name. So no two tries have one name, of one store
-or of two.
+In these settings `{store}`, `{group}`, `{key}` and `{try}` are replaced by the parts of the try's
+name: the store's path, with - for each /, and `_` with two hexadecimal digits for each byte that is
+no letter, digit or dot; and the three parts of its output's name. So no two tries have the same
+name, be they of one store or of two.
 
 The first line that `ask` prints, with status 0, is one of
 
-    running                       it is there, or waits there
-    ok, exit N, signal N          it ended so
-    error TEXT                    likewise, and has failed
-    none                          nothing of that name began
+    running                       the try runs there, or waits there
+    ok, exit N, signal N          it has ended in this way
+    error TEXT                    it has failed, for this reason
+    none                          no try of this name has begun
 
-and whatever else it does means that nothing is known: it is asked again.
+After anything else nothing is known of the try, and `ask` is run again.
 
-STORE.far has a line for each try that is asked for, `GROUP KEY TRY begun` before it begins,
-`.. stopped` before it is stopped, so that its end doesn't count, and `.. over` once one that was
-stopped has ended. The first two are durable before what they say is done.
+STORE.far has a line for each try that is asked for: `GROUP KEY TRY begun` before it begins, `..
+stopped` before it is stopped, so that its end doesn't count, and `.. over` once a stopped one has
+ended. The first two lines are durable before the try is begun, or stopped.
 """
 
 from __future__ import annotations
@@ -49,14 +50,14 @@ LINE = re.compile(r"([a-z0-9_-]{1,32}) ([a-z0-9_-]{1,32}) ([0-9]{1,6}) (begun|st
 ANSWER = re.compile(r"running|none|ok|exit [1-9][0-9]{0,2}|signal [1-9][0-9]?|error ([ -~]{1,64})")
 RUNNING, NONE = "running", "none"
 UNPLAIN = re.compile(r"[^A-Za-z0-9.]")
-# So many seconds lie between two questions, more each time, and so many one may take.
+# How many seconds lie between two questions (more each time), and how many one may take.
 FIRST, LAST, MOST = 1.0, 30.0, 60.0
-# So many seconds after its client was killed one that was stopped is asked for; then it is left.
+# How many seconds after its client was killed one that was stopped is asked for; then it is left.
 PATIENCE = 60.0
 
 
 class Far:
-    """The file STORE.far, and the words that are run beside the loop."""
+    """The file STORE.far, and the programs that are run beside the loop."""
 
     def __init__(self, files: Files) -> None:
         self.files, self.shown = files, files.shown_of(Part.FAR)
@@ -64,14 +65,14 @@ class Far:
         self.file = -1
 
     def filled(self, words: Iterable[str], it: Named) -> list[str]:
-        """The words of a try."""
+        """The words of a setting, with the parts of this try's name put in."""
         given = {"{store}": self.store, "{group}": it.group, "{key}": it.key,
                  "{try}": str(it.number)}
         return [FIELD.sub(lambda found: given[found.group()], word) for word in words]
 
     def read(self) -> dict[Name, tuple[Named, str]]:
-        """The last line of each command. One that was cut off says nothing: what it is about had
-        not begun."""
+        """The last line of each command. A line that was cut off says nothing: its try hadn't
+        begun, or wasn't stopped."""
         found: dict[Name, tuple[Named, str]] = {}
         try:
             *lines, _ = self.files.read(Part.FAR).decode("ascii", "replace").split("\n")
@@ -82,15 +83,15 @@ class Far:
         for number, line in enumerate(lines, 1):
             it = LINE.fullmatch(line)
             if not it:
-                raise Fault(f"{self.shown}: line {number} is not GROUP KEY TRY and how it is: it"
-                            " says what may run elsewhere; mend it, or put it aside once nothing"
-                            " does")
+                raise Fault(f"{self.shown}: line {number} is not GROUP KEY TRY and its state:"
+                            " repair it, since the file lists what may run elsewhere; or move the"
+                            " file away if nothing does")
             named = Named(it[1], it[2], int(it[3]))
             found[named.name] = named, it[4]
         return found
 
     def clear(self) -> None:
-        """Empties it: nothing is left that is asked for."""
+        """Empties the file: no try is left to ask for."""
         with contextlib.suppress(FileNotFoundError):
             os.close(self.files.open(Part.FAR, os.O_WRONLY | os.O_TRUNC))
 
@@ -117,20 +118,20 @@ class Far:
 
 
 def store_name(path: str) -> str:
-    """What `{store}` is for a store of this path: no two paths have one."""
+    """The text that `{store}` stands for, for a store of this path. No two paths have the same."""
     rest = path.lstrip("/").encode("utf-8", "surrogateescape").decode("latin-1")
     return UNPLAIN.sub(lambda it: "-" if it[0] == "/" else f"_{ord(it[0]):02x}", rest)
 
 
 def end_of(answer: str) -> End | None:
-    """The end that an answer of `ask` tells; None where it tells none."""
+    """The end that an answer of `ask` reports; None if it reports none."""
     if answer in ("", NONE, RUNNING):
         return None
     return OK if answer == "ok" else failed(answer.removeprefix("error "))
 
 
 class Call:
-    """A run of words beside the loop; it is ended once it takes too long."""
+    """A program that runs beside the loop. It is ended if it takes too long."""
 
     def __init__(self, words: list[str], folder: str, environment: Mapping[str, str]) -> None:
         self.began = time.monotonic()
@@ -157,7 +158,7 @@ class Call:
         return True
 
     def answer(self) -> str:
-        """What it printed first, if that is an answer."""
+        """The first line that it printed, if that is an answer."""
         line = ""
         if self.output:
             self.output.seek(0)
@@ -169,7 +170,7 @@ class Call:
 
 
 class Elsewhere:
-    """A try that runs elsewhere: it is asked for, again and again, and can be stopped."""
+    """A try that runs elsewhere. It is asked for again and again, and can be stopped."""
 
     def __init__(self, far: Far, way: Way, it: Named, folder: str,
                  environment: Mapping[str, str]) -> None:
@@ -193,7 +194,7 @@ class Elsewhere:
             found, self.call = self.call.answer(), None
             self.next, self.pause = time.monotonic() + self.pause, min(LAST, 2 * self.pause)
             if not found:
-                note_once(f"{self.it}: what `ask` says is no answer; it is asked again")
+                note_once(f"{self.it}: `ask` printed no valid answer; it is asked again")
             elif found == RUNNING and self.is_stopped:
                 self.call_stop()
             self.answer = "" if found == RUNNING else found
@@ -204,7 +205,7 @@ class Elsewhere:
         return end_of(self.answer)
 
     def stop(self) -> None:
-        """Asks for its end, and notes before that its end doesn't count."""
+        """Asks for its end, after it has noted that this end doesn't count."""
         self.is_stopped = True
         if self.way.ask:
             try:
@@ -220,15 +221,16 @@ class Elsewhere:
             self.calls.append(Call(words, self.folder, self.environment))
 
     def over(self) -> None:
-        """Notes that one which was stopped has ended."""
+        """Notes that a stopped try has ended."""
         if self.way.ask:
             with contextlib.suppress(OSError):
                 self.far.note(self.it, OVER)
 
 
 def outstanding(far: Far, state: State, past: Past) -> dict[Name, tuple[Named, bool]]:
-    """The tries that may still run elsewhere, each with whether its end counts: those that have
-    begun and whose end isn't recorded, and those that were stopped and aren't known to be over."""
+    """The tries that may still run elsewhere, each with whether its end counts. These are the tries
+    that have begun and whose end isn't recorded, and the stopped ones that aren't known to be
+    over."""
     found = {}
     for name, (it, how) in far.read().items():
         if how == STOPPED or how == BEGUN and not is_recorded(it, state, past):
@@ -237,8 +239,8 @@ def outstanding(far: Far, state: State, past: Past) -> dict[Name, tuple[Named, b
 
 
 def is_recorded(it: Named, state: State, past: Past) -> bool:
-    """Whether a try has an end: another try that is later has one, or itself, under whatever
-    number. (A command that outlived its `night` has the number of a later task.)"""
+    """Whether the end of a try is recorded: its own, under whatever number, or that of a later try.
+    (A command that outlived its `night` has the number of a later task.)"""
     least, counts = round_of(it.group), -1
     for task in state.tasks:
         if task.name == it.name and round_of(task.group) >= least:

@@ -23,28 +23,38 @@ import contextlib
 import functools
 import os
 import pwd
+import re
 import stat
 import subprocess
 import time
+from collections.abc import Callable
 
 from . import Fault, Mistake
-from .beside import Folder, NotOurs, Part, is_trusted, name_of, way_to
+from .beside import Folder, NotOurs, Part, is_beside, is_trusted, name_of, way_to
 from .escapes import plain
 from .lock import Lock
+from .outputs import Outputs
+from .sight import Sight
 
 # Those of a small and of a large store.
 SIZES = 1_572_864, 6_291_456
-# So many seconds a look at a store may take to sync it, and the sync of a folder.
+# Why a file is no store, and what to do.
+NO_STORE = "so it is not a store; give STORE first, and then JOBS"
+# How many seconds a look at a store may take to sync it, and the sync of a folder.
 LOOK, OF_FOLDER = 0.3, 2.0
-# So often the system is advised to drop a store's pages, and so many seconds are between: what
-# something else of it holds for a moment stays.
+# What of root's environment a look at a user's night needs.
+KEPT = {"PATH", "NIGHT", "NIGHT_DEBUG", "LANG", "TZ", "TERM"}
+# What the name of an earlier night's log has after the store's, and how many files are named.
+OLD_LOG, MOST_NAMES = re.compile(r"\.log\.([1-9][0-9]{0,8})"), 4
+# How often the system is advised to drop a store's pages, and how many seconds apart: a page that
+# something else holds for a moment stays.
 ADVISED, BETWEEN = 4, 0.005
 
 
 def leave_mark(store: str) -> None:
     """Leaves the mark of a failed sync beside the store of this real path, as `night` does. Whoever
-    kills a `night` in a sync does so before: the system tells nobody else that it fails. The mark
-    is durable where a sync of the folder answers, which may hang, too."""
+    kills a `night` in a sync does so before: the system reports its failure to nobody else. The
+    mark is durable where a sync of the folder answers, which may hang, too."""
     name = f"{os.path.basename(store)}{Part.FAILED.value}"
     with contextlib.suppress(OSError), \
             contextlib.closing(Folder.at(os.path.dirname(store), "")) as folder:
@@ -56,18 +66,26 @@ def leave_mark(store: str) -> None:
 
 
 class Files:
-    """The files of a store. `shown` is how the store is called in what is told."""
+    """The files of a store. `shown` is how the store is called in messages."""
 
     def __init__(self, given: str) -> None:
-        self.given = given
-        self.path = os.path.realpath(given)
-        self.shown = plain(given if self.path == os.path.abspath(given) else self.path)
+        self.lost: OSError | None = None  # why the store has no folder
+        given = given.rstrip("/") or "/"
+        try:
+            self.path = way_to(given)
+        except (FileNotFoundError, NotADirectoryError) as error:
+            self.path, self.lost = os.path.abspath(given), error
+        is_given = self.path == os.path.abspath(given)
+        self.shown = plain(given if is_given else self.path)
         self.lock = Lock(self)
-        self.seen: tuple[int, int] | None = None
+        self.outputs = Outputs(self)
+        self.sight = Sight(self.path, self.shown)
 
     @functools.cached_property
     def folder(self) -> Folder:
-        """The folder of the store, once it is known for one that nobody else can write."""
+        """The folder of the store, which `way_to` found to be one that nobody else can write."""
+        if self.lost:
+            raise self.lost
         return Folder.at(os.path.dirname(self.path), os.path.dirname(self.shown))
 
     def name(self, part: Part) -> str:
@@ -91,9 +109,9 @@ class Files:
     def read(self, part: Part) -> bytes:
         return self.folder.read(self.name(part))
 
-    def put(self, part: Part, data: bytes) -> None:
-        """Puts this in the place of a part, whole and durable."""
-        self.folder.put(self.name(part), data)
+    def put(self, part: Part, data: bytes, may: Callable[[], bool] = lambda: True) -> None:
+        """Puts this in the place of a part, whole and durable, if it may be by then."""
+        self.folder.put(self.name(part), data, may)
 
     def remove(self, part: Part) -> None:
         self.folder.remove(self.name(part))
@@ -102,80 +120,36 @@ class Files:
         """A part that is a folder."""
         return self.folder.folder(self.name(part), make)
 
-    # --- outputs, by their names in STORE.out
-
-    def output(self, group: str, key: str, tried: int) -> str:
-        return f"{group}.{key}.{tried}"
-
-    def shown_output(self, output: str) -> str:
-        """An output's path, as the store's is shown."""
-        return f"{self.shown_of(Part.OUT)}/{output}" if output else ""
-
-    def has_output(self, output: str) -> bool:
-        """Whether something has this name."""
-        if not output:
-            return False
-        try:
-            with contextlib.closing(self.below(Part.OUT)) as folder:
-                return folder.stat(output) is not None
-        except OSError:
-            return False
-
-    def open_output(self, output: str, flags: int = os.O_RDONLY) -> int:
-        """The output of this name; its folder is made anew where it is gone, if it is written."""
-        make = bool(flags & os.O_CREAT)
-        with contextlib.closing(self.below(Part.OUT, make)) as folder:
-            return folder.open(output, flags)
-
-    def move_output(self, output: str, other: str) -> None:
-        with contextlib.closing(self.below(Part.OUT)) as folder:
-            folder.move(output, other)
-
     # --- the store
 
     def exists(self) -> bool:
         return self.stat(Part.STORE) is not None
 
-    def keep_in_sight(self) -> None:
-        """From now on the store is the file that has its name at this moment."""
-        found = os.stat(self.path)
-        self.seen = found.st_dev, found.st_ino
-
-    def missing(self) -> str:
-        """Why the store isn't in its place any more; empty while it is."""
-        try:
-            found = os.stat(self.path)
-        except OSError as error:
-            return error.strerror
-        return "" if self.seen in (None, (found.st_dev, found.st_ino)) \
-            else "another file has its name"
-
     def look(self) -> None:
         """A file that can be no store is a mistake of the words, and nothing is made beside it.
         One that somebody else can have made is a fault, and so is each that lies beside it."""
-        with contextlib.suppress(FileNotFoundError):
-            way_to(self.given)
         found = self.stat(Part.STORE)
         if found is None:
             return
         if not stat.S_ISREG(found.st_mode):
-            raise Mistake(f"{self.shown}: it is no regular file, and so no store")
+            raise Mistake(f"{self.shown}: it is not a regular file, {NO_STORE}")
         os.close(self.open(Part.STORE))
         had = self.lock.size()
         if had and found.st_size < had:
             raise Fault(f"{self.shown} has {found.st_size} bytes, and had {had}: it was cut off;"
-                        " bring back a whole copy of it")
+                        " restore a whole copy of it")
         if found.st_size not in SIZES:
-            raise Mistake(f"{self.shown}: it has {found.st_size} bytes, and so is no store")
+            raise Mistake(f"{self.shown}: it has {found.st_size} bytes, {NO_STORE}")
 
     def keep_others_out(self) -> None:
         """Takes from others what an older driver let them read; what is theirs is a fault. (What is
         ours, and no file, ends no night here: who needs it says so.)"""
-        for part in Part:
-            found = self.stat(part)
+        store = self.name(Part.STORE)
+        for name in (it for it in self.folder.names() if is_beside(it, store)):
+            found = self.folder.stat(name)
             is_file = found and (stat.S_ISREG(found.st_mode) or stat.S_ISLNK(found.st_mode))
             if found and (is_file or not is_trusted(found.st_uid)):
-                self.folder.tighten(self.name(part))
+                self.folder.tighten(name)
         self.below(Part.OUT, make=True).close()
 
     def is_marked(self) -> bool:
@@ -198,12 +172,32 @@ class Files:
                 os.close(file)
 
     def look_for_log(self) -> None:
-        """A store that is gone isn't made anew while what it did is known."""
-        for it in (Part.LOG, Part.ENDED):
-            if self.stat(it) is not None:
-                name = self.shown_of(it)
-                raise Fault(f"{self.shown} is not there, and {name} is: bring the store back, or"
-                            f" put {name} aside for a new one")
+        """A store that is gone isn't made again while what it did is known. (Whoever put a log of
+        an earlier night there that isn't ours is named.)"""
+        its = [self.shown_of(it) for it in (Part.LOG, Part.ENDED) if self.stat(it) is not None]
+        for it in self.old_logs():
+            self.folder.tighten(f"{self.name(Part.LOG)}.{it}")
+            its.append(f"{self.shown_of(Part.LOG)}.{it}")
+        if its:
+            raise Fault(f"{self.shown} is not there, but {told(its)}: bring the store back, or move"
+                        f" {its[0] if not its[1:] else 'them'} away if you want a new store")
+
+    def old_logs(self) -> list[int]:
+        """The nights of which a log lies beside the store."""
+        name = self.name(Part.STORE)
+        with contextlib.suppress(FileNotFoundError, NotADirectoryError):
+            its = (OLD_LOG.fullmatch(it[len(name):]) for it in self.folder.names()
+                   if it.startswith(name))
+            return sorted(int(it[1]) for it in its if it)
+        return []
+
+
+def told(names: list[str]) -> str:
+    """That these are there; the first of them, where they are many."""
+    shown, more = names[:MOST_NAMES], names[MOST_NAMES:]
+    if more:
+        return f"{', '.join(shown)} and {len(more)} more are"
+    return f"{', '.join(shown[:-1])} and {shown[-1]} are" if shown[1:] else f"{shown[0]} is"
 
 
 def become_owner(given: str) -> None:
@@ -222,6 +216,14 @@ def become_owner(given: str) -> None:
         return
 
 
+def forget_environment() -> None:
+    """Forgets what root's environment has beside what a look needs: a user reads that of each
+    process that runs as him."""
+    for it in set(os.environ) - KEPT:
+        if not it.startswith("LC_"):
+            del os.environ[it]
+
+
 def go_on_as(uid: int) -> None:
     for it in ("ascii", "utf-8", "latin-1"):
         codecs.lookup(it)  # (Python reads it from where that user may not be able to)
@@ -237,5 +239,6 @@ def go_on_as(uid: int) -> None:
             os.setgroups([])
         os.setresgid(group, group, group)
         os.setresuid(uid, uid, uid)
+        forget_environment()
     except OSError as error:
         raise NotOurs(name_of(uid), f"root can't go on as this user: {error.strerror}") from None

@@ -1,9 +1,11 @@
-"""What is kept of earlier nights: the log of each, STORE.log.N, and the outputs of its tries. As a
-night begins, those go of nights that ended longer ago than as many nights as are kept.
+"""What is kept of earlier nights: the log of each, STORE.log.N, and the outputs of its tries. When
+a night begins, the logs and outputs of nights that are older than the last N are removed, where N
+is how many nights are kept.
 
-Nothing else is removed. An output is a regular file in STORE.out with a name GROUP.KEY.TRY; which
-night it is of its group's round says, by the rounds with which the nights began (`nights`). Where
-that isn't known it stays. A report names outputs of the last night alone, and that one is kept.
+Nothing else is removed. An output is a regular file in STORE.out whose name is GROUP.KEY.TRY. The
+round of its group shows which night it belongs to, by the rounds with which the nights began
+(`nights`). If that isn't known, the output stays. A report names only outputs of the last night,
+and these are always kept.
 """
 
 from __future__ import annotations
@@ -13,30 +15,43 @@ import re
 import time
 from collections.abc import Iterator
 
+from . import Fault
 from .beside import Folder, Part
-from .files import Files
+from .files import OLD_LOG, Files
 from .log import Log
 from .nights import Night, Nights, read_nights, write_nights
 from .rounds import round_of
 from .telling import note_once
 
 OUTPUT = re.compile(r"([a-z0-9_-]{1,32})\.[a-z0-9_-]{1,32}\.[0-9]{1,6}")
-OLD_LOG = re.compile(r"\.log\.([1-9][0-9]{0,8})")
 
 
 class Keeper:
-    """Notes how nights begin and end, and removes what isn't kept any more."""
+    """Notes how nights begin and end, and removes the files that aren't kept any more."""
 
     def __init__(self, files: Files, log: Log, keep: int) -> None:
         self.files, self.log, self.keep = files, log, keep
         self.nights = read_nights(files)
 
+    def look(self, night: int, has_one: bool) -> None:
+        """Fault where the log of the store's last night, or a later one, was put aside already, as
+        the next one began: the store is an older copy, or a new one that has no night yet, and what
+        later nights left would be written over."""
+        shown, later = self.files.shown, [it for it in self.files.old_logs() if it >= night]
+        if later and has_one:
+            raise Fault(f"{shown} ends with night {night}, and {shown}.log.{later[0]} is there:"
+                        f" restore {shown}.log*, {shown}.nights and {shown}.out from the backup"
+                        " that the store is from, or move them away")
+        if later:
+            raise Fault(f"{shown} is a new store, and {shown}.log.{later[0]} is of another one:"
+                        f" move {shown}.log* away, and {shown}.out if you want to keep what is in it")
+
     def knows(self, night: int) -> bool:
         return night in self.nights.begun
 
     def begin(self, night: int, first: int, is_new: bool) -> None:
-        """A night has begun, whose names have this round at least. Where it is new the log so far
-        is that of the night before."""
+        """A night has begun, whose names have at least this round. If it is new, the log so far is
+        that of the night before."""
         last = self.log.last_end() or self.last_before(night)
         if is_new and night > 1:
             self.log.rotate(night - 1)
@@ -45,7 +60,8 @@ class Keeper:
         self.tidy(night)
 
     def last_before(self, night: int) -> float | None:
-        """What was known of the last end as the last night began."""
+        """When the last command before the last night ended, as far as it was known when that night
+        began."""
         before = [it for it in self.nights.begun.values() if it.number < night]
         return max(before, key=lambda it: it.number).last if before else None
 
@@ -58,7 +74,7 @@ class Keeper:
         write_nights(self.files, self.nights)
 
     def tidy(self, night: int) -> None:
-        """Removes what is of nights before the first that is kept."""
+        """Removes the files of nights before the first that is kept."""
         oldest = night - self.keep
         try:
             remove(self.files.folder, old_logs(self.files, oldest))
@@ -79,8 +95,8 @@ def remove(folder: Folder, names: Iterator[str]) -> None:
 
 
 def first_kept(nights: Nights, night: int, keep: int) -> int:
-    """The round with which the first night began that is kept; 0 where it isn't known. (Each night
-    takes a round at least.)"""
+    """The round with which the first night began that is kept; 0 if it isn't known. (Each night
+    takes at least one round.)"""
     now, oldest = nights.begun[night], nights.begun.get(night - keep)
     return min(oldest.round, now.round - keep) if oldest else 0
 
@@ -95,7 +111,7 @@ def old_logs(files: Files, oldest: int) -> Iterator[str]:
 
 
 def old_outputs(folder: Folder, first: int) -> Iterator[str]:
-    """The outputs whose groups have a lesser round."""
+    """The outputs whose groups have a lower round."""
     for it in folder.files():
         name = OUTPUT.fullmatch(it)
         if name and round_of(name[1]).number < first:

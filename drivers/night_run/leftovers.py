@@ -1,10 +1,11 @@
-"""Commands that a killed driver left, by the files of their tries (`tries`): those that live, and
-those that have ended since then. The end of one counts as that of a try of this driver's own, if it
-was begun in this night and isn't recorded. A try that was stopped ends by why it was. One of which
-nobody knows how it ended, as after a kill of its shell or a crash of the machine, runs again.
+"""Commands that a killed driver has left, by the files of their tries (`tries`): those that still
+live, and those that have ended since. If such a try was begun in this night, and its end isn't
+recorded, that end counts like the end of a try of this driver. A try that was stopped ends by the
+reason for which it was stopped. If nobody knows how a try ended, as after a kill of its shell or a
+crash of the machine, its command runs again.
 
-What an older driver began stands in STORE.pids, in lines `GROUP KEY TRY BOOT PID START` or `PID
-GROUP KEY`. It is waited for, and runs again.
+An older driver wrote its processes into STORE.pids, in lines `GROUP KEY TRY BOOT PID START` or `PID
+GROUP KEY`. Such a process is waited for, and its command runs again.
 """
 
 from __future__ import annotations
@@ -24,10 +25,12 @@ from .far import Elsewhere, Far, is_recorded, outstanding
 from .files import Files, leave_mark
 from .jobs import Job, Jobs
 from .lock import try_lock
+from .log import Log
+from .log import Tried as Of
 from .night import WHOLE_SECONDS, of_session
 from .past import Past
-from .processes import (NO_COMMAND, PID, START, Process, Tried, age, boot, group_exists, is_held,
-                        kill_ours, lives, ours_in, signal_group, signal_ours, stat_of)
+from .processes import (NO_COMMAND, PID, START, Process, Tried, age, boot, session_exists, is_held,
+                        kill_ours, lives, ours_in, signal_session, signal_ours, stat_of)
 from .rounds import base_of
 from .settings import OF_ALL
 from .state import State
@@ -36,7 +39,7 @@ from .tries import Named, Told, Tries, told_by
 
 LINE = re.compile(rf"([a-z0-9_-]{{1,32}}) ([a-z0-9_-]{{1,32}}) ([0-9]{{1,6}}) (\S+) {PID} {START}")
 OLD_LINE = re.compile(rf"{PID} ([a-z0-9_-]{{1,32}}) ([a-z0-9_-]{{1,32}})")
-# So many seconds a shell may take to write its line, and a `night` to end after its driver has.
+# How many seconds a shell may take to write its line, and a `night` to end after its driver has.
 PATIENCE = 10.0
 
 
@@ -76,7 +79,7 @@ class Leftover(Running):
         process = self.told.process
         may_leave = self.job is not None and self.job.keeps and self.stopped is None
         if process is None or may_leave or process.boot != boot() or self.has_shell() \
-                or not group_exists(self.pid):
+                or not session_exists(self.pid):
             return False
         leader = stat_of(self.pid)
         # (another group may have its number by now)
@@ -91,13 +94,30 @@ class Leftover(Running):
             and not self.elsewhere.is_over()
 
     def signal(self, which: signal.Signals) -> None:
-        """Signals its process group: its shell holds the lock of its file, or a process of the
-        group is known for the try's. Its number alone may be somebody else's by now."""
-        if self.file >= 0 and self.has_shell():
-            signal_group(self.pid, which)
+        """Signals its session: its shell, which is to be seen here, holds the lock of its file, or
+        a process of the session is known for the try's. Its number alone may be somebody else's by
+        now."""
+        # (a shell in another namespace holds the lock, and its number is another process's here)
+        if self.file >= 0 and self.has_shell() and self.is_in_sight():
+            signal_session(self.pid, which)
         elif not signal_ours(self.pid, self.tried, which):
-            note_once(f"{' '.join(self.name)}: process {self.pid} can't be shown to be its own, so"
+            note_once(f"{' '.join(self.name)}: process {self.pid} may be another program by now, so"
                       " it is left running")
+
+    def is_in_sight(self) -> bool:
+        """Whether the process that its file names is to be seen here, and still the same."""
+        return self.told.process is not None and lives(self.told.process)
+
+    def began(self, log: Log) -> float | None:
+        """When its command began, if that lives, or is known to have ended; as the log says it, if
+        it does."""
+        said = log.began((self.it.group, self.it.key, self.it.number))
+        if said is not None:
+            return said
+        ended, process = self.told.ended, self.told.process
+        if ended:
+            return ended.at - ended.took if ended.took is not None else None
+        return time.time() - age(process) if process and self.has_shell() else None
 
     # --- its end
 
@@ -157,6 +177,14 @@ class Leftovers:
     def groups(self) -> set[str]:
         """The groups in which an end is to be recorded."""
         return {it.name[0] for it in self.its if it.counts}
+
+    def began(self, tried: Of, log: Log) -> float | None:
+        """When the command of a try began, if it outlived that: no later one of its key has begun
+        then."""
+        group, key, number = tried
+        its = (it.began(log) for it in self.its if (it.it.group, it.it.key) == (group, key)
+               and it.it.number <= number)
+        return next((it for it in its if it is not None), None)
 
     def there(self) -> list[Leftover]:
         return [it for it in self.its if it.is_there()]
@@ -263,6 +291,8 @@ def taken(tries: Tries, it: Named, store: str, jobs: Jobs) -> Leftover:
             raise Fault(f"{tries.folder.shown_of(it.file)} is locked by another program")
         time.sleep(0.005)
     left = Leftover(it, store, jobs.all.get(it.name), told, file)
+    if has_gone:
+        left.has_shell()  # (which closes its file: there may be many)
     if told.is_stopped:
         left.stop(told.why)
     return left
@@ -309,9 +339,12 @@ def processes_with(path: str) -> Iterator[int]:
 def end_night(files: Files, tries: Tries) -> None:
     """Waits for the `night` of a killed driver, which ends with its input; one that doesn't, as
     where it is stopped, is killed; one that the disk holds in a sync only after longer."""
-    it = tries.last_night()
+    it, driver = tries.last_night()
     began = time.monotonic()
     while it and lives(it):
+        if driver and lives(driver):
+            raise Fault(f"{files.shown}: in use by another night-run, process {driver.pid}, whose"
+                        f" {files.shown_of(Part.LOCK)} somebody has removed")
         held, waited = is_held(it.pid), time.monotonic() - began
         if waited >= PATIENCE and held:
             note_once(f"waiting for the disk: the `night` of the last run, process {it.pid}, is in"
@@ -320,6 +353,6 @@ def end_night(files: Files, tries: Tries) -> None:
             leave_mark(files.path)
             is_killed = kill_ours(it, of_session(files.path))
             note(f"the `night` of the last run didn't end: process {it.pid} " + (
-                "is killed" if is_killed else "isn't known for it, and is left alone"))
+                "is killed" if is_killed else "may be another program, and is left running"))
             return
         time.sleep(0.01)

@@ -1,9 +1,10 @@
-"""STORE.lock: locked by the one driver that may run, or by a cancel. It says which process that is,
-whether it is a cancel, and how many bytes the store has.
+"""STORE.lock: locked by the one driver that may run, or by a cancel. It says which process that
+is, whether it is a cancel, and how many bytes the store has.
 
-Nobody else can open it, so nobody else can hold its lock. An older driver made it for all to read:
-who has it open then may keep its lock for ever. So it is replaced by a copy, once it can be locked;
-or where nobody whom it names lives, and it still can't be.
+Nobody else can open the file, so nobody else can hold its lock. But an older driver made it
+readable for all, and a process that opened it then may hold its lock for ever. So such a file is
+replaced by a copy once it can be locked, or if it can't be locked although none of the processes
+that it names lives.
 """
 
 from __future__ import annotations
@@ -23,12 +24,14 @@ from .telling import note
 if TYPE_CHECKING:
     from .files import Files
 
-# So many seconds the lock is waited for: while another driver has it, and while a cancel does, as
+# How many seconds the lock is waited for: while another driver has it, and while a cancel does, as
 # that ends by itself.
 PATIENCE, OF_CANCELS = 3.0, 60.0
 SIZE = re.compile(r"^size ([0-9]{1,18})$", re.M)
 HOLDER = re.compile(rf"^process (\S+) {PID} {START}$", re.M)
 A_CANCEL = "a cancel"
+# How the file begins, and its most bytes; zeros may be left by a crash.
+OURS, MOST = re.compile(r"process |size |\0|\s*\Z"), 1 << 16
 # What others may do with a file whose lock they can take.
 OTHERS = 0o077
 
@@ -58,7 +61,7 @@ class Lock:
         return named if named and lives(named) else None
 
     def holder(self) -> Process | None:
-        """The driver that runs, as far as its line and the system tell."""
+        """The driver that runs, as far as its line and the system say."""
         return None if A_CANCEL in self.said().splitlines() else self.named()
 
     def take(self) -> bool:
@@ -87,6 +90,10 @@ class Lock:
         if file is None:
             self.look_for_strangers()
             return False
+        if os.fstat(file).st_size > MOST or not OURS.match(self.said()):
+            os.close(file)
+            raise Fault(f"{self.files.shown_of(Part.LOCK)} is not night-run's: move it away, or"
+                        " choose another name for the store")
         self.own = file
         return True
 

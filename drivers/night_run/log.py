@@ -1,11 +1,12 @@
-"""STORE.log: a line for each task that has ended, written once the store has its end.
+"""STORE.log: a line for each task that has ended, written once the store has recorded its end.
 
     Try  Group  Key  Began  Seconds  End  Command
 
-They are tabs apart, `parallel --joblog`'s way. Try is which one of the key in its group it was,
-from 0, as in the name of its output. End is the text of an end (`ends`). Of a task
-whose line was lost with a driver, and of one that was never begun, Began and Seconds are -. A line
-of another form is passed over.
+Tabs separate the fields, as in a job log of GNU parallel. Try is the number of the try of this key
+in its group, from 0, as in the name of its output. End is the text of an end (`ends`). Began and
+Seconds are - for a task whose line was lost with a driver, and for one that never began. Began is
+known of an interrupted one whose command lived on; a later try with the same Began is that very
+command. A line of another form is passed over.
 """
 
 from __future__ import annotations
@@ -29,11 +30,11 @@ HEAD = "Try\tGroup\tKey\tBegan\tSeconds\tEnd\tCommand\n"
 LINE = re.compile(r"([0-9]{1,6})\t([a-z0-9_-]{1,32})\t([a-z0-9_-]{1,32})\t([^\t]*)\t([^\t]*)"
                   r"\t([^\t]*)\t(.*)")
 
-# The log is read from its end in blocks of so many bytes. A longer line is none of its own.
+# The log is read from its end in blocks of this many bytes. A longer line is none of its own.
 BLOCK, MOST_LINE = 1 << 16, 1 << 20
-# After so many lines in a row of earlier nights all that stands before is of these, too.
+# After this many lines in a row of earlier nights all that stands before is of these, too.
 MOST_OLDER = 10_000
-# So many bytes wait at most while the log can't be written.
+# How many bytes wait at most while the log can't be written.
 MOST_LEFT = 1 << 20
 
 # A task: its group, its key, and which try of the key it is.
@@ -49,7 +50,7 @@ class Line:
 
     @property
     def is_exact(self) -> bool:
-        """Whether its moments are more than whole seconds, which an older driver wrote."""
+        """Whether its moments have parts of a second; those of an older driver don't."""
         return "." in self.began
 
     def began_at(self) -> float | None:
@@ -69,8 +70,8 @@ class Line:
 
 
 def read_log(files: Files, groups: Collection[str]) -> dict[Tried, Line]:
-    """The lines of these groups in the log, in their order; none where it can't be read. Whatever
-    else stands there takes no memory."""
+    """The lines of these groups in the log, in their order; none if it can't be read. Other lines
+    take no memory."""
     found: list[tuple[Tried, Line]] = []
     try:
         file = files.open(Part.LOG)
@@ -92,8 +93,8 @@ def read_log(files: Files, groups: Collection[str]) -> dict[Tried, Line]:
 
 
 def lines_of(file: int, groups: Collection[str]) -> Iterator[bytes]:
-    """The lines of these groups, the last one first. The names of a later night have a greater
-    round: what stands before many lines of lesser ones is of earlier nights."""
+    """The lines of these groups, the last one first. The names of a later night have a higher
+    round, so lines before many lines of lower rounds belong to earlier nights."""
     wanted = {it.encode() for it in groups}
     least, older = min((round_of(it).number for it in groups), default=1), 0
     for line in backwards(file) if wanted else ():
@@ -115,7 +116,7 @@ def round_in(group: bytes) -> int:
 
 
 def backwards(file: int) -> Iterator[bytes]:
-    """The lines of a file, the last one first. One that is too long is passed over."""
+    """The lines of a file, the last one first. A line that is too long is skipped."""
     at, tail, is_cut = os.fstat(file).st_size, b"", False
     while at:
         size = min(BLOCK, at)
@@ -141,8 +142,8 @@ def text_of_line(command: str) -> str:
 
 
 class Log:
-    """The log of the driver that runs. One that can't be written ends no night: what it lacks is
-    written once there is room."""
+    """The log of the running driver. If it can't be written, the night goes on: the missing lines
+    are written once there is room."""
 
     def __init__(self, files: Files, groups: Collection[str]) -> None:
         self.files, self.shown = files, files.shown_of(Part.LOG)
@@ -160,7 +161,7 @@ class Log:
             self.failed(error)
 
     def rotate(self, night: int) -> None:
-        """Puts all lines so far aside, as those of this night, and begins anew."""
+        """Puts all lines so far aside, as those of this night, and begins an empty log."""
         self.lines.clear()
         name = self.files.name(Part.LOG)
         try:
@@ -179,7 +180,8 @@ class Log:
         note_once(f"{self.shown}: {error.strerror}")
 
     def write(self, text: str) -> None:
-        """Writes whole lines: where one doesn't fit it waits, with those that follow."""
+        """Writes whole lines. If a line doesn't fit on the disk, it waits, and so do the lines
+        after it."""
         if self.file < 0:
             return
         self.left += text.encode("utf-8", "surrogateescape")
@@ -201,8 +203,12 @@ class Log:
         if not whole:
             raise OSError(errno.ENOSPC, os.strerror(errno.ENOSPC))
 
+    def began(self, tried: Tried) -> float | None:
+        """When a try began, as far as its line says it."""
+        return self.lines[tried].began_at() if tried in self.lines else None
+
     def last_end(self) -> float | None:
-        """When the last command ended of those whose lines it has."""
+        """When the last command ended, of those that the log has lines of."""
         ends = (it.ended_at() for it in self.lines.values())
         return max((it for it in ends if it is not None), default=None)
 
@@ -214,7 +220,7 @@ class Log:
                 self.failed(error)
 
     def add(self, ends: Iterator[tuple[Tried, Line]]) -> None:
-        """Notes the ends of tasks that it doesn't have, all in one write."""
+        """Notes the ends of tasks that the log lacks, all in one write."""
         made = []
         for tried, line in ends:
             if tried not in self.lines:
@@ -226,9 +232,9 @@ class Log:
 
 
 def moment(when: float) -> str:
-    """A moment in this machine's zone, with its milliseconds."""
-    whole = int(when)
-    return time.strftime(f"%Y-%m-%dT%H:%M:%S.{int(when % 1 * 1000):03}%z", time.localtime(whole))
+    """A moment in this machine's zone, to the millisecond."""
+    whole, part = divmod(round(when * 1000), 1000)
+    return time.strftime(f"%Y-%m-%dT%H:%M:%S.{part:03}%z", time.localtime(whole))
 
 
 def line_of(began: float | None, took: float | None, end: End, command: str) -> Line:

@@ -1,27 +1,28 @@
-"""The loop. At every moment, and over any kill, this holds:
+"""The loop. At every moment, and after any kill, these rules hold:
 
  1. A command begins only after the `acked` of its task's start.
  2. A place is free only once the end of the command that had it is acked, or its task is
     interrupted. So at most `-j` commands, and at most `limit` of a group, live or are unrecorded.
  3. Each round takes a bounded time, whatever the commands do: it records ends, moves the clock,
-    obeys cancels, deadlines and timeouts, and begins at most as many as there are free places.
- 4. No two tries of a key live at a time: who lives stands in STORE.tries, what may run elsewhere
-    in STORE.far, and neither in what a command may close. What its group's `ask` doesn't know to be
-    over is taken to run.
- 5. An end that was acked is never run again in its night. A try that was stopped, by a cancel, a
-    deadline, a timeout or a signal of ours, is never ok, whatever its status.
- 6. After a kill of the driver and of `night` nothing runs again: the shell that begins a command
-    keeps how it ended, in STORE.tries. After a kill of such shells, too, or a crash of the machine,
-    at most the commands run again whose end wasn't acked: `-j` of them, twice that where it is
-    killed twice.
- 7. A command that has ended has no process left in its group, unless it has `background keep`.
- 8. What can't be read (a cancel, a log, the ends of a renewed store) ends no night: it is told once
-    and passed over, or the night doesn't begin.
- 9. `--list`, `--report` and `--dry-run` write nothing, lock nothing, and tell what is so at one
-    moment.
-10. What a night did is said at its end, an end by a fault too: ran now, ended before, not started
-    and why. The status is 0 only where every command of the file is ok.
-11. While the store isn't in its place nothing more is begun, and nothing is made there anew.
+    obeys cancels, deadlines and timeouts, and begins at most as many commands as there are free
+    places.
+ 4. No two tries of a key live at the same time. STORE.tries names those that live, and STORE.far
+    those that may run elsewhere; no command can take a try out of either by closing a descriptor. A
+    try counts as running until its group's `ask` knows that it is over.
+ 5. A command whose end was acked doesn't run again in its night. A try that was stopped, by a
+    cancel, a deadline, a timeout or a signal of ours, is never ok, whatever its status.
+ 6. After a kill of the driver and of `night` no command runs again, because the shell that begins a
+    command writes into STORE.tries how it ended. After a kill of such shells, too, or a crash of
+    the machine, only commands whose end wasn't acked run again: at most `-j`, or twice that after
+    two kills.
+ 7. A command that has ended has no process left in its session, unless it has `background keep`.
+ 8. A file that can't be read (a cancel, a log, the ends of a renewed store) ends no night: it is
+    reported once and passed over, or the night doesn't begin.
+ 9. `--list`, `--report` and `--dry-run` write nothing, lock nothing, and show one moment.
+10. At its end, even after a fault, a run prints what the night did: how many commands ran now,
+    which ended before, and which weren't started and why. The status is 0 only if every command of
+    the file is ok.
+11. While the store isn't in its place, no more commands are begun, and nothing new is made there.
 
 1, 2, 3 and 11 are kept by `Driver.round`, 4 and 6 by `leftovers`, `far` and `Driver.left`, 5 by
 `Command.end` and `facts`, 7 by `Command.poll`, 8 by `cancels`, `log` and `past`, 9 by `views`, 10
@@ -30,85 +31,59 @@ by `summary` and `Driver.known`.
 
 from __future__ import annotations
 
-import bisect
 import contextlib
 import os
 import time
-from collections.abc import Callable, Iterator
 from functools import partial
 
 from . import Fault, Name
-from .commands import Command, NotNow, Running
-from .ends import INTERRUPTED, End, canceled, failed
-from .facts import PASSED, Book, Facts, book_of, facts_of, groups_of, numbered
+from .batches import Batch
+from .commands import Command, NotNow
+from .ends import INTERRUPTED, End
+from .facts import Book, Facts, book_of, facts_of, groups_of
 from .far import Far
 from .files import Files
+from .holding import Holding
 from .jobs import Job, Jobs
 from .keeping import Keeper
 from .leftovers import Leftover, Leftovers
-from .log import Line, Log, Tried, line_of
-from .night import (ALREADY_DONE, CLOCK_NOT_FORWARD, FULL, MOST_BUSY, NOTHING_READY, NightEnded,
-                    Session, SessionFull, refusal)
+from .log import Log
+from .night import FULL, NightEnded, Session, SessionFull, refusal
 from .obeying import Canceler
-from .opening import (Maker, StoreFull, advance, ready_state, set_limits, withdraw,
-                      withdrawn)
+from .opening import StoreFull, advance, ready_state, set_limits, withdraw, withdrawn
 from .past import Past
-from .plan import Standing, may_begin, standings
-from .processes import group_lives, process_of
+from .planner import Planner
+from .processes import session_lives, process_of
+from .recording import Recorder
 from .renewal import renew
-from .rounds import Role, Round, role_name, round_of
+from .restarts import Restarts
+from .rounds import Role, Round, role_name
+from .scoping import Scopes
 from .signals import Signals
 from .state import ENDED, JOB, State
-from .telling import note, note_once, progress, tell
+from .standing import Standing
+from .stopping import Stopper
+from .summary import so_far
+from .telling import note, progress, tell
+from .timing import Deadlines, cause_of, moments
 from .tries import Tries
 
-# So often in a row `night` may end by itself with no end of a command recorded between, ..
-MOST_LOST = 5
-# .. unless the run that ended had gone on for so many seconds.
-GOOD_RUN = 60.0
-# A run of `night` that doesn't answer has so many seconds once the driver is asked to stop.
+# A run of `night` that doesn't answer has this many seconds once the driver is asked to stop.
 HURRY = 3.0
-# With nothing else to do the clock is moved so often.
-TICK = 10
 # How long the loop sleeps at most: beside processes that a command left, and else.
 LINGER, IDLE = 0.02, 1.0
-
-Then = Callable[[str], None]
-
-
-class Batch:
-    """Lines for `night`, each with what its reply leads to. Nothing is led to before the reply to
-    the last one, a flush, has come."""
-
-    def __init__(self) -> None:
-        self.lines: list[str] = []
-        self.then: list[Then | None] = []
-
-    def add(self, line: str, then: Then | None = None) -> None:
-        self.lines.append(line)
-        self.then.append(then)
-
-    def send(self, session: Session) -> int:
-        """How many events are acked then."""
-        replies = session.ask([*self.lines, "flush"],
-                              may=[ALREADY_DONE, CLOCK_NOT_FORWARD, NOTHING_READY, 2, *FULL])
-        for reply, then in zip(replies, self.then):
-            if then:
-                then(reply)
-        return int(replies[-1].split()[1])
-
 
 class Driver:
     """Runs the commands of a file over a store, from what has ended to the end of the night."""
 
     session: Session
-    opened: float  # when that was
 
-    def __init__(self, files: Files, jobs: Jobs, log: Log, past: Past, tries: Tries,
+    def __init__(self, files: Files, planner: Planner, log: Log, past: Past, tries: Tries,
                  left: Leftovers, most: int, grace: float, signals: Signals,
                  keeper: Keeper) -> None:
         self.signals, self.keeper = signals, keeper
-        self.files, self.jobs, self.log, self.past, self.tries = files, jobs, log, past, tries
+        self.files, self.planner, self.jobs = files, planner, planner.jobs
+        self.log, self.past, self.tries = log, past, tries
         self.left, self.most, self.grace = left, most, grace
         self.canceler, self.far = Canceler(self), Far(files)
         self.night = 1
@@ -118,22 +93,19 @@ class Driver:
         self.commands: dict[Name, Command] = {}  # those that were begun, or are to be
         self.facts = Facts()
         self.book = Book(1, Round())
-        self.places = {name: at for at, name in enumerate(jobs.all)}
-        self.names = list(jobs.all)
-        self.open: list[int] = []  # the commands that may be begun some time, by their places
+        self.later: float | None = None  # when the next retry is due
+        self.deadlines = Deadlines()
+        self.restarts, self.stopper = Restarts(), Stopper(tries, grace)
+        self.recorder, self.holding = Recorder(planner.jobs, log, left), Holding()
         self.before: State | None = None  # the state that was read before the next opening
         self.ran: dict[Name, Command] = {}  # those whose end was recorded in this run
-        self.is_stale = True
-        self.lost = self.busy = 0
-        self.is_full = self.cannot_renew = self.is_open = self.is_cut_off = False
-        self.missing = ""  # why the store isn't in its place
+        self.is_full = self.cannot_renew = self.is_cut_off = False
         self.has_looked = False  # whether `facts` are those of the store
         self.is_fruitless = self.is_woken = self.has_mark = False
-        self.later: float | None = None
-        self.try_again = 0.0
-        self.clock = self.ticked = self.acked = 0
+        self.acked = 0
         self.inherited = dict(os.environ)
         signals.raises = False
+        planner.meanwhile = self.meanwhile
 
     # --- from the first round to the last
 
@@ -173,43 +145,41 @@ class Driver:
         if self.asked_to_end > 1 or self.missing:
             raise Fault(self.missing or str(ended))
         self.files.forget_pages()
-        if ended.is_in_use() and not self.is_open and self.busy < MOST_BUSY:
-            self.busy += 1
+        if self.restarts.is_waiting(ended):
             self.meanwhile()
             time.sleep(0.1)
             return
-        if self.is_open and time.monotonic() > self.opened + GOOD_RUN:
-            self.lost = 0
-        is_hopeless = ended.status >= 0 and not self.is_open and not self.files.is_marked()
-        if is_hopeless or self.lost >= MOST_LOST:
+        if not self.restarts.may_begin(ended, self.files.is_marked()):
             raise ended
-        self.lost += 1
         note(f"{ended}; it is started again")
 
     def open_session(self) -> None:
         """Opens a session, and brings the store to what the file of commands asks for."""
-        self.is_open = False
+        self.restarts.begin()
         before, self.before = self.before, None
         self.session = Session(self.files.path, self.signals.wake, self.meanwhile,
                                lambda: self.asked_to_end)
         self.tries.sign_night(process_of(self.session.it.pid))
         state = ready_state(self.session, self.files, before)
-        self.files.keep_in_sight()
-        self.is_open, self.busy, self.opened = True, 0, time.monotonic()
-        self.clock, now = state.clock, int(time.time())
-        advance(self.session, now)
+        self.files.sight.keep()
+        self.restarts.open()
+        self.deadlines.clock = state.clock
+        advance(self.session, int(time.time()))
         withdraw(self.session, state)
         state = withdrawn(state)
-        self.log.add(self.ends_of(state))
+        self.recorder.catch_up(state, self.night, self.commands)
         self.take_in(state)
-        self.make_scopes(state)
+        if Scopes(self, state).make():
+            self.night, self.begins_night = self.book.night, False
+            self.anew.clear()
         set_limits(self.session, self.book, self.jobs, list(self.book.groups))
+        self.cancel_groups()
         self.rebind()
 
     def close(self) -> None:
         """Ends the session, with a mark where the whole night has ended."""
         top = self.book.top
-        found = standings(self.jobs, self.facts)
+        found = self.planner.standings(self.facts)
         if top and all(it.is_final for it in found.values()) and not self.has_mark:
             when = time.strftime("%Y-%m-%dT%H:%M:%S%z")
             mark = role_name(top.name, Role.ENDED)
@@ -221,7 +191,7 @@ class Driver:
         with contextlib.suppress(NightEnded):
             self.session.close()
         if not self.cannot_renew and not self.is_fruitless:
-            self.past, is_renewed = renew(self.files, self.log, self.past, self.jobs,
+            self.past, is_renewed = renew(self.files, self.log, self.past, self.planner,
                                           self.signals.wake, self.meanwhile)
             self.is_full, self.is_fruitless = False, True
             if is_renewed:
@@ -249,96 +219,17 @@ class Driver:
         self.facts.busy = self.left.names() | set(self.commands)
         top = self.book.top
         self.has_mark = bool(top and role_name(top.name, Role.ENDED) in state.by_name)
-        self.is_stale = self.has_looked = True
-        self.ask_why()
+        self.has_looked = True
+        self.deadlines.ask(self.session, self.book, self.facts)
 
-    def ask_why(self) -> None:
-        """Asks why scopes are done whose deadline passed as the clock was moved."""
-        its = [(group, it) for group, it in self.book.scopes.items()
-               if group in self.facts.done and not it.done]
-        for (group, _), reply in zip(its, self.session.ask([f"scope {it.name}" for _, it in its])):
-            self.passed(group, reply)
-
-    def ends_of(self, state: State) -> Iterator[tuple[Tried, Line]]:
-        """The lines of the log for what the store has as ended."""
-        ours = state.groups_of(self.night)
-        for task, tried in numbered(state):
-            if task.end and task.group in ours and not task.is_withdrawn \
-                    and tried not in self.log.lines:
-                job = self.jobs.all.get(task.name)
-                yield tried, self.line(task.name, task.end, job.command if job else "-",
-                                       task.number)
-
-    def line(self, name: Name, end: End, text: str, number: int) -> Line:
-        """The line of an end, with its times where its command is at hand."""
-        it = self.commands.get(name)
-        if it and it.number == number and it.took is not None and end is not INTERRUPTED:
-            return line_of(it.began, it.took, end, it.text)
-        return line_of(None, None, end, text)
-
-    def make_scopes(self, state: State) -> None:
-        """Makes the scopes of what is left to do; a group's anew where its deadline is another one
-        in the file."""
-        maker = Maker(self.session, self.book, self.jobs, state)
-        found = standings(self.jobs, self.facts)
-        wanted = {group for (group, _), it in found.items()
-                  if not it.is_final or group in self.anew}
-        homeless = bool(self.homeless())
-        if wanted or self.begins_night or homeless:
-            old = self.book.top
-            maker.top()
-            moved = old is not None and old is not self.book.top and not maker.is_done(old)
-            for group in self.jobs.members:
-                self.make_scope(maker, group, group in wanted, moved)
-            self.make_for_running(maker)
-            try:
-                maker.send()
-            except StoreFull:
-                if self.is_fruitless:
-                    raise Fault(f"{self.files.shown}: the file has more groups than a store has"
-                                " scopes for") from None
-                raise
-            self.note_night(state)
-            self.night, self.begins_night = self.book.night, False
-            self.anew.clear()
-
-    def note_night(self, state: State) -> None:
-        """Notes how this night began, once its scopes are there. Of one that an earlier driver
-        began the store says that, unless it was renewed since."""
-        night, tops = self.book.night, state.tops(self.book.night, self.book.night)
-        is_first = not tops and not self.past.round
-        is_renewed = bool(self.past.round) and self.past.night == night
-        first = tops[0] if tops else self.book.top
-        if first and (self.begins_night or is_first
-                      or not is_renewed and not self.keeper.knows(night)):
-            self.keeper.begin(night, round_of(first.name).number, self.begins_night)
-
-    def make_scope(self, maker: Maker, group: str, is_wanted: bool, moved: bool) -> None:
-        """Makes the scope of a group, if it needs one."""
-        scope = self.book.scopes.get(group)
-        is_gone = is_wanted and scope is None and group not in self.book.gone
-        is_other = is_wanted and scope is not None and group not in self.facts.done and (
-            moved or maker.is_other(scope, group))
-        if is_gone or is_other or group in self.anew:
-            if is_other and group not in self.anew:
-                said = self.jobs.groups[group].deadline or "none"
-                note(f"{group}: its deadline is now: {said}")
-            maker.group(group)
-            self.facts.done.pop(group, None)
-            self.is_stale = True
-
-    def make_for_running(self, maker: Maker) -> None:
-        """Makes scopes for commands that run on while theirs was done, and went with a renewal."""
-        for group in self.homeless():
-            cause = self.facts.done.get(group)
-            maker.group(group)
-            if cause is not None:
-                maker.lines.append(f"cancel {self.book.scopes[group].name} {cause}")
-
-    def homeless(self) -> set[str]:
-        """The groups that have no scope, and commands whose ends are to be recorded."""
-        its = {it[0] for it in self.commands} | self.left.groups()
-        return its - set(self.book.scopes)
+    def cancel_groups(self) -> None:
+        """Cancels the groups that an earlier failure cancels: a kill may have come between the
+        two."""
+        batch = Batch()
+        for name, end in list(self.facts.ends.items()):
+            self.cancel_after(batch, name, end)
+        if batch.lines:
+            batch.send(self.session)
 
     def rebind(self) -> None:
         """Gives each command that runs on, or whose end isn't recorded, a running task again."""
@@ -358,7 +249,9 @@ class Driver:
     def work(self) -> None:
         while True:
             self.round()
-            self.show()
+            if progress.is_on:
+                progress.show(so_far(self.facts.ends.values(), len(self.jobs.all),
+                                     len(self.commands)))
             if self.is_over():
                 return
             self.wait()
@@ -373,7 +266,7 @@ class Driver:
         self.add_ends(batch)
         self.look_for_leftovers(batch)
         asked = self.canceler.add(batch)
-        self.add_clock(batch, bool(batch.lines))
+        self.add_clock(batch)
         begun = self.add_begins(batch)
         if batch.lines:
             self.acked = batch.send(self.session)
@@ -385,15 +278,11 @@ class Driver:
 
     def look_for_store(self) -> None:
         """Sees whether the store is in its place; what is open of it takes ends meanwhile."""
-        why = self.files.missing()
-        if why and not self.missing:
-            tell(f"{self.files.shown}: {why}: it was taken away during the night; no more"
-                 " commands are started until it is back")
-        elif self.missing and not why:
-            note(f"{self.files.shown}: it is back")
-            self.is_stale = True
-        self.missing = f"{self.files.shown}: {why}: it was taken away during the night" \
-            if why else ""
+        self.files.sight.look()
+
+    @property
+    def missing(self) -> str:
+        return self.files.sight.missing
 
     def add_ends(self, batch: Batch) -> None:
         """The ends of commands. They are logged, and their places free, once all is acked."""
@@ -410,11 +299,11 @@ class Driver:
             if self.left.keep(command):
                 self.facts.busy.add(command.name)
             self.facts.ended(command.name, end, now)
-            self.reopen(command.name, end)
+            self.cancel_after(batch, command.name, end)
 
     def recorded(self, command: Command, _: str = "ok") -> None:
         """The end of a command is durable."""
-        self.lost = 0
+        self.restarts.recorded()
         if self.commands.get(command.name) is command:
             del self.commands[command.name]
         self.put_aside(command)
@@ -422,29 +311,15 @@ class Driver:
             self.ran[command.name] = command
         end = command.end() or INTERRUPTED
         self.is_woken |= not end.is_ok
-        tried = command.group, command.job.key, command.tried
-        began = None if command.is_never or not command.began else command.began
-        self.log.add(iter([(tried, line_of(began, command.took, end, command.text))]))
+        self.recorder.ended(command, end)
 
     def put_aside(self, command: Command) -> None:
         """The file of a try says nothing any more, unless something of it is left that may not
         be."""
-        may_be = command.may_leave or not command.pid or not group_lives(command.pid)
+        may_be = command.may_leave or not command.pid or command.is_clear \
+            or not session_lives(command.pid)
         if command.record and may_be:
             self.tries.forget(command.record)
-
-    def reopen(self, name: Name, end: End) -> None:
-        """A command that failed may be tried again; one that failed for good may decide about
-        others."""
-        if end.is_ok or name not in self.places:
-            return
-        job = self.jobs.all[name]
-        if self.jobs.stops(name[0]):
-            self.is_stale = True  # (another command may have failed while this one lingered)
-        elif self.facts.failures[name] <= job.retries and not end.is_canceled:
-            bisect.insort(self.open, self.places[name])
-        elif self.jobs.matters(name):
-            self.is_stale = True
 
     def forget(self, command: Command) -> None:
         """A command that was cut off: the next opening interrupts its task."""
@@ -454,60 +329,28 @@ class Driver:
         self.facts.busy.discard(command.name)
         if self.left.keep(command):
             self.facts.busy.add(command.name)
-        self.facts.interrupted.add(command.name)
+        self.facts.cut_off(command.name)
         tell(f"{command.name[0]} {command.name[1]}: interrupted")
 
-    def add_clock(self, batch: Batch, is_busy: bool) -> None:
-        """Moves the clock: with other lines, where a deadline passes, and once in a while."""
-        now = int(time.time())
-        passed = [(group, it) for group, it in self.book.scopes.items()
-                  if group not in self.facts.done and it.deadline is not None
-                  and it.deadline <= max(now, self.clock)]
-        if now > self.ticked and (is_busy or passed) or now >= self.ticked + TICK:
-            self.ticked = now
-            if now > self.clock:
-                self.clock = now
-                batch.add(f"advance {now}")
-        for group, scope in passed:
-            self.facts.cancel(group, self.book.said.get(group, PASSED))
-            self.is_stale = True
-            batch.add(f"scope {scope.name}", partial(self.passed, group))
-
-    def passed(self, group: str, reply: str) -> None:
-        """Takes in why a scope is done, as the store says it."""
-        _, is_done, cause = reply.partition("; cause ")
-        if is_done:
-            self.facts.done[group] = cause
+    def add_clock(self, batch: Batch) -> None:
+        """Moves the clock, and sees which deadlines pass."""
+        self.deadlines.add(batch, self.book, self.facts, int(time.time()))
 
     def add_begins(self, batch: Batch) -> list[Command]:
         """Submits and starts what has a place; it begins once that is acked."""
-        if self.is_stale:
-            self.sort_out()
         self.later = None
-        places = self.most - len(self.facts.busy)
-        if self.asked_to_end or places <= 0 or self.is_full or self.missing:
+        if self.asked_to_end or self.is_full or self.missing:
             return []
-        # (another try waits until the end of the one before is durable)
-        left = (it for it in map(self.names.__getitem__, self.open) if it not in self.commands)
-        found = may_begin(self.jobs, self.facts, left, places, time.time())
+        found = self.planner.choose(self.facts, self.most, time.time(), self.commands)
         self.later = found.later
         made = []
         for name in found.names:
-            at = bisect.bisect_left(self.open, self.places[name])
-            del self.open[at]
             command = Command(self.jobs.all[name], "", 0, -1, "")
             self.commands[name] = command
             self.facts.busy.add(name)
             self.add_start(batch, command)
             made.append(command)
         return made
-
-    def sort_out(self) -> None:
-        """Finds anew which commands may be begun some time."""
-        self.is_stale = False
-        found = standings(self.jobs, self.facts)
-        self.open = [self.places[name] for name, it in found.items()
-                     if not it.is_final and name not in self.facts.busy]
 
     def add_start(self, batch: Batch, command: Command, group: str = "") -> None:
         """The lines that submit and start a task for a command, in its group or in this one."""
@@ -552,10 +395,10 @@ class Driver:
             self.is_full = True
             return
         self.is_fruitless = False
-        output = self.files.output(group, command.job.key, tried)
+        output = self.files.outputs.name(group, command.job.key, tried)
         if command.output and command.output != output:
             with contextlib.suppress(OSError):
-                self.files.move_output(command.output, output)
+                self.files.outputs.move(command.output, output)
         command.group, command.tried, command.output = group, tried, output
         command.number = int(words[1])
 
@@ -565,25 +408,23 @@ class Driver:
             return
         try:
             command.begin(self.tries, self.acked, self.far, self.inherited)
+            self.holding.has_begun()
         except NotNow as why:
-            self.begin_later(str(why))
+            self.holding.hold(str(why))
         self.is_woken |= bool(command.failure)
-
-    def begin_later(self, why: str) -> None:
-        self.try_again = time.monotonic() + IDLE
-        note_once(f"{why}: commands are started later")
 
     def stop_those_due(self) -> None:
         """Stops the commands of groups that are done and those whose time is over, and begins those
         that had no room."""
         for command in self.commands.values():
             if command.put_off:
-                self.begin_later(command.put_off)
+                self.holding.hold(command.put_off)
                 command.put_off = ""
-        retry = time.monotonic() >= self.try_again
+        retry = self.holding.is_over()
         for command in list(self.commands.values()):
             if not command.has_begun:
-                if self.asked_to_end or self.missing or command.name[0] in self.facts.done:
+                is_done = command.name[0] in self.facts.done and not command.job.cleans_up
+                if self.asked_to_end or self.missing or is_done:
                     self.drop(command)
                 elif retry:
                     self.begin(command)
@@ -593,42 +434,32 @@ class Driver:
         """A command that was to begin doesn't; its task is interrupted by the next opening."""
         self.commands.pop(command.name, None)
         self.facts.busy.discard(command.name)
-        self.is_stale = True
 
     def press(self) -> None:
         """Asks commands to end whose time is over, and kills those that don't."""
+        cuts_off, now = self.asked_to_end > 1, time.time()
         for command in self.commands.values():
-            if command.has_begun and not command.poll(self.grace) and (
-                    command.is_here or command.is_asked_for):
-                if command.is_overdue():
-                    self.stop(command, failed(f"timeout {command.job.timeout_said}"))
-                self.press_one(command)
+            cause = self.cause(command.name, now)
+            self.stopper.press(command, cause, cuts_off)
         for left in self.left.there():
-            if left.is_overdue() and left.job:
-                self.stop(left, failed(f"timeout {left.job.timeout_said}"))
-            elif left.has_orphans():
-                left.clear(self.grace)
-            elif (end := self.facts.ends.get(left.name)) and end.is_canceled:
-                self.stop(left, end)
-            self.press_one(left)
+            cause = self.cause(left.name, now)
+            self.stopper.press_left(left, self.facts.ends.get(left.name), cause, cuts_off)
 
-    def press_one(self, it: Running) -> None:
-        scope = self.book.scopes.get(it.name[0])
-        cause = self.facts.done.get(it.name[0])
-        if cause is None and scope and scope.deadline is not None \
-                and scope.deadline <= time.time():
-            cause = self.book.said.get(it.name[0], PASSED)
-        if cause is not None:
-            self.stop(it, canceled(cause))
-        elif self.asked_to_end > 1:
-            self.stop(it, None)
-        it.press(self.grace)
+    def cause(self, name: Name, now: float) -> str | None:
+        """Why a command is to be stopped because of its group; None where it isn't."""
+        if self.jobs.cleans_up(name):
+            return None
+        return cause_of(self.book, self.facts, name[0], now)
 
-    def stop(self, it: Running, why: End | None) -> None:
-        """Asks a command to end, once, and has a later driver know it."""
-        if it.stopped is None and it.record:
-            self.tries.stop(it.record, why)
-        it.stop(why)
+    def cancel_after(self, batch: Batch, name: Name, end: End) -> None:
+        """Cancels a group that a failure of this command cancels."""
+        group = name[0]
+        if name in self.jobs.all and self.jobs.cancels(group) and group not in self.facts.done \
+                and not end.is_canceled and self.planner.has_failed(
+                    self.facts, self.jobs.all[name], end):
+            self.facts.cancel(group, end.text)
+            if group in self.book.scopes:
+                batch.add(f"cancel {self.book.scopes[group].name} {end.text}")
 
     def look_for_leftovers(self, batch: Batch) -> None:
         """Takes the ends of tries of an earlier driver that are over. Of what is over without one
@@ -641,7 +472,6 @@ class Driver:
             self.left.drop(it)
             if it.name not in self.left.names():
                 self.facts.busy.discard(it.name)
-            self.is_stale = True
             is_open = it.name not in self.commands and it.name not in self.facts.ends
             if it.counts and it.job and it.is_known() and is_open:
                 self.adopt(it, it.job, batch)
@@ -650,8 +480,9 @@ class Driver:
 
     def adopt(self, it: Leftover, job: Job, batch: Batch) -> None:
         """Takes the end of a try that an earlier driver began."""
-        output = self.files.output(it.it.group, it.it.key, it.it.number)
+        output = self.files.outputs.name(it.it.group, it.it.key, it.it.number)
         command = self.commands[job.name] = it.adopted(job, output)
+        command.began = it.began(self.log) or command.began
         self.facts.busy.add(job.name)
         self.add_start(batch, command)
         self.is_woken = True
@@ -666,12 +497,11 @@ class Driver:
 
     def may_go_on(self) -> bool:
         """Whether something may be begun now or later."""
-        if self.is_stale or self.is_woken:
+        if self.is_woken:
             return True
         if self.is_full or self.missing:
             return False
-        left = (self.names[it] for it in self.open)
-        found = may_begin(self.jobs, self.facts, left, 1, time.time())
+        found = self.planner.first(self.facts, time.time())
         return bool(found.names) or found.later is not None
 
     # --- the end of it by a fault
@@ -683,7 +513,7 @@ class Driver:
         self.left.its = self.left.its if is_asked else []
         while True:
             for it in [it for it in self.commands.values() if it.poll(self.grace)]:
-                self.facts.ends.pop(it.name, None)  # (whose end isn't acked)
+                self.facts.unsay(it.name)  # (its end isn't acked)
                 self.forget(it)
             self.commands = {name: it for name, it in self.commands.items() if it.has_begun}
             self.left.its = [it for it in self.left.there() if not it.is_late(self.grace)]
@@ -695,7 +525,7 @@ class Driver:
     def known(self) -> dict[Name, Standing]:
         """How each command stands by what the driver knows, once it has ended by a fault."""
         self.facts.busy.clear()
-        return standings(self.jobs, self.facts)
+        return self.planner.standings(self.facts)
 
     # --- signals and the terminal
 
@@ -713,12 +543,10 @@ class Driver:
             seconds = LINGER
         if self.left:
             seconds = min(seconds, 0.2)
-        now = time.time()
-        moments: list[float] = [it.deadline for group, it in self.book.scopes.items()
-                                if it.deadline is not None and group not in self.facts.done]
+        now, its = time.time(), moments(self.book, self.facts)
         if self.later is not None:
-            moments.append(self.later)
-        for it in moments:
+            its.append(self.later)
+        for it in its:
             seconds = min(seconds, max(0.0, it - now))
         self.signals.wait(seconds)
 
@@ -731,12 +559,3 @@ class Driver:
         self.drain()
         self.press()
         return HURRY if self.asked_to_end > 1 else 1e9
-
-    def show(self) -> None:
-        """A line of progress."""
-        if not progress.is_on:
-            return
-        ends = self.facts.ends
-        bad = sum(not it.is_ok for it in ends.values())
-        progress.show(f"{len(ends)} of {len(self.jobs.all)} done, {len(self.commands)} running,"
-                      f" {bad} failed")

@@ -1,5 +1,5 @@
-"""Looks at files that may lie on a mount that doesn't answer, as of a server that is gone: such a
-call never ends, so it is made by a thread of its own, which is given up after a while.
+"""Looks at files that may be on a mount that doesn't answer, because its server is gone for
+example. Such a call never ends, so a thread of its own makes it, and is given up after a while.
 """
 
 from __future__ import annotations
@@ -11,7 +11,7 @@ from collections.abc import Callable
 from typing import Generic, TypeVar
 
 T = TypeVar("T")
-# So many seconds a look at a folder may keep the loop waiting, once, and it may take in all.
+# How many seconds a look at a folder may keep the loop waiting, once, and it may take in all.
 AT_ONCE, PATIENCE = 0.2, 10.0
 
 
@@ -40,7 +40,7 @@ class Look(Generic[T]):
         self.is_done.set()
 
     def answer(self, seconds: float) -> T | None:
-        """What the call returned or raised; NoAnswer where it hasn't ended after so long."""
+        """The result or the error of the call; NoAnswer if it hasn't ended after this long."""
         if not self.is_done.wait(seconds):
             raise NoAnswer
         if self.error:
@@ -49,19 +49,19 @@ class Look(Generic[T]):
 
 
 def answered(call: Callable[[], T], seconds: float) -> T | None:
-    """What a call returns; NoAnswer where that takes longer."""
+    """The result of a call; NoAnswer if it takes longer."""
     return Look(call).answer(seconds)
 
 
 class Folders:
-    """The folders that commands run in, each with its look that hasn't ended yet."""
+    """The folders that commands run in, each with its look if that hasn't ended yet."""
 
     def __init__(self) -> None:
         self.looks: dict[str, Look[bool]] = {}
 
     def has(self, path: str) -> bool | None:
-        """Whether there is a folder; None where that isn't known yet, and NoAnswer once it has
-        been looked for long enough."""
+        """Whether there is such a folder; None if that isn't known yet, and NoAnswer after the look
+        has taken long enough."""
         look = self.looks.get(path)
         is_first = look is None
         if look is None:

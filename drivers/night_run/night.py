@@ -1,7 +1,8 @@
-"""The program `night`: the words that print at once, and a run of `night script`.
+"""The program `night`: the subcommands that print at once, and a run of `night script`.
 
-A reply that doesn't come in its time is a fault: the run is killed then, a stopped one too, under
-the mark of a failed sync. One that the disk holds up in a sync is waited for first.
+If a reply doesn't come in time, that is a fault: the mark of a failed sync is made, and the run is
+killed, also one that a signal has stopped. If the disk holds the run up in a sync, it is waited for
+first.
 """
 
 from __future__ import annotations
@@ -14,7 +15,7 @@ import shutil
 import signal
 import subprocess
 import time
-from collections.abc import Callable, Sequence
+from collections.abc import Callable, Iterator, Sequence
 from typing import Any
 
 from . import Fault
@@ -23,7 +24,7 @@ from .processes import Tried, is_held
 from .settings import OF_ALL
 from .telling import note
 
-# So many lines are sent before their replies are read. They have 256 bytes at most, and replies
+# How many lines are sent before their replies are read. They have 256 bytes at most, and replies
 # fewer, so that neither fills a pipe, of one page of memory at least, whose other end waits.
 BATCH = 16
 # Refusals, by their numbers (docs/formats.md).
@@ -38,7 +39,7 @@ WHOLE_SECONDS = 120.0
 OFTEN = 0.05
 # A renewal does both.
 RENEWAL_SECONDS = 300.0
-# So long one that was killed is waited for; the disk may hold it.
+# How long one that was killed is waited for; the disk may hold it.
 KILLED_SECONDS = 1.0
 # So often in a row the store may be in use, a tenth of a second each.
 MOST_BUSY = 100
@@ -48,27 +49,30 @@ REFUSED = re.compile(r"refused ([0-9]+) ")
 
 
 class NightEnded(Exception):
-    """A run of `night` ended, by a signal where its status is below 0, and told this."""
+    """A run of `night` has ended, with a status below 0 if a signal ended it, and with this on
+    standard error."""
 
     def __init__(self, status: int, told: str = "") -> None:
         super().__init__(status)
         self.status, self.told = status, told
 
     def is_in_use(self) -> bool:
-        """Whether another program had the store, an `inspect` that reads it for a moment, too."""
+        """Whether another program had the store, even an `inspect` that reads it for a moment."""
         return "in use by another program" in self.told
 
     def __str__(self) -> str:
         told = "; ".join(it.removeprefix("night: ") for it in self.told.splitlines())
-        return f"{told}; `night` ended with status {self.status}".removeprefix("; ")
+        how = f"ended with status {self.status}" if self.status >= 0 else \
+            f"was ended by signal {-self.status} ({signal.strsignal(-self.status)})"
+        return f"{told}; `night` {how}".removeprefix("; ")
 
 
 class SessionFull(Exception):
-    """The session's log has no room; the next run of `night` begins with an empty one."""
+    """The log of the session is full. The next run of `night` begins with an empty one."""
 
 
 def program() -> str:
-    """The program: what NIGHT names, the one on the path, or the one of this repository."""
+    """The program: the one that NIGHT names, the one on the path, or the one of this repository."""
     given = os.environ.get("NIGHT")
     if given and not shutil.which(given):
         raise Fault(f"NIGHT names no program: {given}")
@@ -76,18 +80,19 @@ def program() -> str:
     for it in (given, shutil.which("night"), f"{here}/crates/night/out/night"):
         if it and (found := shutil.which(it)):
             return found
-    raise Fault("no program `night`: ./build makes it; put it on the path, or name it by NIGHT")
+    raise Fault("no program `night`: install it, put it on the path, or name it in NIGHT")
 
 
 def ran(*words: str, seconds: float = WHOLE_SECONDS,
         meanwhile: Callable[[], float] | None = None) -> str:
-    """What `night` prints for these words. While the store is in use it is tried again, and so is
-    an inspection that a signal ended. It has so many seconds, or as many as `meanwhile` says, which
-    is asked all the while."""
+    """The output of `night` with these arguments. While the store is in use it is tried again, and
+    so is an inspection that a signal ended. It may take this many seconds, or as many as
+    `meanwhile` returns, which is called all the while."""
     for busy in range(MOST_BUSY):
-        it = subprocess.Popen([program(), *words], stdin=subprocess.DEVNULL, text=True,
-                              errors="replace", stdout=subprocess.PIPE, stderr=subprocess.PIPE,
-                              start_new_session=True)
+        with starting():
+            it = subprocess.Popen([program(), *words], stdin=subprocess.DEVNULL, text=True,
+                                  errors="replace", stdout=subprocess.PIPE, stderr=subprocess.PIPE,
+                                  start_new_session=True)
         try:
             printed, told = communicated(it, seconds, meanwhile)
         except subprocess.TimeoutExpired:
@@ -103,8 +108,18 @@ def ran(*words: str, seconds: float = WHOLE_SECONDS,
     raise ended
 
 
+@contextlib.contextmanager
+def starting() -> Iterator[None]:
+    """Errors of the system name the program, which can't be started."""
+    try:
+        yield
+    except OSError as error:
+        raise OSError(error.errno, f"it can't be started: {error.strerror}", program()) from None
+
+
 def kill(it: subprocess.Popen[Any], store: str) -> None:
-    """Kills a `night` over this store that is late. It may be in a sync: the mark is left first."""
+    """Kills a `night` over this store that is late. It may be in a sync, so the mark is left
+    first."""
     leave_mark(store)
     it.kill()
     with contextlib.suppress(subprocess.TimeoutExpired):
@@ -113,7 +128,7 @@ def kill(it: subprocess.Popen[Any], store: str) -> None:
 
 def communicated(it: subprocess.Popen[str], seconds: float,
                  meanwhile: Callable[[], float] | None) -> tuple[str, str]:
-    """What it prints and tells until it ends; TimeoutExpired where that takes too long."""
+    """Its output and its messages, once it has ended; TimeoutExpired if that takes too long."""
     began = time.monotonic()
     while meanwhile:
         left = began + min(seconds, meanwhile()) - time.monotonic()
@@ -131,7 +146,7 @@ def refusal(reply: str) -> int | None:
 
 
 def of_session(store: str) -> Tried:
-    """What the environment of a `night script` says, as that of a try does."""
+    """What the environment of a `night script` says, as the environment of a try names the try."""
     return Tried(store, OF_ALL, "script", 0)
 
 
@@ -143,10 +158,11 @@ class Session:
     def __init__(self, store: str, wake: int, meanwhile: Callable[[], float],
                  asked: Callable[[], int] = lambda: 0) -> None:
         self.store, self.meanwhile, self.asked = store, meanwhile, asked
-        self.it = subprocess.Popen(
-            [program(), "script", store], stdin=subprocess.PIPE, stdout=subprocess.PIPE,
-            stderr=subprocess.PIPE, bufsize=0, start_new_session=True,
-            env={**os.environ, **of_session(store).environment()})
+        with starting():
+            self.it = subprocess.Popen(
+                [program(), "script", store], stdin=subprocess.PIPE, stdout=subprocess.PIPE,
+                stderr=subprocess.PIPE, bufsize=0, start_new_session=True,
+                env={**os.environ, **of_session(store).environment()})
         assert self.it.stdin and self.it.stdout and self.it.stderr
         self.lines, self.replies, self.told = self.it.stdin, self.it.stdout, self.it.stderr
         os.set_blocking(self.replies.fileno(), False)
@@ -157,8 +173,8 @@ class Session:
         self.has_replied = False
 
     def ask(self, lines: Sequence[str], may: Sequence[int] = ()) -> list[str]:
-        """The replies to these lines. One that is refused is a fault, but for the numbers of may:
-        then its reply is the refusal."""
+        """The replies to these lines. A refusal is a fault, unless its number is one of `may`: then
+        the refusal is the reply."""
         replies: list[str] = []
         for at in range(0, len(lines), BATCH):
             part = lines[at:at + BATCH]
@@ -176,7 +192,7 @@ class Session:
         return replies
 
     def read(self, count: int) -> list[str]:
-        """So many replies."""
+        """This many replies."""
         began = time.monotonic()
         while self.left.count(b"\n") < count:
             if b"fault " in self.left:
@@ -198,7 +214,7 @@ class Session:
         return found
 
     def fill(self) -> None:
-        """Takes what it has printed so far."""
+        """Takes in what it has printed so far."""
         try:
             part = os.read(self.replies.fileno(), 65536)
         except BlockingIOError:
@@ -208,7 +224,7 @@ class Session:
         self.left += part
 
     def lost(self) -> NightEnded:
-        """How it ended, where that is too early."""
+        """How it ended, if it has ended too early."""
         try:
             self.close()
         except NightEnded as ended:
@@ -233,19 +249,19 @@ class Session:
             raise NightEnded(status, told)
 
     def abandon(self) -> None:
-        """Ends it, however it is: its `night` has the store's lock."""
+        """Ends it in whatever state it is, because its `night` has the store's lock."""
         with contextlib.suppress(NightEnded, OSError, ValueError):
             self.close()
 
     def outlasts(self) -> bool:
-        """Whether `night`, which is late, goes on after a sync in which the disk held it; else it
-        is killed."""
+        """Whether `night`, which is late, goes on after a sync in which the disk held it up. If it
+        doesn't, it is killed."""
         leave_mark(self.store)
         asked, end = self.asked(), time.monotonic() + WHOLE_SECONDS
         was_held = is_held(self.it.pid)
         if was_held:
             note(f"waiting for the disk: `night`, process {self.it.pid}, is in a sync of"
-                 f" {self.store}; another signal ends this")
+                 f" {self.store}; another signal ends the wait")
         while is_held(self.it.pid) and self.asked() == asked and time.monotonic() < end:
             self.meanwhile()
             time.sleep(0.02)

@@ -1,11 +1,12 @@
-"""STORE.nights: when the last nights began, and when one was all well. Its lines are
+"""STORE.nights: when the last nights began, and when a night last ended with every command ok. Its
+lines are
 
     night N round R begun MOMENT last MOMENT     the names of night N have the round R at least;
                                                  the last command before it ended then, or -
     well N at MOMENT                             the last night in which every command was ok
 
-with moments in seconds since 1970. A line of another form, and a file that can't be read, say
-nothing: what isn't known to be of an old night is kept.
+with moments in seconds since 1970. A line of another form says nothing, and neither does a file
+that can't be read: a file stays unless it is known to be of an old night.
 """
 
 from __future__ import annotations
@@ -15,7 +16,7 @@ from dataclasses import dataclass, field
 
 from .beside import Part
 from .files import Files
-from .telling import note_once
+from .telling import note_once, told_of
 
 MOMENT = r"([0-9]{1,12}(?:\.[0-9]{1,3})?)"
 NIGHT = re.compile(rf"night ([0-9]{{1,9}}) round ([0-9]{{1,9}}) begun {MOMENT} last (?:{MOMENT}|-)")
@@ -50,8 +51,8 @@ class Nights:
         return "".join(lines)
 
     def add(self, it: Night, keep: int) -> None:
-        """Adds a night. Those are forgotten that nothing is kept of, and those of an older store:
-        a later night has a greater number and a greater round."""
+        """Adds a night. Nights of which nothing is kept are forgotten, and so are those of an older
+        store: a later night has a greater number and a greater round."""
         self.begun = {number: one for number, one in self.begun.items()
                       if it.number - keep <= number < it.number and one.round < it.round}
         self.begun[it.number] = it
@@ -78,8 +79,8 @@ def read_nights(files: Files) -> Nights:
 
 
 def write_nights(files: Files, nights: Nights) -> None:
-    """Puts this in the file's place. One that can't be written ends no night."""
+    """Puts this in the file's place. If it can't be written, the night goes on."""
     try:
         files.put(Part.NIGHTS, nights.text().encode("ascii"))
     except OSError as error:
-        note_once(f"{files.shown_of(Part.NIGHTS)}: {error.strerror}")
+        note_once(told_of(error))

@@ -1,9 +1,9 @@
 """How a driver obeys the cancels that it is asked for (`cancels`).
 
-The scope of a group, or of all groups together, is cancelled in the store. A command has no scope:
-one that runs is stopped, and one that doesn't gets a task that ends as canceled before it begins,
-in a group without a limit where its own group may be at its limit. A request is answered once what
-it asked for is durable; until then each round comes back to it.
+The scope of a group, or of all groups together, is canceled in the store. A command has no scope.
+If it runs, it is stopped. Otherwise it gets a task that ends as canceled before it begins, in a
+group without a limit if its own group may be at its limit. A request is answered once its effect is
+durable; until then each round comes back to it.
 """
 
 from __future__ import annotations
@@ -15,12 +15,13 @@ from . import Name
 from .cancels import NO_GROUP, REFUSED, Desk, Request, has_ended, is_key, no_command
 from .commands import Command
 from .ends import End, canceled
-from .plan import CANCELLED, standings
 from .rounds import base_of
 from .settings import OF_ALL
+from .standing import CANCELLED
 
 if TYPE_CHECKING:
-    from .loop import Batch, Driver
+    from .batches import Batch
+    from .loop import Driver
 
 
 class Canceler:
@@ -70,14 +71,13 @@ class Canceler:
             batch.add(f"cancel {scope.name} {it.why}")
         for scope in scopes[:1]:
             batch.add(f"scope {scope.name}", partial(answers.__setitem__, it))
-        self.driver.is_stale = True
 
     def add_command(self, batch: Batch, it: Request, answers: dict[Request, str]) -> None:
         name, end = (it.group, it.key), canceled(it.why)
         if name in self.driver.facts.busy:
             self.stop(name, end)
             return
-        found = standings(self.driver.jobs, self.driver.facts)[name]
+        found = self.driver.planner.standings(self.driver.facts)[name]
         if not found.is_final:
             self.end(batch, name, end)
         elif found.phase == CANCELLED:
@@ -91,10 +91,10 @@ class Canceler:
         if command and not command.has_begun:
             command.never(end)
         elif command:
-            self.driver.stop(command, end)
+            self.driver.stopper.stop(command, end)
         for left in self.driver.left:
             if left.name == name:
-                self.driver.stop(left, end)
+                self.driver.stopper.stop(left, end)
 
     def end(self, batch: Batch, name: Name, end: End) -> None:
         """Gives a command that doesn't run a task, which ends in the next round."""
@@ -104,7 +104,7 @@ class Canceler:
         driver.commands[name] = command
         driver.facts.busy.add(name)
         driver.add_start(batch, command, self.free_group(batch, name[0]))
-        driver.is_woken = driver.is_stale = True
+        driver.is_woken = True
 
     def free_group(self, batch: Batch, base: str) -> str:
         """A group of the store that is never at a limit; empty where the usual one has none."""

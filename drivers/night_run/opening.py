@@ -1,8 +1,9 @@
 """A session, made ready for the loop: the store as the file of commands wants it.
 
-Tasks are submitted as they are started, and none before. So what stands ready in a store comes from
-a driver that was killed between the two, or from an older one: it is withdrawn (started, and ended
-with an error that counts for nothing), since a start would take it first.
+Tasks are submitted only when they are started. So a task that is ready in a store comes from a
+driver that was killed between the two requests, or from an older driver. Such a task is withdrawn
+(started, and ended with an error that doesn't count), because a start would take it before all
+others.
 """
 
 from __future__ import annotations
@@ -25,7 +26,7 @@ from .state import FRESH, JOB, Scope, State, read_state
 
 
 class StoreFull(Exception):
-    """The store has no row for what is to be made; a renewal may give some back."""
+    """The store has no row left for what is to be made. A renewal may free some."""
 
 
 def inspected(files: Files) -> State:
@@ -34,19 +35,19 @@ def inspected(files: Files) -> State:
 
 
 def check(files: Files, state: State, events: int) -> None:
-    """Nothing but a driver's tasks may lie in the store: it would start them, too."""
+    """Only tasks of a driver may be in the store, because a driver would start any others, too."""
     if state.count < events:
-        raise Fault(f"{files.shown}.ended is of another store: put it aside")
+        raise Fault(f"{files.shown}.ended belongs to another store: move it away")
     for it in state.tasks:
         if it.job != JOB:
-            raise Fault(f"{files.shown} has a task of another kind: {it.number}, {it.job}; a"
-                        " night-run has a store of its own")
+            raise Fault(f"{files.shown} has a task of another kind: {it.number}, {it.job}:"
+                        " give night-run a store of its own")
 
 
 def opened(files: Files, before: State | None, wake: int,
            meanwhile: Callable[[], float]) -> tuple[Session, State]:
-    """A session that is open, and its state. While another program has the store, as one that reads
-    it for a moment, it is tried again."""
+    """A session that is open, and its state. While another program has the store, such as one that
+    reads it for a moment, the opening is tried again."""
     for left in reversed(range(MOST_BUSY)):
         session = Session(files.path, wake, meanwhile)
         try:
@@ -63,8 +64,8 @@ def opened(files: Files, before: State | None, wake: int,
 
 
 def ready_state(session: Session, files: Files, before: State | None) -> State:
-    """The state once the session is open. What was read before serves where nothing came between:
-    the opening is one event."""
+    """The state once the session is open. The state that was read before serves if nothing came
+    between the two: the opening is one event."""
     reply = session.ask(["flush"])[0]
     if before and reply == f"acked {before.count + 1}":
         return before.reopened()
@@ -72,7 +73,7 @@ def ready_state(session: Session, files: Files, before: State | None) -> State:
 
 
 def withdraw(session: Session, state: State) -> None:
-    """Ends all tasks that stand ready or are held, without beginning them."""
+    """Ends all tasks that are ready or held, without beginning their commands."""
     left = sum(it.phase in FRESH for it in state.tasks)
     while left:
         count = min(8, left)
@@ -85,14 +86,14 @@ def withdraw(session: Session, state: State) -> None:
 
 
 def withdrawn(state: State) -> State:
-    """The state after that."""
+    """The state after the tasks that were ready or held are withdrawn."""
     tasks = tuple(replace(it, phase="error", error=WITHDRAWN.text) if it.phase in FRESH else it
                   for it in state.tasks)
     return replace(state, tasks=tasks)
 
 
 def now_of(state: State) -> int:
-    """The moment from which a deadline counts: the store's clock never steps back."""
+    """The moment from which a deadline counts. The store's clock never steps back."""
     return max(int(time.time()), state.clock)
 
 
@@ -107,8 +108,8 @@ class Maker:
         self.number = len(state.scopes)
 
     def top(self) -> None:
-        """Makes the scope of all groups together, where it isn't there, is done, or its deadline
-        is another one now."""
+        """Makes the scope of all groups together, if it isn't there, is done, or has another
+        deadline now."""
         book = self.book
         if book.top and not self.is_done(book.top) and not self.is_other(book.top, OF_ALL):
             return
@@ -124,7 +125,7 @@ class Maker:
             self.derive(role_name(name, Role.ROUND), name, f"value {OF_ALL} {book.night}")
 
     def below(self) -> str:
-        """The scope in which the groups' scopes lie."""
+        """The scope below which the groups' scopes are made."""
         top = self.book.top
         assert top
         return role_name(top.name, Role.ROUND) if self.book.night > 1 else top.name
@@ -140,7 +141,8 @@ class Maker:
         self.book.groups.pop(base, None)
 
     def scope(self, name: str, parent: str, base: str) -> Scope:
-        """A scope that can be cancelled with a cause, below one with the deadline if it has any."""
+        """A scope that can be canceled with a cause. If it has a deadline, it lies below a scope
+        with that."""
         deadline = self.jobs.groups[base].deadline if base in self.jobs.groups else None
         moment = self.book.top.deadline if self.book.top and base != OF_ALL else None
         if deadline:
@@ -163,7 +165,7 @@ class Maker:
         return scope.done or scope.deadline is not None and scope.deadline <= self.now
 
     def is_other(self, scope: Scope, base: str) -> bool:
-        """Whether the file has another deadline for a scope than it was made with."""
+        """Whether the file now has another deadline for a scope than the scope was made with."""
         wanted = self.jobs.groups[base].deadline if base in self.jobs.groups else None
         return deadline_changed(self.state, scope, wanted)
 
@@ -186,8 +188,8 @@ def deadline_changed(state: State, scope: Scope, wanted: Deadline | None) -> boo
 
 
 def set_limits(session: Session, book: Book, jobs: Jobs, bases: Iterable[str]) -> None:
-    """Sets the limits of open groups that the file has otherwise. (The driver itself begins no more
-    than the file says, so one that can't be set now isn't missed.)"""
+    """Sets the limits of open groups that differ from the file. (The driver itself begins no more
+    commands than the file says, so it doesn't matter if a limit can't be set now.)"""
     lines = []
     for base in bases:
         group = book.groups.get(base)
@@ -198,13 +200,13 @@ def set_limits(session: Session, book: Book, jobs: Jobs, bases: Iterable[str]) -
 
 
 def advance(session: Session, now: int) -> None:
-    """Moves the clock; one that is ahead is held where it is."""
+    """Moves the clock. A clock that is ahead stays where it is."""
     session.ask([f"advance {now}"], may=[CLOCK_NOT_FORWARD])
 
 
 def give_back(session: Session, state: State, night: int, needed: Iterable[str]) -> None:
-    """The lines after which all groups go with a renewal, and the scopes of earlier nights, and of
-    groups that have nothing left to do; those that are needed are named."""
+    """The lines after which a renewal drops all groups, and the scopes of earlier nights and of
+    groups that have nothing left to do. Groups that are needed are named."""
     withdraw(session, state)
     lines = [f"wait {it.name}" for it in state.groups if not it.waited]
     gone = [it.name for it in state.tops(1, night - 1)]

@@ -1,17 +1,18 @@
-"""STORE.ended: how each command ended whose group a renewal has given back. Its first line is
+"""STORE.ended: how each command ended whose group a renewal has dropped. Its first line is
 
     events N night M round R lines L
 
-so many events as the store had at least when it was written, which night it was, the greatest round
-that a name had, and how many lines follow. Each of these is one of
+with the number of events that the store had at least when the file was written, the number of the
+night, the greatest round of a name, and the number of lines that follow. Each of these is one of
 
     GROUP KEY END              END is the text of an end (`ends`)
-    : GROUP CAUSE              the group's scope was done, and is gone, too
-    : GROUP                    a name that was had, and that nothing else here has
+    : GROUP CAUSE              the group's scope was done, and is dropped, too
+    : GROUP                    a name that was used, and that no other line here has
     + GROUP KEY N              how often a command had failed, by its group in the file of commands
 
-What the store itself has of a key is later, and counts. (An older driver's first line is
-`events N` alone: it knew one night. Of failures it wrote nothing: the log is asked for them.)
+What the store itself has of a key is later, and counts. (The first line of an older driver is
+`events N` alone, because it knew one night. It wrote nothing of failures, so these are read from
+the log.)
 """
 
 from __future__ import annotations
@@ -35,7 +36,7 @@ FAILED = re.compile(r"\+ ([a-z0-9_-]{1,32}) ([a-z0-9_-]{1,32}) ([0-9]{1,6})")
 
 @dataclass
 class Past:
-    """What the file says; of a store that was never renewed it says nothing."""
+    """The contents of the file. For a store that was never renewed it says nothing."""
 
     events: int = 0
     night: int = 1
@@ -47,11 +48,11 @@ class Past:
 
     @property
     def is_of_a_store_made_anew(self) -> bool:
-        """Whether the store was made in the place of another one, and so counts its events anew."""
+        """Whether the store replaced another one, and so counts its events from the start."""
         return not self.events and bool(self.round)
 
     def groups(self) -> set[str]:
-        """The names of the store's groups that a renewal gave back."""
+        """The names of the store's groups that a renewal dropped."""
         return {group for group, _, _ in self.ends} | set(self.had)
 
     def rounds(self) -> Iterable[tuple[str, Round]]:
@@ -60,17 +61,17 @@ class Past:
 
 
 class Unreadable(Fault):
-    """The file can't be read, or isn't one of its own: nothing says then what had ended, and all
-    would run again."""
+    """The file can't be read, or has a line of another form. Then nothing says which commands had
+    ended, and all of them would run again."""
 
     def __init__(self, path: str, why: str) -> None:
-        super().__init__(f"{path}: {why}; nothing is started: bring back a whole copy of it, or put"
-                         " it aside, and what it alone knows of runs again")
+        super().__init__(f"{path}: {why}; nothing is started: restore a whole copy of it. If you"
+                         " move it away, the commands that have ended according to it run again")
         self.path = path
 
 
 def read_past(files: Files) -> Past:
-    """What the file says; Unreadable where a line is none of its own."""
+    """The contents of the file; Unreadable if a line has another form."""
     shown = files.shown_of(Part.ENDED)
     try:
         lines = files.read(Part.ENDED).decode("ascii", "replace").split("\n")

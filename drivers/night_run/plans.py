@@ -1,5 +1,5 @@
-"""What a run would do, by its words: which night it is of, what runs again, and what `--dry-run`
-prints of that."""
+"""What a run would do, by its options: which night it belongs to, which commands run again, and
+what `--dry-run` prints of that."""
 
 from __future__ import annotations
 
@@ -9,17 +9,17 @@ from collections.abc import Mapping
 
 from . import Name
 from .facts import Facts, book_of, facts_of
-from .jobs import Jobs
 from .past import Past
-from .plan import CANCELLED, FAILED, RUNNING, WAITING, Standing, may_begin, standings
+from .planner import Planner
 from .rounds import Role, role_name
+from .standing import CANCELLED, FAILED, RUNNING, WAITING, Standing
 from .state import State
 from .summary import retry
 from .views import View
 
 
 class Wish(enum.Enum):
-    """What a run is to do besides what is left."""
+    """What a run is to do besides the rest of the night."""
 
     REST = "rest"
     FAILED = "failed"
@@ -28,7 +28,7 @@ class Wish(enum.Enum):
 
 
 def is_left(state: State, past: Past) -> bool:
-    """Whether the last night hasn't been brought to its end: the store has no mark of that."""
+    """Whether the last night wasn't brought to its end: then the store has no mark of that."""
     if not state.scopes[1:] and not past.round:
         return False
     night = max(state.night(), past.night)
@@ -42,23 +42,23 @@ def forgiven(found: Mapping[Name, Standing], facts: Facts) -> dict[Name, int]:
             if it.phase in (FAILED, CANCELLED)}
 
 
-def planned(jobs: Jobs, view: View, most: int, wish: Wish) -> list[str]:
-    """What a run would do with each command, those first that it would begin at once."""
+def planned(planner: Planner, view: View, most: int, wish: Wish) -> list[str]:
+    """What a run would do with each command. Those that it would begin at once come first."""
     is_rest = wish is Wish.NIGHTLY and is_left(view.state, view.past)
     if wish is Wish.FAILED:
-        return lines(jobs, again(view), most)
+        return lines(planner, again(view), most)
     if wish is Wish.REST or not view.state.scopes[1:] and not view.past.round:
-        return lines(jobs, view.facts, most)
+        return lines(planner, view.facts, most)
     anew = Facts(busy=set(view.facts.busy))
     if not is_rest:
-        return lines(jobs, anew, most)
+        return lines(planner, anew, most)
     night = view.book.night
-    return [f"night {night}, the rest of it:", *lines(jobs, view.facts, most),
-            f"night {night + 1}:", *(f"later {' '.join(it)}" for it in jobs.all)]
+    return [f"night {night}, the rest of it:", *lines(planner, view.facts, most),
+            f"night {night + 1}:", *(f"later {' '.join(it)}" for it in planner.jobs.all)]
 
 
 def again(view: View) -> Facts:
-    """The facts once failures are forgiven, and the groups of what is forgiven made anew."""
+    """The facts once failures are forgiven, and the groups that are made again for that."""
     its = forgiven(view.standings, view.facts)
     facts = facts_of(view.state, view.past, view.lines, view.book, time.time(), its)
     facts.busy = set(view.facts.busy)
@@ -67,11 +67,10 @@ def again(view: View) -> Facts:
     return facts
 
 
-def lines(jobs: Jobs, facts: Facts, most: int) -> list[str]:
-    found = standings(jobs, facts)
-    left = [name for name, it in found.items() if not it.is_final]
-    at_once = may_begin(jobs, facts, left, max(0, most - len(facts.busy)), time.time())
-    made = [f"begin {' '.join(it)}: {jobs.all[it].command}" for it in at_once.names]
+def lines(planner: Planner, facts: Facts, most: int) -> list[str]:
+    found = planner.standings(facts)
+    at_once = planner.choose(facts, most, time.time())
+    made = [f"begin {' '.join(it)}: {planner.jobs.all[it].command}" for it in at_once.names]
     return made + [line(name, it) for name, it in found.items() if name not in at_once.names]
 
 

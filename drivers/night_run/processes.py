@@ -1,4 +1,5 @@
-"""Processes as the system shows them in /proc: by number, start and boot, which no two share."""
+"""Processes as the system shows them in /proc, each by its number, start and boot, which no two
+share."""
 
 from __future__ import annotations
 
@@ -6,7 +7,7 @@ import contextlib
 import functools
 import os
 import signal
-from collections.abc import Iterator
+from collections.abc import Iterable, Iterator
 from dataclasses import dataclass
 
 
@@ -14,6 +15,8 @@ from dataclasses import dataclass
 PID, START = "([1-9][0-9]{0,6})", "([0-9]{1,20})"
 # These are no command: a signal to their groups goes to the driver's own, and to all there are.
 NO_COMMAND = 1
+# So often the members of a session are looked for at most.
+MOST_LOOKS = 8
 
 
 @dataclass(frozen=True)
@@ -46,7 +49,7 @@ def boot() -> str:
 
 
 def stat_of(pid: int, thread: str = "") -> Stat | None:
-    """What /proc shows of a process, or of a thread of it, or None where there is none."""
+    """What /proc shows of a process, or of one of its threads; None if there is none."""
     path = f"/proc/{pid}/task/{thread}/stat" if thread else f"/proc/{pid}/stat"
     try:
         with open(path, "rb") as file:
@@ -77,8 +80,8 @@ def lives(it: Process) -> bool:
 
 
 def is_held(pid: int) -> bool:
-    """Whether a thread of a process waits for a disk, as in a sync: no signal ends the process
-    before that does, which looks dead meanwhile where its first thread is."""
+    """Whether a thread of a process waits for a disk, as in a sync. Until that ends, no signal ends
+    the process, which looks dead meanwhile if its first thread is."""
     with contextlib.suppress(OSError):
         threads = (stat_of(pid, it) for it in os.listdir(f"/proc/{pid}/task"))
         return any(it is not None and it.phase == "D" for it in threads)
@@ -86,7 +89,7 @@ def is_held(pid: int) -> bool:
 
 
 def age(it: Process) -> float:
-    """How many seconds ago a process of this boot began; 0 where the system doesn't say."""
+    """How many seconds ago a process of this boot began; 0 if the system doesn't say."""
     try:
         with open("/proc/uptime", encoding="ascii") as file:
             up = float(file.read().split()[0])
@@ -95,8 +98,17 @@ def age(it: Process) -> float:
     return max(0.0, up - it.start / os.sysconf("SC_CLK_TCK"))
 
 
+# A command leads a session, which nobody else can enter. It may make process groups of its own
+# there, as `timeout` does, and what is done to it is done to all of them.
+
+def session_exists(pid: int) -> bool:
+    """Whether a session has a member. A dead one of the leader's process group that nobody has
+    waited for counts, too."""
+    return group_exists(pid) or pid > NO_COMMAND and has_proc() and bool(groups_in(pid))
+
+
 def group_exists(pid: int) -> bool:
-    """Whether a process group has a member, a dead one that nobody has waited for, too."""
+    """Whether a process group has a member. A dead one that nobody has waited for counts, too."""
     if pid <= NO_COMMAND:
         return False
     try:
@@ -108,33 +120,71 @@ def group_exists(pid: int) -> bool:
     return True
 
 
-def group_lives(pid: int) -> bool:
-    """Whether a process group has a member that is not dead."""
-    if not group_exists(pid):
-        return False
-    return any(not it.is_dead for it in members(pid)) or not os.path.isdir("/proc/self")
+def session_lives(pid: int) -> bool:
+    """Whether a session has a member that is not dead."""
+    return session_exists(pid) and bool(groups_in(pid))
 
 
-def members(group: int) -> Iterator[Stat]:
-    """The processes of a group, which leads a session of its own."""
-    for it in filter(str.isdecimal, os.listdir("/proc") if os.path.isdir("/proc") else ()):
-        found = stat_of(int(it))
-        if found and found.group == group and found.session == group:
+def has_proc() -> bool:
+    return os.path.isdir("/proc/self")
+
+
+def members(session: int) -> Iterator[Stat]:
+    """The processes of a session."""
+    for it in filter(str.isdecimal, os.listdir("/proc") if has_proc() else ()):
+        found = stat_of(int(it)) if may_be_in(session, int(it)) else None
+        if found and found.session == session:
             yield found
 
 
-def signal_group(pid: int, which: signal.Signals) -> None:
-    if pid <= NO_COMMAND:
-        return
-    with contextlib.suppress(ProcessLookupError, PermissionError):
-        os.killpg(pid, which)
+def may_be_in(session: int, pid: int) -> bool:
+    """Whether a process may be one of a session. The system says so in a twentieth of the time in
+    which its file in /proc is read, and the processes are all that the machine has."""
+    try:
+        return os.getsid(pid) == session
+    except ProcessLookupError:
+        return False
+    except OSError:
+        return True  # (a security module keeps it secret)
+
+
+def living(session: int) -> list[Stat]:
+    """The members of a session that aren't dead. One that begins while /proc is read, and whose
+    parent ends then, isn't in what is read; so it is read again until it has no new one."""
+    found: dict[int, Stat] = {}
+    for look in range(MOST_LOOKS):
+        more = {it.pid: it for it in members(session) if not it.is_dead and it.pid not in found}
+        found.update(more)
+        if look and not more:
+            break
+    return list(found.values())
+
+
+def groups_in(session: int) -> set[int]:
+    """The process groups of a session that have a living member; without /proc its leader's, which
+    may have none."""
+    if not has_proc():
+        return {session}
+    return {it.group for it in living(session)}
+
+
+def signal_session(pid: int, which: signal.Signals) -> None:
+    """Signals each process group of the session that this process leads."""
+    signal_groups({pid, *groups_in(pid)} if pid > NO_COMMAND else (), which)
+
+
+def signal_groups(groups: Iterable[int], which: signal.Signals) -> None:
+    for it in groups:
+        if it > NO_COMMAND:
+            with contextlib.suppress(ProcessLookupError, PermissionError):
+                os.killpg(it, which)
 
 
 # --- whose a process is
 
 @dataclass(frozen=True)
 class Tried:
-    """A try, as its processes have it in their environment."""
+    """A try, as its processes name it in their environment."""
 
     store: str
     group: str  # of the file of commands
@@ -147,8 +197,8 @@ class Tried:
 
 
 def is_of(pid: int, tried: Tried) -> bool:
-    """Whether a process was begun for this try: its environment says so. One whose environment
-    can't be read, or was emptied, isn't known for one."""
+    """Whether a process was begun for this try: its environment says so. If the environment can't
+    be read, or was emptied, that isn't known."""
     try:
         with open(f"/proc/{pid}/environ", "rb") as file:
             had = set(file.read().split(b"\0"))
@@ -158,15 +208,15 @@ def is_of(pid: int, tried: Tried) -> bool:
             for name, value in tried.environment().items()} <= had
 
 
-def ours_in(group: int, tried: Tried) -> int | None:
-    """A living process of a group which is known for one of this try. The whole group is of the
-    try then: its session was begun for it, and nobody else can enter it."""
-    return next((it.pid for it in members(group) if not it.is_dead and is_of(it.pid, tried)), None)
+def ours_in(session: int, tried: Tried) -> int | None:
+    """A living process of a session that is known to be of this try. Then the whole session is of
+    the try: it was begun for it, and nobody else can enter it."""
+    return next((it.pid for it in living(session) if is_of(it.pid, tried)), None)
 
 
 @contextlib.contextmanager
 def pinned(pid: int) -> Iterator[int]:
-    """A descriptor of a process, whose number nobody else gets while it is looked at."""
+    """A descriptor of a process: nobody else gets its number while it is looked at."""
     file = os.pidfd_open(pid)
     try:
         yield file
@@ -174,22 +224,23 @@ def pinned(pid: int) -> Iterator[int]:
         os.close(file)
 
 
-def signal_ours(group: int, tried: Tried, which: signal.Signals) -> bool:
-    """Signals a group of a try, whoever began it, and says whether one of its processes is known
-    for the try's. No other group is signaled, whatever a list says."""
-    pid = ours_in(group, tried)
+def signal_ours(session: int, tried: Tried, which: signal.Signals) -> bool:
+    """Signals the session of a try, whoever began it, and returns whether one of its processes is
+    known to be of the try. No other session is signaled, whatever a list says."""
+    pid = ours_in(session, tried)
     if pid is None:
         return False
     with contextlib.suppress(OSError), pinned(pid):
         found = stat_of(pid)
-        if found and found.group == group and is_of(pid, tried):
-            signal_group(group, which)
+        if found and found.session == session and is_of(pid, tried):
+            signal_session(session, which)
             return True
     return False
 
 
 def kill_ours(it: Process, tried: Tried) -> bool:
-    """Kills a process that somebody else began, and says whether it is known for this."""
+    """Kills a process that somebody else began, if it is known to be this one, and returns whether
+    it is."""
     with contextlib.suppress(OSError), pinned(it.pid) as file:
         if lives(it) and is_of(it.pid, tried):
             signal.pidfd_send_signal(file, signal.SIGKILL)

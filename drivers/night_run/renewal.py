@@ -1,10 +1,10 @@
-"""A store that is nearly full is renewed before a night, and one that gets full in its midst.
+"""Renews a store that is nearly full before a night, and one that gets full during a night.
 
-A renewal keeps a group unless it was waited for, and a scope unless it is done. How each command
-ended in this night is kept in STORE.ended, durable first; then every group is waited for, and the
-scopes of earlier nights are cancelled; the store is renewed last. What was interrupted is left to
-do by the file of commands, and needs no row. A kill between leaves a file that says no more than
-the store, and groups that take no more tasks: the next run makes others.
+A renewal keeps a group until it was waited for, and a scope until it is done. First the end of each
+command of this night is written to STORE.ended, durably. Then every group is waited for, and the
+scopes of earlier nights are canceled. Last, the store is renewed. Interrupted commands need no row:
+by the file of commands they are left to do. A kill between these steps leaves a file that says no
+more than the store, and groups that take no more tasks; the next run makes others.
 """
 
 from __future__ import annotations
@@ -15,7 +15,7 @@ from collections.abc import Callable, Iterator, Mapping
 
 from . import Fault, Name
 from .ends import End
-from .facts import Book, book_of, facts_of, numbered
+from .facts import Book, book_of, ended_in, facts_of
 from .beside import Part
 from .files import Files
 from .jobs import Jobs
@@ -23,28 +23,28 @@ from .log import Log, line_of
 from .night import MOST_KILLED, RENEWAL_SECONDS, NightEnded, Session, ran
 from .opening import advance, give_back, inspected, now_of, opened
 from .past import Past, write_past
-from .plan import standings
+from .planner import Planner
 from .rounds import base_of, named
 from .state import ENDED, State
 from .telling import note, tell, told_of
 
 
-def renew(files: Files, log: Log, past: Past, jobs: Jobs, wake: int,
+def renew(files: Files, log: Log, past: Past, planner: Planner, wake: int,
           meanwhile: Callable[[], float]) -> tuple[Past, bool]:
     """Renews the store. What STORE.ended says then, and whether the store could be renewed."""
     try:
         session, state = opened(files, inspected(files), wake, meanwhile)
         with ended(session):
             advance(session, now_of(state))
-            past = keep(files, log, past, jobs, state, state.count)
-            give_back(session, state, past.night, needed(log, past, jobs, state))
+            past = keep(files, log, past, planner.jobs, state, state.count)
+            give_back(session, state, past.night, needed(log, past, planner, state))
         said = ran("renew", "--in-place", files.path, seconds=RENEWAL_SECONDS,
                    meanwhile=meanwhile).rstrip("\n")
         note(f"{files.shown}: {said}")
         return past, True
     except (Fault, NightEnded, OSError) as fault:
         why = told_of(fault) if isinstance(fault, OSError) else fault
-        tell(f"{files.shown} is nearly full, and can't be renewed; it is used as it is: {why}")
+        tell(f"{files.shown} is nearly full, and can't be renewed, so it is used as it is: {why}")
         return past, False
 
 
@@ -60,21 +60,19 @@ def ended(session: Session) -> Iterator[None]:
     session.close()
 
 
-def needed(log: Log, past: Past, jobs: Jobs, state: State) -> set[str]:
+def needed(log: Log, past: Past, planner: Planner, state: State) -> set[str]:
     """The groups of the file in which something is left to do."""
     book = book_of(state, past, past.night)
     facts = facts_of(state, past, log.lines, book, time.time(), {})
-    return {group for (group, _), it in standings(jobs, facts).items() if not it.is_final}
+    return {group for (group, _), it in planner.standings(facts).items() if not it.is_final}
 
 
 def keep(files: Files, log: Log, past: Past, jobs: Jobs, state: State, events: int) -> Past:
     """Keeps how each command of the night has ended."""
     night = max(state.night(), past.night)
     book = book_of(state, past, night)
-    ours = state.groups_of(night)
     log.add((tried, line_of(None, None, task.end, text(jobs, task.name)))
-            for task, tried in numbered(state)
-            if task.end and task.group in ours and not task.is_withdrawn)
+            for task, tried in ended_in(state, night) if task.end)
     log.sync()
     ends = ends_of(past if past.night == night else Past(), state, book)
     made = Past(events, night, max([past.round, *(it.number for it in book.rounds.values())]),
@@ -137,8 +135,8 @@ def format_new(files: Files) -> None:
 def make_anew(files: Files, log: Log, past: Past, jobs: Jobs, state: State, ahead: int) -> Past:
     """Makes another store in the place of one whose clock is ahead, since no clock of a store goes
     back: each deadline there would have passed. What has ended is kept."""
-    note(f"{files.shown}: its clock is {ahead} s ahead of the machine's; another store is made in"
-         f" its place, and what has ended is kept in {files.shown}.ended")
+    note(f"{files.shown}: its clock is {ahead} s ahead of the machine's; a new store replaces"
+         f" it, and {files.shown}.ended keeps how commands have ended")
     past = keep(files, log, past, jobs, state, 0)
     make(files)
     return past

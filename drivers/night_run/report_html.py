@@ -1,7 +1,8 @@
 """The report as one page: no server, no script, nothing from elsewhere.
 
-From top to bottom: whether all is well; what failed, with its last lines; what else isn't done, by
-its reason; each group with a bar of how its commands stand, and a line in time for each of them.
+From top to bottom it shows whether all is well; the failures, each with its last lines; the other
+commands that aren't done, by reason; and each group, with a bar of how its commands stand and a
+line in time for each of them.
 """
 
 from __future__ import annotations
@@ -22,12 +23,12 @@ SIGNS = {"good": "\u2713", "bad": "\u2717", "open": "\u25d1", "busy": "\u25b6"}
 OTHERS = ("canceled", "not started", "interrupted")
 # A group of more commands shows its lines in time once they are asked for.
 MOST_OPEN = 60
-# So many failures stand there; those after them once they are asked for.
+# How many failures stand there; those after them once they are asked for.
 MOST_CARDS = 20
 
 
 class Html(str):
-    """Text that is HTML already. Any other text is escaped wherever it is put in."""
+    """Text that is HTML already. Any other text is escaped when it is put in."""
 
 
 def inside(part: str) -> str:
@@ -94,7 +95,7 @@ def failure(row: Row) -> Html:
 
 
 def others(report: Report) -> Iterator[Html]:
-    """What else isn't done, those that share a reason together."""
+    """The other commands that aren't done; those that share a reason stand together."""
     found = collections.defaultdict(list)
     for row in report.rows:
         if row.phase in OTHERS:
@@ -163,7 +164,7 @@ def line(report: Report, group: Group, row: Row, axis: Axis) -> Html:
 
 
 def tried(it: Try, now: float, axis: Axis) -> Iterator[Html]:
-    """A try as a bar from its begin to its end; none where its times aren't known."""
+    """A try as a bar from its begin to its end; none if its times aren't known."""
     if it.began is None or it.took is None and it.end:
         return
     took = now - it.began if it.took is None else it.took
@@ -174,7 +175,7 @@ def tried(it: Try, now: float, axis: Axis) -> Iterator[Html]:
 
 
 def said_of(row: Row) -> str:
-    """How a command stands, beside its line."""
+    """How a command stands, next to its line."""
     again = f", {len(row.tries)} tries" if len(row.tries) > 1 else ""
     if row.phase == "waiting":
         return f"waiting after {row.end}{again}" if row.end else "waiting"

@@ -1,6 +1,7 @@
 """The report in Prometheus' text format, for the folder of the node exporter's textfile collector.
 
-A sample has no time of its own, as that collector wants it; what isn't known has no sample.
+A sample has no time of its own, because that collector takes none. A value that isn't known has no
+sample.
 """
 
 from __future__ import annotations
@@ -9,14 +10,14 @@ from collections.abc import Iterator
 
 from .escapes import escaped
 from .report_words import by_group, counts, end_of, last_end
-from .rows import PHASES, Report, Row, Try
+from .rows import NOT_NEEDED, PHASES, WELL, Report, Row, Try
 
 Labels = dict[str, str]
 Sample = tuple[Labels, float]
 
 
 def prom(report: Report) -> str:
-    """All families, each with what it is (HELP), its type and its samples."""
+    """All families, each with its help (HELP), its type and its samples."""
     store = {"store": report.store}
     commands = [({**store, "group": it.group, "key": it.key}, it) for it in report.rows]
     families = (
@@ -53,23 +54,25 @@ def known(labels: Labels, value: float | None) -> list[Sample]:
 
 
 def standing(report: Report) -> Iterator[Sample]:
-    """How many commands of each group stand how, the phases that none is in too."""
+    """How many commands of each group are in each phase; phases without any count, too, but for
+    what isn't needed."""
     for group, rows in by_group(report):
         found = counts(rows)
-        for phase in PHASES:
+        for phase in PHASES if found.get(NOT_NEEDED) else PHASES[:-1]:
             yield ({"store": report.store, "group": group.name, "phase": phase},
                    float(found.get(phase, 0)))
 
 
 def ended(report: Report) -> float | None:
-    """When the last command ended: a night that hangs at its first one still has that."""
+    """When the last command ended. A night that hangs at its first command still has the value from
+    before."""
     found = last_end(report.rows)
     return report.last_before if found is None else found
 
 
 def success(report: Report) -> float | None:
-    """When the last command ended of the last night that was all well."""
-    found = last_end(report.rows) if all(it.phase == "ok" for it in report.rows) else None
+    """When the last command ended of the last night in which every command was ok."""
+    found = last_end(report.rows) if all(it.phase in WELL for it in report.rows) else None
     return report.last_well if found is None else found
 
 

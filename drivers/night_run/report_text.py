@@ -15,7 +15,7 @@ from .report_words import (by_group, counts, facts, line_shown, of_all, told, tr
 from .rows import Report, Row
 
 COLUMNS = 72
-# So many failures are told with their last lines, and so many names of what shares a reason.
+# How many failures are shown with their last lines, and how many names that share a reason.
 MOST_TOLD, MOST_NAMED = 20, 12
 # What didn't end well, besides failures.
 OTHERS = ("canceled", "not started", "interrupted")
@@ -64,7 +64,7 @@ def failure(row: Row) -> Iterator[str]:
 
 
 def unlucky(report: Report) -> Iterator[str]:
-    """What else didn't end well, those that share a reason together."""
+    """The other commands that didn't end well; those that share a reason stand together."""
     found = collections.defaultdict(list)
     for row in report.rows:
         if row.phase in OTHERS:
@@ -87,7 +87,8 @@ def groups(report: Report) -> Iterator[str]:
 
 
 def wrapped(line: str, first: str = "", later: str = "  ") -> list[str]:
-    """A line as some of 72 columns; the first begins with `first`, each other one with `later`."""
+    """A line, broken into lines of 72 columns. The first begins with `first`, each other one with
+    `later`."""
     return textwrap.wrap(line, COLUMNS, initial_indent=first, subsequent_indent=later,
                          expand_tabs=False, replace_whitespace=False, drop_whitespace=True,
                          break_on_hyphens=False) or [first.rstrip()]

@@ -12,7 +12,7 @@ from collections.abc import Iterable
 
 from .ends import read_end
 from .escapes import plain
-from .rows import OF_ALL, PHASES, Group, Report, Row, Try
+from .rows import OF_ALL, PHASES, WELL, Group, Report, Row, Try
 
 # A line of somebody else's that is longer is cut.
 MOST_SHOWN = 400
@@ -23,19 +23,21 @@ PASSED = "its deadline has passed"
 
 
 def line_shown(line: str) -> str:
-    """A line of output as a terminal ends up with it: what follows its last carriage return."""
+    """A line of output as a terminal shows it in the end: the part after its last carriage
+    return."""
     shown = plain(line.rstrip("\r\n").rpartition("\r")[2])
     return shown if len(shown) <= MOST_SHOWN else f"{shown[:MOST_SHOWN]} .."
 
 
 def counts(rows: Iterable[Row]) -> dict[str, int]:
-    """How many of the rows stand how, in the order of PHASES, without those of which none does."""
+    """How many of the rows are in each phase, in the order of PHASES; phases without any are left
+    out."""
     found = collections.Counter(it.phase for it in rows)
     return {phase: found[phase] for phase in PHASES if found[phase]}
 
 
 def told(found: dict[str, int]) -> str:
-    """Counts in words: `2 ok, 1 failed`."""
+    """Counts in words, such as `2 ok, 1 failed`."""
     return ", ".join(f"{count} {phase}" for phase, count in found.items()) or "none"
 
 
@@ -46,20 +48,22 @@ def commands(number: int) -> str:
 def verdict(report: Report) -> tuple[str, str]:
     """The night in a word, `good`, `bad`, `open` or `busy`, and in a few."""
     found, total = counts(report.rows), len(report.rows)
-    lost = total - sum(found.get(it, 0) for it in ("ok", "running", "waiting", "interrupted"))
+    lost = total - sum(found.get(it, 0) for it in (*WELL, "running", "waiting", "interrupted"))
+    well = sum(found.get(it, 0) for it in WELL)
     if found.get("failed"):
         return "bad", f"{found['failed']} of {total} failed"
     if lost:
         return "bad", f"{lost} of {total} not done"
     if found.get("running"):
-        return "busy", f"Running: {found.get('ok', 0)} of {total} done"
-    if found.get("ok", 0) < total:
-        return "open", f"Unfinished: {total - found.get('ok', 0)} of {total} are left"
-    return ("good", f"All is well: {commands(total)} ok") if total else ("open", "No commands")
+        return "busy", f"Running: {well} of {total} done"
+    if well < total:
+        return "open", f"Unfinished: {total - well} of {total} are left"
+    said = f"{commands(total)} ok" if found.get("ok", 0) == total else told(found)
+    return ("good", f"All is well: {said}") if total else ("open", "No commands")
 
 
 def by_group(report: Report) -> list[tuple[Group, list[Row]]]:
-    """Each group with its rows; one of which only rows are known comes last."""
+    """Each group with its rows. A group of which only rows are known comes last."""
     rows: dict[str, list[Row]] = {it.name: [] for it in report.groups}
     for it in report.rows:
         rows.setdefault(it.group, []).append(it)
@@ -69,7 +73,7 @@ def by_group(report: Report) -> list[tuple[Group, list[Row]]]:
 
 
 def of_all(report: Report) -> Group | None:
-    """What is said of all groups together."""
+    """The facts about all groups together."""
     return next((it for it in report.groups if it.name == OF_ALL), None)
 
 
@@ -82,7 +86,8 @@ def facts(group: Group, whole: Group | None = None) -> list[str]:
 
 
 def why_done(group: Group) -> list[str]:
-    """Why a group is done: its deadline's words, or its cancel's; nothing if it isn't."""
+    """Why a group is done: the words of its deadline, or of its cancel; nothing if it isn't
+    done."""
     if not group.is_done:
         return []
     if group.cause == PASSED:
@@ -97,7 +102,7 @@ def kind_of(it: Try) -> str:
 
 
 def end_of(it: Try) -> float | None:
-    """When a try ended, or None where it runs or its times are unknown."""
+    """When a try ended; None if it runs, or if its times are unknown."""
     return None if it.began is None or it.took is None else it.began + it.took
 
 
@@ -107,7 +112,7 @@ def last_end(rows: Iterable[Row]) -> float | None:
 
 
 def tries_told(row: Row) -> str:
-    """A command's tries in words: `3 tries, the last at 03:12:04 for 1h02m`."""
+    """A command's tries in words, such as `3 tries, the last at 03:12:04 for 1h02m`."""
     if not row.tries:
         return "not tried"
     last = row.tries[-1]
@@ -128,7 +133,7 @@ def clock(when: float) -> str:
 
 
 def span(seconds: float) -> str:
-    """A length of time: `0.4s`, `12s`, `1m05s`, `2h07m`."""
+    """A length of time, such as `0.4s`, `12s`, `1m05s` or `2h07m`."""
     if seconds < 9.95:
         return f"{max(seconds, 0):.1f}s"
     whole = round(seconds)
@@ -140,7 +145,7 @@ def span(seconds: float) -> str:
 
 
 def when_told(report: Report) -> str:
-    """From when to when: the last end, or now where something isn't ended."""
+    """From when to when: up to the last end, or up to now if something hasn't ended."""
     is_over = verdict(report)[0] != "busy"
     end = (last_end(report.rows) if is_over else None) or report.now
     if report.began is None:

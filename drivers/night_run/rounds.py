@@ -1,10 +1,10 @@
 """What a group is called in the store. In the first night `disks` has its own name, and in the
-tenth `disks--10`. Where it needs another scope or group in one night, as after `--failed` or with
-another deadline, that is `disks--10-2`, and then `disks--10-3`.
+tenth it is `disks--10`. If it needs another scope or group in one night, as after `--failed` or
+with another deadline, that is `disks--10-2`, and then `disks--10-3`.
 
-A scope beside it has a role behind that name, as `disks--10--until`; where this would be longer
-than a name may be, the role's first letter, as `--u`. No group of a file of commands has `--` in
-its name, and one may end with `-`: `disks---2` is the second night's of `disks-`.
+A scope beside it has a role after that name, as `disks--10--until`; if this were longer than a name
+may be, only the role's first letter, as `--u`. No group of a file of commands has `--` in its name,
+but one may end with `-`: `disks---2` is the second night's name of `disks-`.
 """
 
 from __future__ import annotations
@@ -18,7 +18,7 @@ ROUND = re.compile(r"([0-9]{1,9})(?:-([0-9]{1,9}))?")
 
 
 class Role(enum.Enum):
-    """What a scope beside that of a group, or of all groups together, is for."""
+    """What a scope next to that of a group, or of all groups together, is for."""
 
     UNTIL = "until"  # it has the deadline
     SAID = "said"  # the deadline's words
@@ -28,7 +28,7 @@ class Role(enum.Enum):
 
 @dataclass(frozen=True, order=True)
 class Round:
-    """Which of the names of a group it is: the night's number, and which one of that night."""
+    """Which of the names of a group it is: the number of the night, and which one of that night."""
 
     number: int = 1
     again: int = 1
@@ -38,7 +38,7 @@ class Round:
 
 
 def split(name: str) -> tuple[str, str]:
-    """A name's group, and what stands behind `--`."""
+    """The group of a name, and the part after `--`."""
     at = name.find("--")
     if at < 0:
         return name, ""
@@ -64,6 +64,6 @@ def named(base: str, of: Round) -> str:
 
 
 def role_name(name: str, role: Role) -> str:
-    """The name of the scope with a role beside that of this name."""
+    """The name of the scope with a role, next to the scope of this name."""
     whole = f"{name}--{role.value}"
     return whole if len(whole) <= MOST else f"{name}--{role.value[0]}"

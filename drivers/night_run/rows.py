@@ -10,15 +10,19 @@ from __future__ import annotations
 from dataclasses import dataclass
 
 # How a command stands, in the order in which a report shows it. `waiting` has yet to be started,
-# `not started` never will be, and `interrupted` was cut off and runs again in the next run.
-PHASES = ("ok", "failed", "canceled", "not started", "interrupted", "running", "waiting")
+# `not started` never will be, and `interrupted` was cut off and runs again in the next run. What is
+# `not needed` waited for a failure that didn't come.
+NOT_NEEDED = "not needed"
+PHASES = ("ok", "failed", "canceled", "not started", "interrupted", "running", "waiting",
+          NOT_NEEDED)
+WELL = ("ok", NOT_NEEDED)
 # The name of all groups together.
 OF_ALL = "night"
 
 
 @dataclass(frozen=True)
 class Try:
-    """A try of a command. Moments are seconds since 1970; one that the log lacks is None."""
+    """A try of a command. Moments are seconds since 1970; a moment that the log lacks is None."""
 
     number: int
     began: float | None
@@ -42,7 +46,7 @@ class Row:
 
 @dataclass(frozen=True)
 class Group:
-    """A group of the file; one called OF_ALL is all of them together, and has no rows."""
+    """A group of the file. The one called OF_ALL is all of them together, and has no rows."""
 
     name: str
     is_done: bool  # canceled, or its deadline has passed

@@ -1,19 +1,31 @@
 """The settings of a group or a command:
 
-    limit N                 (a group) so many of its commands at a time, 1 to 64
+    limit N                 (a group) at most N of its commands at a time, 1 to 64
     until MOMENT            (a group, night) a deadline
-    within TIME             (a group, night) one so much later than the group was made
+    within TIME             (a group, night) a deadline this long after the group was made
     after X..               begun once these are ok: keys of the group, GROUP/KEY, or groups
-    retries N [wait TIME]   so many more tries after a failure, each TIME later
+    after failed X..        begun once each of these has failed for good (a group by one of its
+                            commands); else it isn't needed
+    after ended X..         begun once these have ended, however that was, also where they never
+                            begin; a command with nothing else in its `after` is a cleanup, which
+                            begins and runs on though its group is canceled or past its deadline
+    retries N [wait TIME [xN] [up to TIME]]
+                            after a failure up to N more tries, each TIME after the last; with xN
+                            each wait is N times as long as the one before, up to a TIME
+    priority N              begun before what has a lower one: groups by theirs, then commands
+    pool NAME N             (night) how much there is of something
+    uses NAME N             how much of a pool it takes while it runs
     timeout TIME            how long a try may take; then it is stopped, and has failed
-    in FOLDER               where it runs
+    in FOLDER               the folder that it runs in
     env NAME=VALUE          a variable of its environment
-    stop on failure         (a group) after a failure nothing more of it is begun
-    background keep         processes that a command leaves in its process group may live on
-    via WORDS..             (a group) what each command is handed to; it takes the rest of its line
-    ask WORDS..             (a group) what asks how a try of it ended; likewise
-    stop WORDS..            (a group) what asks for the end of a try; likewise
-    shell WORDS..           what runs the command in place of /bin/sh, by -c; likewise
+    stop on failure         (a group) after a failure no more of its commands are begun
+    failure cancel          (a group) the first failure cancels the group
+    background keep         processes that a command leaves in its session may live on
+    via WORDS..             (a group) the program that takes each command over; WORDS are the rest
+                            of the line
+    ask WORDS..             (a group) the program that reports how a try ended; the same
+    stop WORDS..            (a group) the program that asks for the end of a try; the same
+    shell WORDS..           the program that runs the command, by -c, not /bin/sh; the same
 """
 
 from __future__ import annotations
@@ -26,6 +38,7 @@ from dataclasses import dataclass, field, replace
 
 TIME = re.compile(r"(?=[0-9])(?:([0-9]{1,6})h)?(?:([0-9]{1,6})m)?(?:([0-9]{1,6})s)?")
 MOMENT = re.compile(r"[0-9]+:[0-9]+(:[0-9]+)?|[0-9]+-[0-9]+-[0-9]+T\S+")
+POOL = re.compile("[a-z0-9_-]{1,20}")
 VARIABLE = re.compile(r"[A-Za-z_][A-Za-z0-9_]*")
 # What looks like a setting without its colon.
 FORMS = {"limit": re.compile("[0-9]+"), "within": TIME, "until": MOMENT, "timeout": TIME,
@@ -33,13 +46,19 @@ FORMS = {"limit": re.compile("[0-9]+"), "within": TIME, "until": MOMENT, "timeou
          "background": re.compile("keep")}
 WORDS = ("limit", "until", "within", "after", "retries", "timeout", "in", "env", "stop",
          "background", "via", "ask", "shell")
-ALL = ("settings are limit N, until MOMENT, within TIME, after X.., retries N [wait TIME],"
-       " timeout TIME, in FOLDER, env NAME=VALUE, stop on failure, background keep, via WORDS..,"
-       " ask WORDS.., stop WORDS.., shell WORDS..")
+# Later words, which end the names after `after` only with what follows them: before, such a word
+# could be a key.
+LATER = {"priority": re.compile("[0-9]+"), "pool": re.compile(r"\S+ [0-9]+"),
+         "uses": re.compile(r"\S+ [0-9]+"), "failure": re.compile("cancel")}
+ALL = ("settings are limit N, until MOMENT, within TIME, after X.., retries N [wait TIME [xN] [up"
+       " to TIME]], timeout TIME, in FOLDER, env NAME=VALUE, stop on failure, background keep, via"
+       " WORDS.., ask WORDS.., stop WORDS.., shell WORDS.., priority N, uses NAME N, pool NAME N,"
+       " failure cancel")
 OF_ALL = "night"
 LAST_MOMENT = 253_000_000_000
-MOST_RETRIES = 999
-# So many characters of a word are shown.
+MOST_RETRIES = MOST_PRIORITY = MOST_OF_POOL = 999
+MOST_FACTOR = 99
+# How many characters of a word are shown.
 MOST_SHOWN = 40
 
 
@@ -49,7 +68,7 @@ class Wrong(Exception):
 
 @dataclass(frozen=True)
 class Deadline:
-    """A deadline as the file says it."""
+    """A deadline, as the file says it."""
 
     word: str
     said: str
@@ -69,7 +88,7 @@ class Deadline:
 
 @dataclass(frozen=True)
 class Way:
-    """The words by which a group's commands run elsewhere; without `via` they run here."""
+    """The programs with which a group's commands run elsewhere. Without `via` they run here."""
 
     via: tuple[str, ...] = ()
     ask: tuple[str, ...] = ()
@@ -83,15 +102,22 @@ class Settings:
     line: int
     limit: int | None = None
     deadline: Deadline | None = None
-    after: list[str] = field(default_factory=list)
+    after: list[list[str]] = field(default_factory=list)  # the words of each `after`
     after_line: int = 0
     retries: int | None = None
     wait: int = 0
+    factor: int = 1
+    most_wait: int | None = None
+    priority: int | None = None
+    pools: dict[str, int] = field(default_factory=dict)
+    uses: dict[str, int] = field(default_factory=dict)
+    uses_line: int = 0
     timeout: int | None = None
     timeout_said: str = ""
     folder: str | None = None
     env: dict[str, str] = field(default_factory=dict)
     stops: bool = False
+    cancels: bool = False
     keeps: bool = False
     way: Way = Way()
     shell: tuple[str, ...] = ()
@@ -100,15 +126,15 @@ class Settings:
 def seconds_of(time: str) -> int:
     found = TIME.fullmatch(time)
     if not found:
-        raise Wrong(f"the time {short(time)} is not as 2h, 90m, 1h30m or 45s")
+        raise Wrong(f"the time {short(time)} is not written like 2h, 90m, 1h30m or 45s")
     hours, minutes, seconds = (int(it or 0) for it in found.groups())
     return 3600 * hours + 60 * minutes + seconds
 
 
 def next_time(time: datetime.time, now: int) -> int:
     """The next moment after now at which the clock of this machine's zone shows this time. In the
-    hour that autumn repeats it shows it twice, and in that which spring leaves out never: then it
-    is the moment as long after the gap began."""
+    hour that autumn repeats, it shows the time twice. In the hour that spring leaves out, it never
+    does: then the result lies as long after the gap began."""
     day = datetime.datetime.fromtimestamp(now).date()
     for later in range(3):
         when = datetime.datetime.combine(day + datetime.timedelta(later), time)
@@ -121,7 +147,7 @@ def next_time(time: datetime.time, now: int) -> int:
 
 
 def short(word: str) -> str:
-    """A word as a mistake shows it."""
+    """A word, as a mistake shows it."""
     return repr(word if len(word) <= MOST_SHOWN else f"{word[:MOST_SHOWN]}..")
 
 
@@ -146,7 +172,8 @@ class Reader:
             "timeout": self.read_timeout, "in": self.read_in, "env": self.read_env,
             "stop": self.read_stop, "background": self.read_background,
             "via": lambda: self.read_way("via"), "ask": lambda: self.read_way("ask"),
-            "shell": self.read_shell}
+            "shell": self.read_shell, "priority": self.read_priority, "pool": self.read_pool,
+            "uses": self.read_uses, "failure": self.read_failure}
         while self.words:
             word = self.words.pop(0)
             if word in ("until", "within"):
@@ -175,14 +202,22 @@ class Reader:
             if not 0 <= made.moment(0 if word == "within" else 1_000_000) <= LAST_MOMENT:
                 raise ValueError
         except (ValueError, OverflowError, OSError):
-            raise Wrong(f"the moment {short(value)} is not as 05:30 or 2026-11-26T05:30") from None
+            raise Wrong(f"the moment {short(value)} is not written like 05:30 or"
+                        " 2026-11-26T05:30") from None
         self.its.deadline = made
 
     def read_after(self) -> None:
         self.its.after_line = self.its.after_line or self.line
-        self.its.after.append(self.value("what it comes after"))
-        while self.words and self.words[0] not in WORDS:
-            self.its.after.append(self.words.pop(0))
+        words = [self.value("the key or group after `after`")]
+        while self.words and not self.is_setting():
+            words.append(self.words.pop(0))
+        self.its.after.append(words)
+
+    def is_setting(self) -> bool:
+        """Whether the next word isn't one more name after `after`."""
+        word = self.words[0]
+        follows = " ".join(self.words[1:3])
+        return word in WORDS or word in LATER and bool(LATER[word].match(follows))
 
     def read_retries(self) -> None:
         value = self.value("the number of retries")
@@ -193,6 +228,41 @@ class Reader:
         if self.words and self.words[0] == "wait":
             self.words.pop(0)
             self.its.wait = seconds_of(self.value("the time to wait"))
+            self.read_growth()
+
+    def read_growth(self) -> None:
+        """Reads by how much each wait is longer than the one before."""
+        if self.words and (found := re.fullmatch("x([0-9]{1,2})", self.words[0])):
+            self.its.factor = int(found[1])
+            del self.words[0]
+            if self.its.factor < 1:
+                raise Wrong(f"a wait grows by a number from x1 to x{MOST_FACTOR}")
+        if self.words[:2] == ["up", "to"]:
+            del self.words[:2]
+            self.its.most_wait = seconds_of(self.value("the longest wait"))
+
+    def read_priority(self) -> None:
+        self.once("priority", self.its.priority is not None)
+        self.its.priority = self.count("priority", MOST_PRIORITY)
+
+    def read_pool(self) -> None:
+        name = self.value("the name of the pool")
+        self.once(f"pool {short(name)}", name in self.its.pools)
+        if not POOL.fullmatch(name):
+            raise Wrong(f"the pool {short(name)} is not 1 to 20 of a-z, 0-9, - and _")
+        self.its.pools[name] = self.count(f"size of the pool {name}", MOST_OF_POOL)
+
+    def read_uses(self) -> None:
+        name = self.value("the name of the pool")
+        self.once(f"use of {short(name)}", name in self.its.uses)
+        self.its.uses_line = self.its.uses_line or self.line
+        self.its.uses[name] = self.count(f"use of {short(name)}", MOST_OF_POOL)
+
+    def count(self, what: str, most: int) -> int:
+        value = self.value(f"the {what}")
+        if not re.fullmatch("[0-9]{1,3}", value) or int(value) > most:
+            raise Wrong(f"the {what} {short(value)} is not 0 to {most}")
+        return int(value)
 
     def read_timeout(self) -> None:
         value = self.value("the timeout")
@@ -209,9 +279,9 @@ class Reader:
     def read_env(self) -> None:
         name, is_set, value = self.value("NAME=VALUE").partition("=")
         if not is_set or not VARIABLE.fullmatch(name):
-            raise Wrong(f"{short(name)} is not as NAME=VALUE")
+            raise Wrong(f"{short(name)} is not written like NAME=VALUE")
         if name.startswith("NIGHT_"):
-            raise Wrong(f"the variable {name} is the driver's own")
+            raise Wrong(f"night-run itself sets the variable {name}")
         self.its.env[name] = value
 
     def read_stop(self) -> None:
@@ -221,17 +291,24 @@ class Reader:
         if self.words[:2] != ["on", "failure"]:
             raise Wrong("the setting is stop on failure, or stop WORDS..")
         del self.words[:2]
+        self.once("failure cancel", self.its.cancels)
         self.its.stops = True
 
+    def read_failure(self) -> None:
+        self.once("stop on failure", self.its.stops)
+        if self.value("cancel") != "cancel":
+            raise Wrong("the setting is failure cancel")
+        self.its.cancels = True
+
     def read_way(self, what: str) -> None:
-        """The rest of the line."""
+        """Reads the rest of the line."""
         words = (self.value(what), *self.words)
         self.words.clear()
         self.once(what, bool(getattr(self.its.way, what)))
         self.its.way = replace(self.its.way, **{what: words})
 
     def read_shell(self) -> None:
-        """Likewise."""
+        """Reads the rest of the line, too."""
         words = (self.value("the shell"), *self.words)
         self.words.clear()
         self.once("shell", bool(self.its.shell))
@@ -252,10 +329,12 @@ def read_settings(settings: Settings, whose: str, rest: str, is_one: bool, line:
     if not words:
         raise Wrong(ALL)
     Reader(settings, whose, words, line).read()
+    if settings.pools and whose != OF_ALL:
+        raise Wrong("a pool is a setting of all groups together: night: pool NAME N")
     if is_one and (settings.limit or settings.deadline or settings.stops
-                   or settings.way != Way()):
-        raise Wrong("limit, until, within, stop on failure, via, ask and stop are settings of a"
-                    " group")
+                   or settings.cancels or settings.way != Way()):
+        raise Wrong("limit, until, within, stop on failure, failure cancel, via, ask and stop are"
+                    " settings of a group")
     if whose == OF_ALL:
         check_of_all(settings)
 
@@ -263,6 +342,6 @@ def read_settings(settings: Settings, whose: str, rest: str, is_one: bool, line:
 def check_of_all(its: Settings) -> None:
     if its.limit:
         raise Wrong("the limit of all groups together is the option -j")
-    if its != Settings(its.line, deadline=its.deadline, shell=its.shell):
-        raise Wrong("all groups together have a deadline and a shell alone: until MOMENT, within"
-                    " TIME, shell WORDS..")
+    if its != Settings(its.line, deadline=its.deadline, shell=its.shell, pools=its.pools):
+        raise Wrong("the settings of all groups together are until MOMENT, within TIME, pool NAME"
+                    " N and shell WORDS..")

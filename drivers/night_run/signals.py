@@ -1,8 +1,9 @@
-"""What asks a driver to end: Ctrl-C once lets the commands that run end, twice stops them, as
-SIGTERM and SIGHUP do at once.
+"""The signals that ask a driver to end. The first Ctrl-C lets the running commands end, and the
+second one stops them, as SIGTERM, SIGHUP and each other signal that would end it do at once.
 
-Until the commands of a night are begun, and again while its summary is printed, a signal ends what
-goes on by KeyboardInterrupt. In between it is counted, and the loop, an alarm or a renewal look.
+Until the commands of a night are begun, and again while its summary is printed, a signal ends the
+work at hand by KeyboardInterrupt. In between signals are counted, and the loop, an alarm or a
+renewal looks at the count.
 """
 
 from __future__ import annotations
@@ -14,20 +15,21 @@ import signal
 from collections.abc import Iterator
 from functools import partial
 
+from .early import STEPS, taken
 from .telling import tell
-
-# How much each of them asks for: 1 is that nothing more begins, 2 that what runs is stopped.
-STEPS = {signal.SIGINT: 1, signal.SIGTERM: 2, signal.SIGHUP: 2}
 
 
 class Signals:
-    """The signals of this process, once it listens. `wake` can be read once one came, that of a
-    child's end too."""
+    """The signals of this process, once it listens. `wake` can be read after a signal has come,
+    also after that of a child's end."""
 
     def __init__(self) -> None:
         self.steps = 0
         self.raises = True
-        self.wake, wakes = os.pipe()
+        try:
+            self.wake, wakes = os.pipe()
+        except OSError as error:
+            raise OSError(error.errno, error.strerror, "a pipe") from None
         os.set_blocking(self.wake, False)
         os.set_blocking(wakes, False)
         self.wakes = wakes
@@ -38,6 +40,8 @@ class Signals:
         for it, steps in STEPS.items():
             if signal.getsignal(it) != signal.SIG_IGN:
                 signal.signal(it, partial(self.heard, steps))
+        for number in taken():
+            self.heard(STEPS[signal.Signals(number)])
 
     def heard(self, steps: int, *_: object) -> None:
         self.steps += steps
@@ -49,7 +53,7 @@ class Signals:
 
     @contextlib.contextmanager
     def raising(self) -> Iterator[None]:
-        """Within it a signal is a KeyboardInterrupt."""
+        """Within this a signal is a KeyboardInterrupt."""
         self.raises = True
         try:
             yield
@@ -57,7 +61,7 @@ class Signals:
             self.raises = False
 
     def drain(self) -> bool:
-        """Whether one came since the last time."""
+        """Whether a signal came since the last call."""
         came = False
         with contextlib.suppress(BlockingIOError):
             while os.read(self.wake, 4096):
@@ -65,7 +69,7 @@ class Signals:
         return came
 
     def wait(self, seconds: float) -> None:
-        """Sleeps so long, or until one comes."""
+        """Sleeps this long, or until a signal comes."""
         poll = select.poll()
         poll.register(self.wake, select.POLLIN)
         poll.poll(max(0.0, seconds) * 1000)

@@ -67,7 +67,7 @@ class Task:
 
     @functools.cached_property
     def end(self) -> End | None:
-        """How it ended; None where it hasn't."""
+        """How it ended; None if it hasn't."""
         if self.phase == "error":
             made = read_end(self.error or "")
             # (an older driver stored what `ask` printed as it was)
@@ -85,27 +85,27 @@ class State:
     tasks: tuple[Task, ...]
 
     def reopened(self) -> State:
-        """The state that an opening makes of it: what ran is interrupted."""
+        """The state that an opening makes of it: running tasks are interrupted."""
         tasks = tuple(replace(it, phase="interrupted", error=None) if it.phase == "running" else it
                       for it in self.tasks)
         return replace(self, count=self.count + 1, tasks=tasks)
 
     def line(self, number: int | None) -> Iterator[Scope]:
-        """A scope and those above it, from it up to root."""
+        """A scope and those above it, up to root."""
         while number is not None:
             scope = self.scopes[number]
             yield scope
             number = scope.parent
 
     def night_of(self, number: int) -> int:
-        """The night that a scope is of."""
+        """The night to which a scope belongs."""
         for it in self.line(number):
             if it.kind == "value" and it.key == OF_ALL and (it.value or "").isdecimal():
                 return int(it.value or "")
         return 1
 
     def groups_of(self, night: int) -> set[str]:
-        """The groups whose scopes are of a night, by their names."""
+        """The groups whose scopes belong to a night, by their names."""
         return {it.name for it in self.groups if self.night_of(it.scope) == night}
 
     @functools.cached_property
@@ -113,7 +113,7 @@ class State:
         return {it.name: it for it in self.scopes}
 
     def said(self, name: str) -> str | None:
-        """The words of the deadline that a scope has of its own."""
+        """The words with which the file gave a scope its own deadline."""
         said = self.by_name.get(role_name(name, Role.SAID))
         return said.value if said else None
 
@@ -122,7 +122,7 @@ class State:
         return parent is not None and self.scopes[parent].kind == "deadline"
 
     def night(self) -> int:
-        """The last night that there is."""
+        """The last night."""
         return max(self.night_of(it.number) for it in self.scopes)
 
     def tops(self, least: int, most: int) -> list[Scope]:
@@ -133,7 +133,8 @@ class State:
                 and least <= nights.get(it.number, 1) <= most]
 
     def rounds(self) -> Iterator[tuple[str, Round]]:
-        """Each group of the file that a scope or a group is of, and which round of it that is."""
+        """Each group of the file that has a scope or a group here, and which round of it that
+        is."""
         for scope in self.scopes[1:]:
             yield base_of(scope.name), round_of(scope.name)
         for group in self.groups:
@@ -146,7 +147,7 @@ class State:
 
 
 def read_state(text: str, program: str) -> State:
-    """The rows of what was printed; a Fault where it isn't a state."""
+    """The rows of what was printed; a Fault if it isn't a state."""
     try:
         shown = json.loads(text)
         groups = tuple(picked(Group, it) for it in shown["groups"])
@@ -162,5 +163,5 @@ def read_state(text: str, program: str) -> State:
 
 
 def picked(kind: Any, row: dict[str, Any]) -> Any:
-    """A row of this dataclass, of the fields of its names."""
+    """A row of this dataclass, from the fields of its names."""
     return kind(**{name: row[name] for name in kind.__dataclass_fields__})

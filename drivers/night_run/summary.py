@@ -1,29 +1,37 @@
-"""What is printed at the end: what didn't end well, and how many commands did."""
+"""What is printed at the end: the commands that didn't end well, and how many did."""
 
 from __future__ import annotations
 
 import collections
-from collections.abc import Mapping
+from collections.abc import Iterable, Mapping
 
 from . import Name, rows
+from .ends import End
 from .escapes import plain
 from .jobs import Jobs
 from .log import Line, Tried, text_of_line
-from .plan import CANCELLED, FAILED, NEVER, NOT_KNOWN, OK, WAITING
 from .report_words import commands
 from .rounds import base_of
+from .rows import NOT_NEEDED, WELL
+from .standing import CANCELLED, FAILED, NEVER, NOT_KNOWN, OK, WAITING
 
 # The counts of the last line, in order.
-KINDS = ("ok", "failed", "canceled", "not started", "left", "not known")
+KINDS = ("ok", "failed", "canceled", "not started", "left", "not known", "not needed")
+
+
+def so_far(ends: Iterable[End], count: int, running: int) -> str:
+    """How far a night is: how many commands have ended, out of how many, and how many run."""
+    found = [it.is_ok for it in ends]
+    return f"{len(found)} of {count} done, {running} running, {found.count(False)} failed"
 
 
 def kind_of(phase: str) -> str:
-    return phase if phase in (OK, FAILED, CANCELLED, NEVER, NOT_KNOWN) else "left"
+    return phase if phase in KINDS else "left"
 
 
 def said(row: rows.Row) -> str:
-    """How a command stands, in a line."""
-    if row.phase == NEVER:
+    """How a command stands, in one line."""
+    if row.phase in (NEVER, NOT_NEEDED):
         return f"{row.phase}, because {row.end}"
     if row.phase == NOT_KNOWN:
         return f"{row.phase}: {row.end}"
@@ -33,7 +41,7 @@ def said(row: rows.Row) -> str:
 
 
 def retry(end: str) -> str:
-    """How one that failed is told while a retry is left."""
+    """The line of a failed command that has a retry left."""
     return f"a retry after {end}"
 
 
@@ -42,10 +50,10 @@ def list_lines(report: rows.Report) -> list[str]:
 
 
 def failures(report: rows.Report) -> list[str]:
-    """A line for each command that didn't end well, and the last ones that it printed."""
+    """A line for each command that didn't end well, and the last lines that it printed."""
     lines = []
     for it in report.rows:
-        if it.phase == OK:
+        if it.phase in WELL:
             continue
         is_shown = it.output and it.phase in (FAILED, CANCELLED)
         lines.append(f"{it.group} {it.key}: {said(it)}" + (f"; {it.output}" if is_shown else ""))
@@ -54,7 +62,7 @@ def failures(report: rows.Report) -> list[str]:
 
 
 def changed(jobs: Jobs, report: rows.Report, lines: Mapping[Tried, Line]) -> list[str]:
-    """The commands whose text is another one than that which ended ok."""
+    """The commands whose text differs from the one that ended ok."""
     had = {(base_of(group), key): line.command
            for (group, key, _), line in lines.items() if line.end.is_ok and line.command != "-"}
     return [f"{it.group} {it.key}: its command has changed since it ended; --again runs it"
@@ -71,14 +79,14 @@ def total(report: rows.Report, ran_now: int) -> str:
 def nothing_to_do(report: rows.Report, when: str) -> str:
     found = collections.Counter(kind_of(it.phase) for it in report.rows)
     ended = sum(count for kind, count in found.items() if kind != "left")
-    bad = [f"{found[it]} {it}" for it in KINDS[1:] if found[it]]
+    bad = [f"{found[it]} {it}" for it in KINDS[1:] if found[it] and it not in WELL]
     failed = f"; --failed repeats only those that are not ok ({', '.join(bad)})" if bad else ""
     moment = f" by {when}" if when else ""
     return f"nothing to do: {commands(ended)} ended{moment}; --again starts the next night{failed}"
 
 
 def is_well(report: rows.Report) -> bool:
-    return all(it.phase == OK for it in report.rows)
+    return all(it.phase in WELL for it in report.rows)
 
 
 def failed_count(report: rows.Report) -> int:
@@ -86,9 +94,9 @@ def failed_count(report: rows.Report) -> int:
 
 
 def left_count(report: rows.Report) -> int:
-    return sum(it.phase != OK for it in report.rows) - failed_count(report)
+    return sum(it.phase not in WELL for it in report.rows) - failed_count(report)
 
 
 def names_not_there(jobs: Jobs, left: set[Name]) -> list[Name]:
-    """Commands that are left in a store and not in the file."""
+    """Commands that are left in a store, and aren't in the file."""
     return sorted(it for it in left if it not in jobs.all)

@@ -1,8 +1,10 @@
-"""What is told on standard error. With `--quiet` notices are held back until something isn't well.
+"""What is printed on standard error. With `--quiet` notices are held back until something isn't
+well.
 """
 
 from __future__ import annotations
 
+from .descriptors import why
 from .escapes import plain_lines
 from .terminal import CLEAR, Progress, Writer
 
@@ -19,7 +21,7 @@ def hold_back() -> None:
 
 
 def let_go() -> None:
-    """Tells what was held back, and from now on all at once."""
+    """Prints what was held back, and from now on everything at once."""
     global _held
     lines, _held = _held or [], None
     for it in lines:
@@ -30,8 +32,13 @@ def tell(text: object) -> None:
     _writer.write(f"{CLEAR}night-run: {plain_lines(str(text))}\n")
 
 
+def say(text: str) -> None:
+    """Writes lines as they are, without the program's name before them."""
+    _writer.write(f"{CLEAR}{plain_lines(text)}\n")
+
+
 def note(text: str) -> None:
-    """Tells what is no fault."""
+    """Prints what is no fault."""
     if _held is None:
         tell(text)
     else:
@@ -39,17 +46,24 @@ def note(text: str) -> None:
 
 
 def note_once(text: str) -> None:
-    """Tells it the first time alone."""
+    """Prints it the first time only."""
     if text not in _once:
         _once.add(text)
         note(text)
 
 
+def tell_once(text: str) -> None:
+    """Prints it the first time only, with `--quiet`, too."""
+    if text not in _once:
+        _once.add(text)
+        tell(text)
+
+
 def told_of(error: OSError) -> str:
     """An error of the system, with the file that it is about."""
-    return f"{error.filename}: {error.strerror}" if error.filename else str(error.strerror)
+    return f"{error.filename}: {why(error)}" if error.filename else why(error)
 
 
 def flush() -> None:
-    """Waits a while until all that was told is written."""
+    """Waits a while until all messages are written."""
     _writer.flush()

@@ -1,5 +1,6 @@
-"""Standard error, written to without ever waiting for it: a terminal that takes nothing more, after
-Ctrl-S or over a line that stalls, would keep the whole night waiting, its deadlines too.
+"""Standard error, written to without ever waiting for it. Otherwise a terminal that takes nothing
+more, after Ctrl-S or over a line that stalls, would keep the whole night waiting, its deadlines,
+too.
 """
 
 from __future__ import annotations
@@ -13,14 +14,14 @@ import threading
 
 # Takes away the line of progress, which only a terminal gets.
 CLEAR = "\r\x1b[K" if sys.stderr is not None and sys.stderr.isatty() else ""
-# So many texts wait at most; what comes then is lost.
+# How many texts wait at most; what comes then is lost.
 MOST = 10_000
-# So many seconds are given to the last ones.
+# How many seconds are given to the last ones.
 LAST = 5.0
 
 
 class Writer:
-    """A file that a thread of its own writes to, in the order in which it was asked."""
+    """A file to which a thread of its own writes, in the order of the requests."""
 
     def __init__(self, file: int) -> None:
         self.file = file
@@ -36,7 +37,7 @@ class Writer:
             self.write_all(text)
 
     def show(self, line: str) -> None:
-        """Writes this in the place of what was to be shown before and isn't written yet."""
+        """Writes this, instead of a text that was to be shown before and isn't written yet."""
         self.line = line
         if not self.is_line_due:
             self.is_line_due = True
@@ -50,7 +51,7 @@ class Writer:
         return True
 
     def is_begun(self) -> bool:
-        """Whether there is a thread, which the system may have no room for."""
+        """Whether there is a thread; the system may have had no room for one."""
         if self.thread is None:
             thread = threading.Thread(target=self.run, daemon=True)
             try:
@@ -82,7 +83,7 @@ class Writer:
                 left = left[os.write(self.file, left):]
 
     def flush(self, seconds: float = LAST) -> bool:
-        """Waits so long at most until all is written; whether it is."""
+        """Waits until all is written, but at most this long. Returns whether it is."""
         if self.thread is None:
             return True
         is_written = threading.Event()
@@ -90,7 +91,7 @@ class Writer:
 
 
 class Progress:
-    """A line of progress, on a terminal alone, and no wider than that."""
+    """A line of progress, shown only on a terminal, and no wider than that."""
 
     def __init__(self, writer: Writer) -> None:
         self.writer, self.shown = writer, ""

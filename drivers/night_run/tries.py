@@ -1,6 +1,6 @@
-"""STORE.tries: a file for each try that was begun and whose end isn't recorded, GROUP.KEY.TRY as
-its output is called. The driver writes its first lines, and the shell that begins the command the
-others (`commands`):
+"""STORE.tries: a file for each try that was begun and whose end isn't recorded, with the name of
+its output, GROUP.KEY.TRY. The driver writes its first lines, and the shell that begins the command
+writes the others (`commands`):
 
     try GROUP KEY TRY since N       before the shell begins: the store had N events then. With - in
                                     place of N its end counts for nothing: it is of another night
@@ -9,11 +9,11 @@ others (`commands`):
     process BOOT PID START          the shell, just before its command begins
     ended STATUS SECONDS .          how the command ended, and how many seconds after the boot
 
-Then comes the command, as the file of commands had it. All that is written after the file was made
-has its place from the first moment on, as empty lines: a full disk takes none of it. So a command
-without a line of its process never began.
+Then comes the command, as the file of commands had it. Everything that is written later has its
+place from the first moment on, as empty lines, so a full disk can't prevent it. A command without a
+line of its process never began.
 
-The shell holds the file's lock, which the driver took for it, until it ends; its command doesn't
+The driver takes the file's lock for the shell, which holds it until it ends; the command doesn't
 have it. Once the lock is free the shell is gone, and what the file says is final.
 """
 
@@ -30,7 +30,7 @@ from .beside import Folder, NotOurs, Part, write_all
 from .ends import End, read_end
 from .files import Files
 from .lock import try_lock
-from .processes import PID, START, Process, lives
+from .processes import PID, START, Process, lives, this_process
 from .rounds import base_of
 from .telling import note_once, told_of
 
@@ -42,13 +42,13 @@ STOPPED = re.compile(r"stopped ([ -~]{1,64})")
 PROCESS = re.compile(rf"process (\S{{1,64}}) {PID} {START}")
 ENDED = re.compile(r"ended ([0-9]{1,3}) ([0-9]{1,12}\.[0-9]{1,6})? \.")
 CUT_OFF = NOT_COUNTED = "-"
-# The file of the process of `night`.
+# The file of the process of `night`; `raised` has another one.
 NIGHT = "night"
 
 
 @dataclass(frozen=True)
 class Named:
-    """A try by the three parts of its output's name."""
+    """A try, by the three parts of its output's name."""
 
     group: str
     key: str
@@ -77,9 +77,9 @@ class Ended:
 
 @dataclass(frozen=True)
 class Told:
-    """What the file of a try says. One that can't be read says nothing."""
+    """The contents of the file of a try. One that can't be read says nothing."""
 
-    since: int | None = None  # so many events the store had; None where its end doesn't count
+    since: int | None = None  # how many events the store had; None where its end doesn't count
     is_stopped: bool = False
     why: End | None = None  # the end that it was stopped for; None where it was cut off
     process: Process | None = None
@@ -98,7 +98,7 @@ def head_of(it: Named, since: int | None, stopped: str = "") -> bytes:
 
 
 def said(it: Named, data: bytes, changed: float) -> Told:
-    """What these bytes say of a try, in a file that was changed last at this moment."""
+    """What these bytes say of a try, in a file that was last changed at this moment."""
     ours = lines_of(data[:HALF])
     head = next((found for found in map(HEAD.fullmatch, ours) if found), None)
     if head is None or Named(head[1], head[2], int(head[3])) != it:
@@ -124,9 +124,9 @@ def parted(lines: list[str]) -> tuple[list[str], Process | None, list[str]]:
 
 
 def ended_by(process: Process, lines: list[str], changed: float) -> Ended | None:
-    """How a command ended. A status above 128 is that of a signal where its shell has said so
-    before, in its own words; else the command ended with it. (Of SIGINT and SIGPIPE it says
-    nothing.)"""
+    """How a command ended. A status above 128 is that of a signal if its shell has printed so
+    before, in its own words; otherwise the command ended with it. (Of SIGINT and SIGPIPE the shell
+    prints nothing.)"""
     found = ENDED.fullmatch(lines[-1]) if lines else None
     if not found:
         return None
@@ -139,12 +139,13 @@ def ended_by(process: Process, lines: list[str], changed: float) -> Ended | None
 # --- the files
 
 class Tries:
-    """The folder of the files, of the driver that has the store."""
+    """The folder of the files, for the driver that has the store."""
 
     def __init__(self, files: Files) -> None:
         self.files = files
         self.folder = files.below(Part.TRIES, make=True)
         self.night = -1
+        self.night_of: Process | None = None
 
     def all(self) -> list[Named]:
         found = map(NAME.fullmatch, self.folder.names())
@@ -194,15 +195,16 @@ class Tries:
             os.close(file)
 
     def stop(self, it: Named, why: End | None) -> None:
-        """Says that a try is stopped, before it is."""
+        """Writes that a try is stopped, before that is done."""
         self.rewrite(it, why.text if why else CUT_OFF)
 
     def disown(self, it: Named) -> None:
-        """Says that the end of a try counts for nothing, whatever it will be."""
+        """Writes that the end of a try doesn't count, whatever it will be."""
         self.rewrite(it, "", counts=False)
 
     def rewrite(self, it: Named, stopped: str, counts: bool = True) -> None:
-        """Writes the driver's lines anew. Their bytes are there, so a full disk doesn't matter."""
+        """Writes the driver's lines again. Their bytes are there already, so a full disk doesn't
+        matter."""
         try:
             file = self.open(it)
             try:
@@ -215,24 +217,36 @@ class Tries:
             note_once(told_of(error))
 
     def forget(self, it: Named) -> None:
-        """Takes away the file of a try whose end is recorded, or counts for nothing."""
+        """Removes the file of a try whose end is recorded, or doesn't count."""
         with contextlib.suppress(OSError):
             self.folder.remove(it.file)
 
     # --- the process of `night`
 
-    def last_night(self) -> Process | None:
-        """The `night` of the last driver."""
+    def last_night(self) -> tuple[Process | None, Process | None]:
+        """The `night` of the last driver, and that driver, as far as it wrote which they are."""
         try:
-            found = PROCESS.match(self.folder.read(NIGHT).decode("ascii", "replace"))
+            lines = lines_of(self.folder.read(NIGHT))
         except FileNotFoundError:
-            return None
-        return Process(found[1], int(found[2]), int(found[3])) if found else None
+            return None, None
+        found = [Process(it[1], int(it[2]), int(it[3]))
+                 for it in map(PROCESS.fullmatch, lines) if it]
+        return found[0] if found else None, found[1] if found[1:] else None
 
     def sign_night(self, process: Process) -> None:
-        """Writes which process the `night` of this driver is, over what the last one wrote: a disk
-        that is full keeps no night from beginning."""
-        text = f"process {process.boot} {process.pid} {process.start}\n"
+        """Writes which process the `night` of this driver is, and which process this driver is,
+        over those of the last one. So a full disk keeps no night from beginning."""
+        self.night_of = process
+        self.write_night(process, this_process())
+
+    def sign_off(self) -> None:
+        """Writes that this driver lets the store go. Its `night` may live on, as where the disk
+        holds it; the next driver waits for that."""
+        if self.night_of and self.night >= 0:
+            self.write_night(self.night_of)
+
+    def write_night(self, *its: Process) -> None:
+        text = "".join(f"process {it.boot} {it.pid} {it.start}\n" for it in its)
         try:
             with self.folder.named(NIGHT):
                 if self.night < 0:
@@ -250,8 +264,8 @@ def told_by(it: Named, file: int) -> Told:
 
 
 def running_now(files: Files) -> set[Name]:
-    """The commands that run at this moment; nothing is locked or made, and what may not be read is
-    passed over."""
+    """The commands that run at this moment. Nothing is locked or made, and files that can't be read
+    are skipped."""
     found = set()
     with contextlib.suppress(OSError), contextlib.closing(files.below(Part.TRIES)) as folder:
         for it in map(NAME.fullmatch, folder.names()):
@@ -269,7 +283,7 @@ def runs(folder: Folder, it: Named) -> bool:
 
 @contextlib.contextmanager
 def naming(shown: str) -> Iterator[None]:
-    """Errors name this, and no file in it: so they are told once."""
+    """Errors name this, and no file in it, so that they are reported only once."""
     try:
         yield
     except NotOurs:

@@ -16,14 +16,15 @@ from .log import Line, Tried, read_log
 from .nights import read_nights
 from .opening import check, inspected
 from .past import Past, read_past
-from .plan import NOT_KNOWN, Standing, standings
+from .planner import Planner
 from .processes import this_process
 from .rounds import base_of
 from .settings import OF_ALL
+from .standing import NOT_KNOWN, Standing
 from .state import State
 from .tries import running_now
 
-# So many last lines of an output are shown, of so many last bytes.
+# How many of the last lines of an output are shown, out of how many of its last bytes.
 LINES, BYTES = 3, 4096
 EMPTY = State(0, 0, {}, (), (), ())
 
@@ -40,7 +41,7 @@ class View:
     standings: Mapping[Name, Standing]
 
 
-def look(files: Files, jobs: Jobs, past: Past | None = None) -> View:
+def look(files: Files, planner: Planner, past: Past | None = None) -> View:
     """Reads a night. A store that isn't there has nothing. A driver knows the ends of a renewed
     store itself."""
     if past is None:
@@ -53,7 +54,7 @@ def look(files: Files, jobs: Jobs, past: Past | None = None) -> View:
     book = book_of(state, past, night)
     facts = facts_of(state, past, lines, book, time.time(), {})
     facts.busy = running_in(files, state, book)
-    return View(state, past, lines, book, facts, standings(jobs, facts))
+    return View(state, past, lines, book, facts, planner.standings(facts))
 
 
 def moment(files: Files) -> tuple[Past, State]:
@@ -95,18 +96,18 @@ def remembered(files: Files, jobs: Jobs, night: int, known: Mapping[Name, Standi
     made = []
     for name, it in known.items():
         output = outputs.get(name, "")
-        is_there = not files.missing() and files.has_output(output)
-        shown = files.shown_output(output) if is_there else ""
+        is_there = not files.sight.why() and files.outputs.has(output)
+        shown = files.outputs.shown(output) if is_there else ""
         made.append(rows.Row(*name, jobs.all[name].command, it.phase, it.why, (), shown,
                              tail(files, output)))
     return rows.Report(files.shown, night, time.time(), None, (), tuple(made))
 
 
-def without_past(files: Files, jobs: Jobs, why: str) -> rows.Report:
+def without_past(files: Files, planner: Planner, why: str) -> rows.Report:
     """A night as the store alone has it: of what it says nothing of, nothing is known."""
-    view = look(files, jobs, Past())
+    view = look(files, planner, Past())
     said = {*view.facts.ends, *view.facts.interrupted, *view.facts.busy}
-    made = report(files, jobs, view)
+    made = report(files, planner.jobs, view)
     return replace(made, rows=tuple(
         it if (it.group, it.key) in said else replace(it, phase=NOT_KNOWN, end=why)
         for it in made.rows))
@@ -115,10 +116,10 @@ def without_past(files: Files, jobs: Jobs, why: str) -> rows.Report:
 def row(files: Files, view: View, command: str, name: Name,
         tries: list[tuple[str, rows.Try]]) -> rows.Row:
     standing = view.standings[name]
-    named = (files.output(group, name[1], it.number) for group, it in reversed(tries))
-    output = next(filter(files.has_output, named), "")
+    named = (files.outputs.name(group, name[1], it.number) for group, it in reversed(tries))
+    output = next(filter(files.outputs.has, named), "")
     return rows.Row(*name, command, standing.phase, standing.why, tuple(it for _, it in tries),
-                    files.shown_output(output), tail(files, output))
+                    files.outputs.shown(output), tail(files, output))
 
 
 def tries_of(view: View) -> dict[Name, list[tuple[str, rows.Try]]]:
@@ -138,7 +139,24 @@ def tries_of(view: View) -> dict[Name, list[tuple[str, rows.Try]]]:
             is_running = task.phase == "running" and task.name in view.facts.busy
             end = "" if is_running else (task.end or INTERRUPTED).text
             add_try(found, tried, None, None, end)
-    return found
+    return {name: as_one(its, name in view.facts.busy) for name, its in found.items()}
+
+
+def as_one(its: list[tuple[str, rows.Try]], is_busy: bool) -> list[tuple[str, rows.Try]]:
+    """The tries of a command, in which one that outlived its driver or its `night` counts once. The
+    store has it as an interrupted one and as the one after it, which began at the same moment."""
+    made: list[tuple[str, rows.Try]] = []
+    for group, it in reversed(its):
+        later = made[-1][1] if made else None
+        if it.end != INTERRUPTED.text or it.began is None:
+            made.append((group, it))
+        elif later is None:
+            made.append((group, replace(it, end="") if is_busy else it))
+        elif not later.end and later.began is None:
+            made[-1] = made[-1][0], replace(later, began=it.began)
+        elif later.began != it.began:
+            made.append((group, it))
+    return made[::-1]
 
 
 def add_try(found: dict[Name, list[tuple[str, rows.Try]]], tried: Tried, began: float | None,
@@ -165,7 +183,7 @@ def tail(files: Files, output: str) -> tuple[str, ...]:
     if not output:
         return ()
     try:
-        file = files.open_output(output)
+        file = files.outputs.open(output)
         try:
             text = os.pread(file, BYTES, max(0, os.fstat(file).st_size - BYTES))
         finally:

@@ -1,7 +1,7 @@
-"""The words of the command line, and what each of them does.
+"""The options of the command line, and what each of them does.
 
-The status is 0 where every command of the file is ok, and where a list, a report or a cancel was
-done; 1 where a command isn't; 2 where the words or the file have to be changed; 3 after a fault.
+The status is 0 if every command of the file is ok, or if a list, a report or a cancel was done; 1
+if a command isn't ok; 2 if the options or the file have to be changed; 3 after a fault.
 """
 
 from __future__ import annotations
@@ -14,12 +14,13 @@ import os
 import re
 import sys
 import time
+from collections.abc import Iterable
 from typing import NoReturn
 
-from . import Fault, Mistake, Name, cancels, clock, exits, rows, telling
+from . import (Fault, Mistake, Name, cancels, clock, descriptors, early, exits, foreign,
+               raised, rows, strangers, telling)
 from .beside import Umask
 from .canceling import cancel
-from .escapes import plain_lines
 from .exits import Hooks, Outcome, hooks_of, outcome_of
 from .facts import Book, Facts, book_of, facts_of, groups_of, logged_groups, when_ended
 from .files import Files, become_owner
@@ -31,10 +32,11 @@ from .loop import Driver
 from .night import RENEWAL_SECONDS, NightEnded, program, ran
 from .opening import check, inspected
 from .past import Past, Unreadable, read_past
-from .plan import standings
+from .planner import Planner
 from .plans import Wish, forgiven, is_left, planned
 from .renewal import make, make_anew, renew
 from .report_words import last_end
+from .rest import Rest
 from .rounds import Role, role_name
 from .signals import Signals
 from .state import State
@@ -47,18 +49,19 @@ from .views import View, look, remembered, report, without_past
 
 HELP = """Runs the shell commands of the file JOBS, and records in the file STORE how each of them
 ended. STORE is created if it doesn't exist. After a crash, a kill or a power failure, run the same
-line again: it does what is left of the night. A night that has ended runs nothing more, until
---again or --nightly starts the next night with the same file."""
+line again: it runs whatever is left of the night. Once the night has ended, the line runs nothing
+more; --again or --nightly starts the next night with the same file."""
 
 FILE = """Each line of JOBS is one of
 
   GROUP KEY COMMAND..       a command for /bin/sh; its key is unique in its group
   GROUP: SETTING..          settings of a group
-  GROUP KEY: SETTING..      settings of one command; they win over those of its group
+  GROUP KEY: SETTING..      settings of one command; they replace those of its group
   night: SETTING..          settings of all groups: until 05:30, within 8h, shell bash
   # ..                      a comment
 
-If the file has mistakes, all of them are printed with their lines, and no command is started.
+If the file has mistakes, the first 20 of them are printed, each with the number of its line, and no
+command is started.
 
 Settings, one or more in a line:
 
@@ -67,18 +70,27 @@ Settings, one or more in a line:
                             no more are started
   after X..                 start only when all of X are ok: keys of the same group, GROUP/KEY,
                             or whole groups
-  retries N [wait 30s]      after a failure, try up to N more times
+  after failed X..          start when each X has failed (a group has when one of its commands has);
+                            if X can't fail any more, it isn't needed, which counts as ok
+  after ended X..           start when all of X have ended, even if they were canceled. Such a
+                            command runs on if its group is canceled or past its deadline
+  retries N [wait 30s]      after a failure, try up to N more times; `wait 30s x2 up to 10m` waits
+                            twice as long each time
+  priority N                start before commands with a lower priority
+  pool NAME N               (night) the commands share N of something
+  uses NAME N               take N of that pool while the command runs
   timeout 10m               stop a try that takes longer; it counts as failed
   in FOLDER                 the working directory
   env NAME=VALUE            a variable of the environment
-  stop on failure           (a group) when a command has failed for good, start no more of the
-                            group
+  stop on failure           (a group) when a command has failed for good, start no more commands
+                            of the group
+  failure cancel            (a group) when a command has failed for good, cancel the group
   background keep           don't end the processes that a command leaves in the background
   via WORDS..               (a group) run WORDS with the command as one more argument, for example
                             to run it on another machine; WORDS takes the rest of the line
   ask WORDS.., stop WORDS.. (a group) learn how such a try ended, and end it
-  shell bash -o pipefail    run the command by these words and -c, and not by /bin/sh; they take
-                            the rest of the line
+  shell bash -o pipefail    run the command with these words and -c, instead of /bin/sh -c; the
+                            words take the rest of the line
 
 A command inherits the environment of night-run, and finds NIGHT_STORE, NIGHT_GROUP, NIGHT_KEY and
 NIGHT_TRY there. Its standard input is empty, and its output goes to STORE.out/GROUP.KEY.TRY.
@@ -86,17 +98,19 @@ STORE.log lists each try: when it ran, for how long, and how it ended. Press Ctr
 running commands finish, and twice to stop them. SIGTERM stops them at once.
 
 The exit status is 0 if every command is ok (or what you asked for was printed or done), 1 if one
-isn't, 2 if the options or the file have a mistake, and 3 after a fault or if another night-run has
-the store open. With NIGHT_DEBUG=1 in its environment, night-run prints where an error arose that
-nobody foresaw.
+isn't, 2 if the options or the file have a mistake, and 3 if night-run couldn't do its work, for
+example because another night-run has the store open. With NIGHT_DEBUG=1 in its environment,
+night-run prints a traceback of an error that nobody foresaw.
 
 For example, this line of a crontab runs a night every evening:
 
-  0 22 * * *  night-run /var/backup/store /etc/backup.jobs --nightly --quiet
+  0 22 * * *  night-run /var/lib/night/backups.store /etc/night/backups --nightly --quiet
 
 A command may run twice, if the machine crashes while it runs. The manual page night-run(1) says
 more."""
 
+# Without /proc this many descriptors are taken for open.
+MOST_FILES = 4096
 # A clock of a store that is ahead by more seconds than this is not waited for.
 MOST_AHEAD = 60
 FORMS = ("html", "text", "prom")
@@ -112,8 +126,16 @@ class Unusable(Mistake):
     """Words that can't be read."""
 
 
+class Asked(Exception):
+    """The words ask for this text."""
+
+
 class Reader(argparse.ArgumentParser):
     """Reads the words of the command line."""
+
+    def _print_message(self, message: str, file: object = None) -> None:
+        # (argparse passes over a stream that takes nothing)
+        raise Asked(message)
 
     def error(self, message: str) -> NoReturn:
         raise Unusable(f"{self.format_usage()}{self.prog}: error: {message}")
@@ -131,7 +153,7 @@ def read_words(given: list[str]) -> argparse.Namespace:
               "       night-run STORE [JOBS] --cancel GROUP[/KEY] [WHY..]\n"
               "       night-run --version | --help",
         formatter_class=argparse.RawDescriptionHelpFormatter)
-    reader.add_argument("store", metavar="STORE")
+    reader.add_argument("store", metavar="STORE", help="the store, which is created if need be")
     reader.add_argument("jobs", metavar="JOBS", nargs="?", help="the file of commands")
     reader.add_argument("-j", type=number, default=4, metavar="N", dest="most",
                         help="run at most N commands at a time, 4 if not given")
@@ -141,8 +163,8 @@ def read_words(given: list[str]) -> argparse.Namespace:
     reader.add_argument("--keep", type=number, default=30, metavar="N",
                         help="keep the logs and outputs of N earlier nights, 30 if not given")
     reader.add_argument("--quiet", action="store_true",
-                        help="print nothing if all is well. If the night has ended before and so"
-                        " nothing runs, that is still said, unless --resume is given")
+                        help="print nothing if all is well. If nothing runs because the night has"
+                        " already ended, that is still printed, unless --resume is given")
     reader.add_argument("--on-begin", metavar="COMMAND", dest="begin",
                         help="run COMMAND before the commands of the night")
     reader.add_argument("--on-success", metavar="COMMAND", dest="success",
@@ -157,10 +179,11 @@ def read_words(given: list[str]) -> argparse.Namespace:
     what.add_argument("--again", action="store_true",
                       help="start the next night: every command runs again")
     what.add_argument("--nightly", action="store_true",
-                      help="start the next night. If the last one was left, its rest is done first")
+                      help="start the next night, but first run the rest of the last one if it"
+                      " wasn't finished")
     what.add_argument("--resume", action="store_true",
-                      help="run what is left of the night, and else nothing. This is for the time"
-                      " after a reboot")
+                      help="run whatever is left of the night; if nothing is left, start nothing."
+                      " Use it after a reboot")
     what.add_argument("--list", action="store_true",
                       help="print the commands that aren't ok, and change nothing")
     what.add_argument("--report", choices=FORMS, metavar="html|text|prom",
@@ -173,10 +196,13 @@ def read_words(given: list[str]) -> argparse.Namespace:
                         " --nightly, and change nothing")
     reader.add_argument("--json", action="store_true",
                         help="with --list: print every command, as JSON")
-    reader.add_argument("--version", action="version", version=f"night-run {version()}")
+    reader.add_argument("--version", action="version", version=f"night-run {version()}",
+                        help="print the version")
     found = reader.parse_args(given)
+    if not found.store:
+        reader.error("STORE is empty")
     if not found.cancel and found.jobs is None:
-        reader.error("the file JOBS is missing")
+        reader.error("JOBS is missing: give the file of commands after STORE")
     if found.json and not found.list:
         reader.error("--json goes with --list")
     if found.dry_run and (found.list or found.report or found.cancel):
@@ -191,19 +217,35 @@ def number(word: str) -> int:
 
 
 def main() -> int:
+    try:
+        return run()
+    except OSError as error:  # (that came before there was anything to end)
+        return exits.leave(outcome_of(error), Hooks())
+
+
+def run() -> int:
     keep_streams_open()
     Umask.keep_others_out()
     given = sys.argv[1:]
     try:
         words = read_words(given)
+    except Asked as text:
+        early.let_be()
+        return exits.leave(Outcome(exits.WELL, lines=(str(text).rstrip("\n"),)), Hooks())
     except Unusable as mistake:
         return unusable(given, mistake)
     if words.list or words.report or words.dry_run or words.cancel:
+        early.let_be()
         return exits.leave(looked(words), Hooks())
     signals = Signals()
-    store = os.path.realpath(words.store)
-    hooks = hooks_of({it: getattr(words, name) for it, name in HOOKS.items()}, store, signals)
-    return exits.leave(Run(words, signals, hooks).outcome(), hooks)
+    hooks = hooks_of({it: getattr(words, name) for it, name in HOOKS.items()}, words.store,
+                     signals)
+    made = Run(words, signals, hooks)
+    it = made.outcome()
+    status = exits.leave(it, hooks)
+    if it.alarm and not it.is_given and not hooks.has_failed and status == it.status:
+        raised.write(made.files, it.alarm, hooks.has_alarm)
+    return status
 
 
 def unusable(given: list[str], mistake: Unusable) -> int:
@@ -211,10 +253,10 @@ def unusable(given: list[str], mistake: Unusable) -> int:
     signals = Signals()
     words = {} if set(given) & set(LOOKS) else {"--on-failure": word_after("--on-failure", given)}
     hooks = hooks_of(words, "", signals)
-    signals.listen()
     signals.raises = False
+    signals.listen()
     hooks.end(Outcome(exits.MISTAKE, (str(mistake),)))
-    sys.stderr.write(f"{plain_lines(str(mistake))}\n")
+    telling.say(str(mistake))
     telling.flush()
     return exits.MISTAKE
 
@@ -239,7 +281,7 @@ def looked(words: argparse.Namespace) -> Outcome:
         files = Files(words.store)
         files.look()
         lines = [cancel(files, words.jobs, *words.cancel)] if words.cancel else \
-            shown(files, Jobs(words.jobs), words)
+            shown(files, Planner(Jobs(words.jobs)), words)
         return Outcome(exits.WELL, lines=tuple(lines))
     except (Exception, KeyboardInterrupt) as error:
         return outcome_of(error)
@@ -254,23 +296,31 @@ def keep_streams_open() -> None:
             os.close(file)
             break
         os.set_inheritable(file, True)
-    for it in map(int, os.listdir("/proc/self/fd")):
+    for it in open_files():
         if it > 2:
             with contextlib.suppress(OSError):  # (that of the list itself)
                 os.set_inheritable(it, False)
 
 
+def open_files() -> Iterable[int]:
+    """The descriptors that are open; without /proc those that may be."""
+    try:
+        return map(int, os.listdir("/proc/self/fd"))
+    except OSError:
+        return range(MOST_FILES)
+
+
 # --- what only reads
 
-def shown(files: Files, jobs: Jobs, words: argparse.Namespace) -> list[str]:
-    view = look(files, jobs)
-    made = report(files, jobs, view)
+def shown(files: Files, planner: Planner, words: argparse.Namespace) -> list[str]:
+    view = look(files, planner)
+    made = report(files, planner.jobs, view)
     if words.report:
         from . import report as forms
         form = {"html": forms.html, "text": forms.text, "prom": forms.prom}[words.report]
         return [form(made).rstrip("\n")]
     if words.dry_run:
-        return planned(jobs, view, words.most, wish_of(words))
+        return planned(planner, view, words.most, wish_of(words))
     if words.json:
         return [json.dumps([as_json(it) for it in made.rows], indent=1)]
     return list_lines(made)
@@ -294,13 +344,15 @@ class Run:
 
     files: Files
     jobs: Jobs
+    planner: Planner
 
     def __init__(self, words: argparse.Namespace, signals: Signals, hooks: Hooks) -> None:
         self.words, self.signals, self.hooks = words, signals, hooks
         self.driver: Driver | None = None
         self.is_alone = False  # whether it has the locks
-        self.is_rest = False  # whether it does what the last night left
-        self.rest: Outcome | None = None  # what that came to
+        self.tries: Tries | None = None
+        self.has_planner = False
+        self.rest = Rest()
 
     def outcome(self) -> Outcome:
         """What the run came to. It has let its locks go then."""
@@ -315,39 +367,57 @@ class Run:
             self.let_go()
 
     def let_go(self) -> None:
+        if self.has_planner:
+            self.planner.close()
         if self.is_alone:
+            if self.tries:
+                self.tries.sign_off()
             self.files.lock.release()
 
     def run(self) -> Outcome:
         if self.words.quiet:
             telling.hold_back()
+        descriptors.look()
         self.files = Files(self.words.store)
+        self.hooks.store = self.files.path
         self.files.look()
         self.jobs = Jobs(self.words.jobs)
+        self.planner, self.has_planner = Planner(self.jobs), True
+        foreign.look_at_commands(self.files, self.words.jobs)
         program()
         self.jobs.tell_unused()
         if not self.files.exists():
             self.files.look_for_log()
+            foreign.look(self.files)
         if not self.files.lock.take():
             raise Fault(f"{self.files.shown}: in use by another night-run")
         self.is_alone = True
+        if not self.files.exists():
+            self.files.look_for_log()  # (it may have gone meanwhile)
         return self.run_alone()
 
     def broken(self, error: BaseException) -> Outcome:
         """What it came to where this ended it, with what is known of the night."""
         it = outcome_of(error)
         if isinstance(error, NightEnded) and error.is_in_use():
-            return self.with_rest(it)  # (nothing of this run is to be told)
+            # (nothing of this run is to be printed)
+            return self.rest.before(dataclasses.replace(
+                it, told=(*it.told, *strangers.holders(self.files))))
         try:
             made = self.known() if self.is_alone else None
         except Exception as another:  # (that nobody foresaw either)
             return dataclasses.replace(it, told=(*it.told, exits.said_of(another)))
         if made is None:
-            return self.with_rest(it)
+            return self.rest.before(it)
         ran = len(self.driver.ran) if self.driver else 0
-        return self.with_rest(dataclasses.replace(
-            it, lines=(*failures(made), total(made, ran)), failed=failed_count(made),
+        return self.rest.before(dataclasses.replace(
+            it, lines=(*failures(made), *self.held(), total(made, ran)), failed=failed_count(made),
             left=left_count(made)), made.night)
+
+    def held(self) -> tuple[str, ...]:
+        """Why the last commands that were due couldn't be started, if so."""
+        why = self.driver.holding.why if self.driver else ""
+        return (f"commands couldn't be started: {why}",) if why else ()
 
     def known(self) -> rows.Report | None:
         """The night after a fault: as the driver knows it, or as the store has it; else None."""
@@ -356,7 +426,7 @@ class Run:
             return remembered(self.files, self.jobs, driver.night, driver.known(),
                               {name: it.output for name, it in driver.ran.items()})
         try:
-            return report(self.files, self.jobs, look(self.files, self.jobs)) \
+            return report(self.files, self.jobs, look(self.files, self.planner)) \
                 if self.files.exists() else None
         except Unreadable as fault:
             return self.known_without(fault)
@@ -366,14 +436,16 @@ class Run:
     def known_without(self, fault: Unreadable) -> rows.Report | None:
         """What the store alone says, where the ends that a renewal gave back can't be read."""
         try:
-            return without_past(self.files, self.jobs, f"{fault.path} can't be read")
+            return without_past(self.files, self.planner, f"{fault.path} can't be read")
         except (Fault, NightEnded, OSError):
             return None
 
     def run_alone(self) -> Outcome:
-        tries = Tries(self.files)
+        tries = self.tries = Tries(self.files)
         end_night(self.files, tries)
         left = left_commands(self.files, tries, self.jobs)
+        foreign.look_for_stores(self.files)
+        strangers.keep_out(self.files)
         self.files.keep_others_out()
         if not self.files.exists():
             make(self.files)
@@ -384,39 +456,31 @@ class Run:
         check(self.files, state, self.past.events)
         self.log = Log(self.files, logged_groups(state, self.past))
         self.keeper = Keeper(self.files, self.log, self.words.keep)
+        self.keeper.look(max(state.night(), self.past.night),
+                         bool(state.scopes[1:] or self.past.round))
         driver = self.begin_driver(tries, left)
-        self.is_rest = self.words.nightly and is_left(state, self.past)
+        self.rest.is_due = self.words.nightly and is_left(state, self.past)
         if not self.prepare(driver, state):
             return self.idle()
         self.hooks.begin()
         driver.run()
-        if not self.is_rest or not self.is_over(driver):
+        if not self.rest.is_due or not self.is_over(driver):
             return self.finish(driver)
-        self.rest, self.is_rest, self.past = self.finish(driver), False, driver.past
+        self.rest.done(self.finish(driver))
+        self.past = driver.past
         driver = self.begin_driver(tries, left_commands(self.files, tries, self.jobs))
         self.prepare(driver, inspected(self.files))
         driver.run()
         return self.finish(driver)
 
     def begin_driver(self, tries: Tries, left: Leftovers) -> Driver:
-        self.driver = Driver(self.files, self.jobs, self.log, self.past, tries, left,
+        self.driver = Driver(self.files, self.planner, self.log, self.past, tries, left,
                              self.words.most, self.words.grace, self.signals, self.keeper)
         return self.driver
 
     def is_over(self, driver: Driver) -> bool:
         """Whether the rest of the last night is done, so that tonight's may begin."""
         return not self.signals.steps and all(it.is_final for it in driver.known().values())
-
-    def with_rest(self, it: Outcome, night: int = 0) -> Outcome:
-        """What both nights came to, where this run did the rest of the last one, too."""
-        rest = self.rest
-        if rest is None:
-            return it
-        lines = (f"night {night - 1}, the rest of it:" if night else "the rest of the last night:",
-                 *rest.lines, *((f"night {night}:",) if night else ()), *it.lines)
-        return dataclasses.replace(
-            it, lines=lines, failed=rest.failed + it.failed, missed=rest.failed + rest.left,
-            is_silent=rest.is_silent and it.is_silent)
 
     def first_look(self) -> State:
         """The state of the store. One whose sync failed is mended by an opening first."""
@@ -432,14 +496,14 @@ class Run:
         night = max(state.night(), self.past.night)
         book = book_of(state, self.past, night)
         facts = facts_of(state, self.past, self.log.lines, book, time.time(), {})
-        found = standings(self.jobs, facts)
+        found = self.planner.standings(facts)
         driver.night = night
         is_over = all(it.is_final for it in found.values())
         has_mark = bool(book.top and role_name(book.top.name, Role.ENDED) in state.by_name)
         has_one = bool(state.scopes[1:] or self.past.round)
         driver.begins_night = has_one and (
-            self.words.again or self.words.nightly and not self.is_rest)
-        if self.is_rest and not is_over:
+            self.words.again or self.words.nightly and not self.rest.is_due)
+        if self.rest.is_due and not is_over:
             note(f"night {night} wasn't finished: the rest of it comes first")
         if self.words.failed:
             driver.forgiven = forgiven(found, facts)
@@ -447,7 +511,7 @@ class Run:
         ours = set() if driver.begins_night else groups_of(state, self.past, night)
         driver.left.settle(state, self.past, ours)
         self.tell_missing(facts.interrupted)
-        has_work = not is_over or driver.begins_night or self.is_rest or bool(
+        has_work = not is_over or driver.begins_night or self.rest.is_due or bool(
             driver.forgiven or driver.left) or not has_mark and self.is_unsaid(book, facts)
         if has_work:
             driver.before = self.renewed(driver, state)
@@ -472,7 +536,7 @@ class Run:
             self.files.lock.sign()
             return None
         if state.is_nearly_full():
-            driver.past, _ = renew(self.files, self.log, self.past, self.jobs, self.signals.wake,
+            driver.past, _ = renew(self.files, self.log, self.past, self.planner, self.signals.wake,
                                    driver.meanwhile)
             return None
         return None if self.files.is_marked() else state
@@ -496,16 +560,20 @@ class Run:
         return self.ended(made, view, total(made, len(driver.ran)), has_run=True)
 
     def view(self, past: Past) -> tuple[rows.Report, View]:
-        view = look(self.files, self.jobs, past)
+        view = look(self.files, self.planner, past)
         return report(self.files, self.jobs, view), view
 
     def ended(self, made: rows.Report, view: View, last: str, has_run: bool) -> Outcome:
-        lines = (*failures(made), *changed(self.jobs, made, view.lines), last)
+        lines = (*failures(made), *changed(self.jobs, made, view.lines), *self.held(), last)
         if is_well(made):
             self.keeper.well(made.night, last_end(made.rows))
         status = exits.WELL if is_well(made) else exits.NOT_WELL
+        alarm = None if is_well(made) else raised.Alarm(made.night, last_end(made.rows))
+        is_given = alarm is not None and self.words.resume and not has_run and raised.is_given(
+            self.files, alarm, self.hooks.has_alarm)
         # (a cron job that silently runs nothing is the worst)
-        is_silent = self.words.quiet and status == exits.WELL and (has_run or self.words.resume)
-        return self.with_rest(Outcome(
+        is_silent = self.words.quiet and (is_given or status == exits.WELL and (
+            has_run or self.words.resume))
+        return self.rest.before(Outcome(
             status, lines=lines, failed=failed_count(made), left=left_count(made),
-            has_run=has_run, is_silent=is_silent), made.night)
+            has_run=has_run, is_silent=is_silent, alarm=alarm, is_given=is_given), made.night)

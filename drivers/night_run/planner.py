@@ -1,0 +1,277 @@
+"""What may begin, what has to stop, and how each command stands. `night plan` decides that: it
+gets the plan that a file of commands makes, and then what has changed since it was asked last.
+
+A group's limit is a pool, and so are the places of all commands together, which are pool 0. What
+runs and isn't in the file takes its place as well, so a pool has then that much less.
+"""
+
+from __future__ import annotations
+
+import time
+from collections.abc import Callable, Collection, Iterable
+from dataclasses import dataclass
+
+from . import Fault, Name
+from .answers import Answer, longest, read_answer, wrong
+from .asking import Asking
+from .ends import End
+from .facts import Facts
+from .jobs import Job, Jobs
+from .night import MOST_KILLED, SECONDS, NightEnded
+from .standing import Shown, Standing
+
+# Moments and waits are written in milliseconds: no wait is longer than `night plan` can say. The
+# first moment is as long after 0 as the longest wait, since a number has 12 digits at most.
+TICKS, LONGEST = 1000, (1 << 32) - 1
+
+
+@dataclass(frozen=True)
+class Choice:
+    """Which commands may begin now, in order; which have to stop; and when to ask again, if nothing
+    happens before."""
+
+    names: tuple[Name, ...] = ()
+    stops: tuple[Name, ...] = ()
+    later: float | None = None
+
+
+class Planner:
+    """The decisions over one file of commands. It keeps the process. If it can't be told a change,
+    such as that a group is no longer done, the process is started again."""
+
+    def __init__(self, jobs: Jobs) -> None:
+        self.jobs, self.names = jobs, list(jobs.all)
+        self.numbers = {name: at for at, name in enumerate(self.names)}
+        self.groups = {group: at for at, group in enumerate(jobs.members)}
+        limited = [it for it in self.groups if jobs.limit(it) is not None]
+        self.pools = {group: at for at, group in enumerate(limited, 1)}
+        self.named = {pool: at for at, pool in enumerate(jobs.pools, 1 + len(limited))}
+        self.asking: Asking | None = None
+        self.meanwhile: Callable[[], float] = lambda: SECONDS
+        self.offset: int | None = None  # from the machine's clock to the moments that are written
+        self.moment = LONGEST  # the last one that was written
+        self.failed_at: dict[Name, tuple[float, int]] = {}  # of the last failures, as written
+        self.forget()
+
+    def close(self) -> None:
+        """Ends the process; the next question begins another one."""
+        if self.asking:
+            self.asking.close()
+        self.forget()
+
+    def forget(self) -> None:
+        """Nothing is written any more."""
+        self.asking = None
+        self.facts: Facts | None = None
+        self.told: list[str] = [""] * len(self.names)
+        self.sizes: dict[int, int] = {}
+        self.done: set[str] = set()
+        self.running: set[Name] = set()  # what it was told that is busy
+        self.busy: set[Name] = set()
+        self.held: set[Name] = set()
+        self.choice: Choice | None = None
+
+    # --- questions
+
+    def choose(self, facts: Facts, most: int, now: float, held: Collection[Name] = ()) -> Choice:
+        """What may begin now, at most this many at a time, and what has to stop. The failures of
+        those that are held aren't durable yet: no other try of them begins."""
+        choice = self.answer(facts, most, now, {*held} - facts.busy)
+        assert isinstance(choice, Choice)
+        return choice
+
+    def first(self, facts: Facts, now: float) -> Choice:
+        """What may begin now, if there is a place for it, or when the next retry is due."""
+        return self.choose(facts, len(facts.busy) + 1, now)
+
+    def standings(self, facts: Facts) -> dict[Name, Standing]:
+        """How each command of the file stands, in the file's order."""
+        words = self.answer(facts, None, None, set())
+        assert isinstance(words, dict)
+        return Shown(self.jobs, facts, words).all()
+
+    def answer(self, facts: Facts, most: int | None, now: float | None,
+               held: set[Name]) -> Choice | dict[Name, str]:
+        """The answer to a round; a process that is killed is followed by another one."""
+        for left in reversed(range(MOST_KILLED)):
+            try:
+                return self.round(facts, most, now, held)
+            except NightEnded as ended:
+                self.forget()
+                if ended.status >= 0 or not left:
+                    raise Fault(f"`night plan`: {ended}") from None
+            except Fault:
+                self.close()
+                raise
+        raise AssertionError
+
+    def round(self, facts: Facts, most: int | None, now: float | None,
+              held: set[Name]) -> Choice | dict[Name, str]:
+        if not self.done <= facts.done.keys():
+            self.close()
+        if self.offset is None:
+            self.offset = LONGEST - int((time.time() if now is None else now) * TICKS)
+        if self.asking is None:
+            self.begin()
+        assert self.asking
+        lines = self.news(facts, held)
+        if most is not None:
+            lines += self.room(facts, most)
+        if now is not None:
+            lines += self.clock(now, bool(lines))
+        if most is None:
+            return self.stood(self.heard([*lines, "standings"]))
+        if lines or self.choice is None:
+            self.choice = self.chosen(self.heard(lines))
+        return self.choice
+
+    def begin(self) -> None:
+        # (`meanwhile` is set once the loop begins, which may be later than this)
+        self.asking = Asking(lambda: self.meanwhile(), longest(len(self.names)))
+        answer = self.asking.ask(plan_lines(self))
+        if answer != [f"plan {len(self.names)}"]:
+            status = self.asking.close()
+            if status < 0:
+                raise wrong(" ".join(answer))
+            raise NightEnded(status, self.asking.said or f"it answered {' '.join(answer)}")
+
+    def heard(self, lines: list[str]) -> Answer:
+        """The answer to these lines. One that contradicts the facts is a fault: no other try begins
+        of a command that runs."""
+        assert self.asking
+        it = read_answer(self.asking.ask(lines), len(self.names))
+        taken = self.busy | self.held
+        for number in it.begins:
+            if self.names[number] in taken:
+                raise wrong(f"begin {number}")
+        if it.later is not None and it.later <= self.moment and "standings" not in lines:
+            raise wrong(f"later {it.later}")
+        return it
+
+    # --- what is written to it
+
+    def news(self, facts: Facts, held: set[Name]) -> list[str]:
+        """The lines for what has changed since the last ones."""
+        names: Iterable[Name] = self.names
+        if self.facts is facts:
+            names = (facts.changed | (facts.busy ^ self.busy) | (held ^ self.held)) \
+                & self.numbers.keys()
+        lines = [f"done {self.groups[it]}" for it in facts.done.keys() - self.done
+                 if it in self.groups]
+        self.done |= facts.done.keys()
+        for name in names:
+            at = self.numbers[name]
+            told = self.fact(facts, self.jobs.all[name], at, held)
+            if told != self.told[at]:
+                lines.append(told)
+                self.told[at] = told
+                is_busy = told.startswith("busy ")
+                (self.running.add if is_busy else self.running.discard)(name)
+        self.facts, self.busy, self.held = facts, set(facts.busy), held
+        facts.changed.clear()
+        self.choice = None if lines else self.choice
+        return lines
+
+    def fact(self, facts: Facts, job: Job, at: int, held: set[Name]) -> str:
+        """What is known of a command."""
+        name = job.name
+        end = facts.ends.get(name)
+        has_failed = end is not None and self.has_failed(facts, job, end)
+        if name in facts.busy and not (has_failed and way_of(self.jobs, job.group) != "go-on"):
+            return f"busy {at}"
+        if end is None:
+            return f"interrupted {at}" if name in facts.interrupted else f"fresh {at}"
+        if end.is_ok:
+            return f"ok {at}"
+        if end.is_canceled and not self.jobs.stops(job.group):
+            return f"cut {at}"
+        if name in held and not has_failed and (job.cleans_up or job.group not in facts.done):
+            return f"busy {at}"
+        count = facts.failures.get(name, 0)
+        moment = self.told_moment(name, facts.failed_at[name])
+        return f"failed {at} {moment} {job.retries + 1 if end.is_canceled else count}"
+
+    def has_failed(self, facts: Facts, job: Job, end: End) -> bool:
+        """Whether a command has ended and isn't to be tried again. A group that stops on failure
+        takes a command that was canceled for one that failed."""
+        return end.is_canceled or not end.is_ok and facts.failures.get(job.name, 0) > job.retries
+
+    def room(self, facts: Facts, most: int) -> list[str]:
+        """The lines for pools that have another size. What has its place though it isn't told as
+        busy makes a pool smaller, and what has none any more makes it larger."""
+        sizes = {0: most, **{pool: self.jobs.limit(group) or 0
+                             for group, pool in self.pools.items()},
+                 **{pool: self.jobs.pools[name] for name, pool in self.named.items()}}
+        for name in facts.busy ^ self.running:
+            for pool, amount in self.takes(name):
+                sizes[pool] += amount if name in self.running else -amount
+        lines = [f"size {pool} {max(0, size)}" for pool, size in sizes.items()
+                 if self.sizes.get(pool) != size]
+        self.sizes = sizes
+        return lines
+
+    def takes(self, name: Name) -> list[tuple[int, int]]:
+        """How much a command has of each pool; one that isn't in the file has its places alone."""
+        found = [(0, 1)]
+        if name[0] in self.pools:
+            found.append((self.pools[name[0]], 1))
+        job = self.jobs.all.get(name)
+        return found + [(self.named[pool], amount) for pool, amount in (job.uses if job else ())]
+
+    def clock(self, now: float, is_told: bool) -> list[str]:
+        """The line for the moment, if something else is written or a retry is due. If the clock is
+        set back, the moment stands still until the clock has caught up. If it is set ahead, as from
+        1970, the moment goes on by the longest wait at most, since it has 12 digits."""
+        found = int(now * TICKS) + (self.offset or 0)
+        moment = min(max(found, self.moment), self.moment + LONGEST)
+        if moment != found:
+            self.offset = (self.offset or 0) + moment - found
+            self.choice = None
+        later = self.choice.later if self.choice else None
+        if not is_told and self.choice is not None and (later is None or now < later):
+            return []
+        self.moment = moment
+        return [f"now {moment}"]
+
+    def told_moment(self, name: Name, when: float) -> int:
+        """How the moment of a failure is written: always as it was written first, even if the
+        machine's clock was set since then."""
+        if name not in self.failed_at or self.failed_at[name][0] != when:
+            self.failed_at[name] = when, max(0, int(when * TICKS) + (self.offset or 0))
+        return self.failed_at[name][1]
+
+    # --- what it answers
+
+    def chosen(self, answer: Answer) -> Choice:
+        later = None if answer.later is None else (answer.later - (self.offset or 0)) / TICKS
+        return Choice(tuple(self.names[it] for it in answer.begins),
+                      tuple(self.names[it] for it in answer.stops), later)
+
+    def stood(self, answer: Answer) -> dict[Name, str]:
+        """The word for how each command stands."""
+        if len(answer.stands) < len(self.names):
+            raise wrong(f"how {len(answer.stands)} of {len(self.names)} commands stand")
+        return dict(zip(self.names, answer.stands))
+
+
+def way_of(jobs: Jobs, group: str) -> str:
+    """What a failure means for the other commands of a group."""
+    return "cancel" if jobs.cancels(group) else "stop" if jobs.stops(group) else "go-on"
+
+
+def plan_lines(planner: Planner) -> list[str]:
+    """The plan of a file of commands."""
+    jobs, pools = planner.jobs, planner.pools
+    lines = ["pool 1", *(f"pool {jobs.limit(it)}" for it in pools)]
+    lines += [f"pool {size}" for size in jobs.pools.values()]
+    lines += [f"group {jobs.priority(it)} {way_of(jobs, it)}" for it in planner.groups]
+    for job in jobs.all.values():
+        wait, most = (min(it * TICKS, LONGEST) for it in (
+            job.wait, LONGEST if job.most_wait is None else job.most_wait))
+        lines.append(f"command {planner.groups[job.group]} {job.priority} {job.retries} {wait}"
+                     f" {job.factor} {most}")
+        for it in job.after:
+            lines.append(f"need {it.when} group {planner.groups[it.of]}" if isinstance(it.of, str)
+                         else f"need {it.when} command {planner.numbers[it.of]}")
+        lines += [f"take {pool} {amount}" for pool, amount in planner.takes(job.name)]
+    return lines

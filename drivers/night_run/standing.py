@@ -1,0 +1,122 @@
+"""How a command stands in its night, in the words that are shown, and why."""
+
+from __future__ import annotations
+
+from collections.abc import Mapping
+from dataclasses import dataclass
+
+from . import Name
+from .ends import canceled
+from .facts import Facts
+from .jobs import Job, Jobs, Need
+from .rows import NOT_NEEDED
+
+# How a command stands. The last two are for now.
+OK, FAILED, CANCELLED, NEVER = "ok", "failed", "canceled", "not started"
+INTERRUPTED, RUNNING, WAITING = "interrupted", "running", "waiting"
+# Where what says it can't be read; in a summary alone.
+NOT_KNOWN = "not known"
+# Those that nothing of this night changes any more.
+FINAL = (OK, FAILED, CANCELLED, NEVER, NOT_NEEDED)
+
+
+@dataclass(frozen=True)
+class Standing:
+    """How a command stands in its night, and why, if it didn't end well or never begins."""
+
+    phase: str
+    why: str = ""
+
+    @property
+    def is_final(self) -> bool:
+        return self.phase in FINAL
+
+
+class Shown:
+    """Shows how commands stand, by the words of `night plan` for each."""
+
+    def __init__(self, jobs: Jobs, facts: Facts, words: Mapping[Name, str]) -> None:
+        self.jobs, self.facts, self.words = jobs, facts, words
+        self.first: dict[str, Name | None] = {}
+        self.ended: dict[str, Name | None] = {}
+        self.found: dict[Name, Standing] = {}
+
+    def all(self) -> dict[Name, Standing]:
+        """How each command of the file stands, in the file's order. Each is found after all that it
+        comes after."""
+        for it in self.jobs.order:
+            if isinstance(it, tuple):
+                self.found[it] = self.one(it, self.words[it])
+        return {name: self.found[name] for name in self.words}
+
+    def one(self, name: Name, word: str) -> Standing:
+        facts, end = self.facts, self.facts.ends.get(name)
+        if name in facts.busy:
+            return Standing(RUNNING)
+        if word == "ok":
+            return Standing(OK)
+        if word in ("failed", "canceled"):
+            told = end or canceled(facts.done.get(name[0], ""))
+            return Standing(CANCELLED if told.is_canceled else FAILED, told.text)
+        if word == "given-up":
+            return self.never_begun(self.jobs.all[name])
+        if end is not None:
+            return Standing(WAITING, end.text)
+        return Standing(INTERRUPTED if name in facts.interrupted else WAITING)
+
+    def never_begun(self, job: Job) -> Standing:
+        """How a command stands that neither failed nor was canceled, and never begins."""
+        failed = None if job.cleans_up else self.failure(job.group)
+        if failed is not None:
+            return Standing(NEVER, f"{'/'.join(failed)} failed, and" + (
+                " that cancels the group" if self.jobs.cancels(job.group)
+                else " the group stops on failure"))
+        for it in job.after:
+            found = self.in_vain(it)
+            if found is not None:
+                return found
+        return Standing(NEVER)
+
+    def in_vain(self, need: Need) -> Standing | None:
+        """How a command stands because this need of it is never met; None where it may be."""
+        of = need.of
+        if need.when == "well":
+            other = self.member(of) if isinstance(of, str) else of if self.is_never(of) else None
+            if other is None:
+                return None
+            is_needed = other not in self.found or self.found[other].phase != NOT_NEEDED
+            return Standing(NEVER if is_needed else NOT_NEEDED,
+                            f"{'/'.join(other)} {self.never(other)}")
+        its = self.jobs.members[of] if isinstance(of, str) else [of]
+        if need.when == "failed" and all(self.words[it] == "ok" or self.is_never(it) and
+                                         self.words[it] != "failed" for it in its):
+            named = of if isinstance(of, str) else "/".join(of)
+            return Standing(NOT_NEEDED, f"{named} didn't fail")
+        return None
+
+    def failure(self, group: str) -> Name | None:
+        """The first command that has failed of a group that doesn't go on after one."""
+        if group not in self.first:
+            stops = self.jobs.stops(group) or self.jobs.cancels(group)
+            its = self.jobs.members[group] if stops else ()
+            self.first[group] = next((it for it in its if self.words[it] == "failed"), None)
+        return self.first[group]
+
+    def member(self, group: str) -> Name | None:
+        """The first command of a group that never begins again."""
+        if group not in self.ended:
+            its = self.jobs.members[group]
+            self.ended[group] = next((it for it in its if self.is_never(it)), None)
+        return self.ended[group]
+
+    def is_never(self, name: Name) -> bool:
+        return self.words[name] in ("failed", "canceled", "given-up")
+
+    def never(self, name: Name) -> str:
+        """How a command that never begins again has ended."""
+        end = self.facts.ends.get(name)
+        if self.words[name] == "given-up":
+            is_needed = name not in self.found or self.found[name].phase != NOT_NEEDED
+            return "was not started" if is_needed else "was not needed"
+        is_failed = self.words[name] == "failed" and not (end and end.is_canceled)
+        return "failed" if is_failed else "was canceled"

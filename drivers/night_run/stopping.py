@@ -1,0 +1,50 @@
+"""What has to end: commands whose timeout, deadline or group is over, and those that a signal asks
+the driver to stop. Each is asked once, and killed after a grace.
+"""
+
+from __future__ import annotations
+
+from .commands import Command, Running
+from .ends import End, canceled, failed
+from .leftovers import Leftover
+from .tries import Tries
+
+
+class Stopper:
+    """Stops commands, of this driver and of one that was killed. `cause` is why all of a group have
+    to end, if they have to; `cuts_off` whether a signal asks for that."""
+
+    def __init__(self, tries: Tries, grace: float) -> None:
+        self.tries, self.grace = tries, grace
+
+    def stop(self, it: Running, why: End | None) -> None:
+        """Asks a command to end, once, and has a later driver know it."""
+        if it.stopped is None and it.record:
+            self.tries.stop(it.record, why)
+        it.stop(why)
+
+    def press(self, it: Command, cause: str | None, cuts_off: bool) -> None:
+        """Ends one of this driver's if it has to."""
+        if not it.has_begun or it.poll(self.grace) or not (it.is_here or it.is_asked_for):
+            return
+        if it.is_overdue():
+            self.stop(it, failed(f"timeout {it.job.timeout_said}"))
+        self.press_one(it, cause, cuts_off)
+
+    def press_left(self, it: Leftover, end: End | None, cause: str | None, cuts_off: bool) -> None:
+        """Ends what an earlier driver left, if it has to; `end` is how its command has ended in
+        this night."""
+        if it.is_overdue() and it.job:
+            self.stop(it, failed(f"timeout {it.job.timeout_said}"))
+        elif it.has_orphans():
+            it.clear(self.grace)
+        elif end and end.is_canceled:
+            self.stop(it, end)
+        self.press_one(it, cause, cuts_off)
+
+    def press_one(self, it: Running, cause: str | None, cuts_off: bool) -> None:
+        if cause is not None:
+            self.stop(it, canceled(cause))
+        elif cuts_off:
+            self.stop(it, None)
+        it.press(self.grace)
