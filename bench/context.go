@@ -1,7 +1,7 @@
 // Obeys the lines of inputs.py with Go's package context, as a plain program would: a map from names
 // to contexts, a reader and a writer with buffers. It prints what `night demo` prints for them, so
 // that the two outputs can be compared. It wants Go 1.21 (causes, and contexts without a cancel).
-// It keeps nothing: no record is written of what it was told.
+// It keeps nothing: no record is written of what it was asked to do.
 package main
 
 import (

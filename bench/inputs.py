@@ -16,7 +16,7 @@ SEED = 20240101
 
 
 class Night:
-    """The lines so far, and how many of them are events: told by a plain search of ancestors."""
+    """The lines so far, and how many of them are events: found by a plain search of ancestors."""
 
     def __init__(self):
         self.lines = []

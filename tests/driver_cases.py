@@ -20,7 +20,7 @@ SLOW = """#!/bin/sh
 [ "$1" = inspect ] && [ -e slow ] && sleep 2
 exec '{night}' "$@"
 """
-# Likewise: as the session of this number begins another program reads the store.
+# The same: as the session of this number begins another program reads the store.
 READING = """#!/bin/bash
 if [ "$1" = script ]; then
     n=$(cat count 2> /dev/null || echo 0)
@@ -221,6 +221,7 @@ def held_cancels(tries: Shared) -> None:
     kind = "a lock of the cancels that is kept"
     many = [job("h", f"k{it}") for it in range(40)]
     room = Room(tries, ["g: within 3s", job("g", "a", 60), *many])
+    tries.run("format", f"{room.path}/s")
     room.write("s.cancel", "h why\n")
     with locked(f"{room.path}/s.cancel"):
         status, output = room.run("s", "JOBS", "--grace", "1", seconds=60)
@@ -349,7 +350,7 @@ def clock_ahead(tries: Shared) -> None:
 
 
 def clock_ahead_again(tries: Shared) -> None:
-    """A store that is made anew after a retry was interrupted keeps how often it had failed."""
+    """A store that is made again after a retry was interrupted keeps how often it had failed."""
     kind = "retries over a clock that is ahead"
     room = Room(tries, ["g: retries 1", "g a echo g.a >> begun; [ $(wc -l < begun) != 2 ] ||"
                         " until [ -e go ]; do sleep 0.1; done; exit 3"])
@@ -570,7 +571,21 @@ def edits(tries: Shared) -> None:
     room.set(["g: within 2s", job("g", "a", 30)])
     status, output = room.run(seconds=25)
     tries.is_same(kind, room.path, (status, output.split(";")[0]), (1, "g a: canceled: within 2s"))
-    tries.holds(f"{kind}: told", room.path, "within 2s" in room.errors, room.errors)
+    tries.is_same(f"{kind}: told", room.path, room.errors,
+                  "night-run: g: its deadline is now: within 2s\n")
+    kind = "the deadline of all groups is edited"
+    its = ["g: within 3h", job("g", "a", 30), job("h", "b", 30)]
+    room = Room(tries, ["night: within 1h", *its])
+    run = room.start()
+    room.until(lambda: len(room.lines("begun")) == 2)
+    kill([run.pid], which=signal.SIGTERM)
+    room.ended(run)
+    room.set(["night: within 2s", *its])
+    status, output = room.run(seconds=40)
+    tries.is_same(kind, room.path, (status, [it.split(";")[0] for it in output.splitlines()]), (
+        1, ["g a: canceled: within 2s", "h b: canceled: within 2s", "2 commands: 2 canceled"]))
+    tries.is_same(f"{kind}: told", room.path, room.errors,
+                  "night-run: night: its deadline is now: within 2s\n")
 
 
 def second_evening(tries: Shared) -> None:
@@ -596,7 +611,7 @@ def second_evening(tries: Shared) -> None:
 
 
 def names_of_rounds(tries: Shared) -> None:
-    """What a group is called in a later night is read back, and tells the night."""
+    """The name of a group in a later night is read back, and gives the number of the night."""
     kind = "a group whose name ends with a dash"
     room = Room(tries, ["disks-: within 1h", job("disks-", "a"), job("disks", "b"),
                         job("-", "c")])

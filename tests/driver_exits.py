@@ -1,16 +1,20 @@
-"""How a night ends that doesn't run or doesn't end well, and what it tells then: strange files,
+"""How a night ends that doesn't run or doesn't end well, and what it prints: strange files,
 alarms, the one exit, signals and terminals."""
 
 from __future__ import annotations
 
 import contextlib
+import errno
 import os
 import re
+import resource
+import shutil
 import signal
 import subprocess
 import termios
 import threading
 import time
+from functools import partial
 
 from driver_cases import small_store
 from driver_kills import RENEWING
@@ -72,14 +76,14 @@ def alarmed(room: Room) -> list[list[str]]:
 
 
 def nothing_runs(tries: Shared) -> None:
-    """Whatever keeps a night from running is told by the alarm, once."""
+    """Whatever keeps a night from running is reported by the alarm, once."""
     kind = "an alarm where nothing runs"
     good, twice = ["g a true"], ["g a true", "g a true"]
     for what, jobs, words, status, why in (
-            ("a mistake", twice, ("s", "JOBS"), 2, "JOBS: line 2: the key a of g stands twice"),
+            ("a mistake", twice, ("s", "JOBS"), 2, "JOBS: line 2: g has a command a in line 1"),
             ("no file", good, ("s", "gone", "--nightly"), 2, "gone: No such file or directory"),
-            ("no store", good, ("JOBS", "JOBS"), 2, "JOBS: it has 9 bytes, and so is no store"),
-            ("a store that is gone", good, ("s", "JOBS"), 3, "s is not there, and s.log is"),
+            ("no store", good, ("JOBS", "JOBS"), 2, "JOBS: it has 9 bytes, so it is not a store"),
+            ("a store that is gone", good, ("s", "JOBS"), 3, "s is not there, but s.log is"),
             ("a held lock", good, ("s", "JOBS"), 3, "s: in use by another night-run"),
             ("no night", good, ("s", "JOBS"), 3, "NIGHT names no program: ./missing"),
             ("a misspelled option", good, ("s", "JOBS", "--nigthly"), 2, "--nigthly"),
@@ -121,7 +125,7 @@ def not_printed(tries: Shared) -> None:
 
 
 def commands_left(tries: Shared) -> None:
-    """Commands that are left are told, too: by a store that is full, and after a signal."""
+    """Commands that are left are reported, too: when a store is full, and after a signal."""
     kind = "an alarm where commands are left"
     room = Room(tries, [f"g k{it} true" for it in range(8)])
     small_store(room)
@@ -156,12 +160,94 @@ def commands_left(tries: Shared) -> None:
     tries.holds(f"{kind}: the lock isn't waited for", room.path, took < 30, took)
 
 
+# What waits in a room for a file, once it has said that it is there.
+WAITS = """
+import os, time
+open("reads", "w").close()
+while not os.path.exists("go"):
+    time.sleep(0.01)
+"""
+
+
+def early_signals(tries: Shared) -> None:
+    """A signal that comes while the driver's modules are read ends the night with a line and its
+    alarm; before that, and where it is no night, it ends the process. Nothing is made."""
+    kind, folder = "a signal before the driver listens", Room(tries, []).path
+    slow = copied(tries.driver, f"{folder}/driver",
+                  ("night_run/words.py", "import argparse\n", f"import argparse{WAITS}"))
+    word, term = "night-run: ended before it began\n", -signal.SIGTERM
+    for what, words, count, driver, found in (
+            ("modules", (), 1, slow, ((3, ""), word, [["3", "0", "0"]])),
+            ("modules, twice", (), 2, slow, ((term, ""), "", [])),
+            ("a list", ("--list",), 1, slow, ((term, ""), "", [])),
+            ("words that can't be read", ("--nope",), 1, slow, None),
+            ("python", (), 1, tries.driver, ((term, ""), "", []))):
+        room = Room(tries, ["g a : > begun"])
+        room.program("python3", "#!/bin/sh\n: > reads; while :; do sleep 0.1; done")
+        if driver == tries.driver:
+            room.before = ["env", f"PATH={room.path}:{os.environ['PATH']}"]
+        run = room.start("s", "JOBS", "--on-failure", ALARM, *words, driver=driver)
+        tries.holds(f"{kind}: {what}", room.path, room.until(partial(room.has, "reads")))
+        for _ in range(count):
+            kill([run.pid], which=signal.SIGTERM)
+            time.sleep(0.2)
+        room.write("go", "")
+        ended = room.ended(run)
+        tries.is_same(f"{kind}: {what}", room.path, (ended, room.errors, alarmed(room)) if found
+                      else (ended[0], alarmed(room)), found or (2, [["2", "0", "0"]]))
+        tries.is_same(f"{kind}: {what}: nothing is made", room.path, sorted(
+            it for it in os.listdir(room.path) if it[:2] in ("s", "s.", "be")), [])
+
+
 def hears_term(pid: int) -> bool:
     """Whether a process has a handler of SIGTERM."""
     with contextlib.suppress(OSError), open(f"/proc/{pid}/status", encoding="ascii") as file:
         caught = re.search(r"^SigCgt:\s*(\w+)$", file.read(), re.M)
         return caught is not None and bool(int(caught[1], 16) >> (signal.SIGTERM - 1) & 1)
     return False
+
+
+def few_files(tries: Shared) -> None:
+    """A night that may have too few files open says so, with the limit, and makes nothing. With
+    one more at a time it runs."""
+    kind = "a limit of open files"
+    statuses = []
+    for limit in range(14, 32):
+        room = Room(tries, ["g a true"])
+        room.before = ["sh", "-c", f'ulimit -n {limit}; exec "$@"', "sh"]
+        found = room.run("s", "JOBS", "--on-failure", ALARM)
+        statuses.append(found[0])
+        if not found[0]:
+            break
+        said = f"files at a time, and only \\d+ can be opened: {os.strerror(errno.EMFILE)} \\(the" \
+               f" limit is {limit}, ulimit -n\\)"
+        whole = f"night-run: a night opens \\d+ {said}\n"
+        tries.holds(kind, limit, re.fullmatch(whole, room.errors), room.errors)
+        tries.is_same(f"{kind}: the alarm", limit, (found, alarmed(room), room.text("told")), (
+            (3, ""), [["3", "0", "0"]], room.errors))
+        tries.is_same(f"{kind}: nothing is made", limit,
+                      [it for it in os.listdir(room.path) if it[:2] in ("s", "s.")], [])
+    tries.is_same(f"{kind}: enough", "", (statuses[0], statuses[-1]), (3, 0))
+    exits = driver_module(tries, "exits")
+    tries.is_same(f"{kind}: a file's name", "", exits.outcome_of(OSError(
+        errno.EMFILE, "Too many", "/a/b")).told, (
+        f"/a/b: Too many (the limit is {resource.getrlimit(resource.RLIMIT_NOFILE)[0]},"
+        " ulimit -n)",))
+    made, commands = list[str](), driver_module(tries, "jobs")
+    before = commands.bytes_of
+
+    def refused(_: str) -> bytes:
+        raise OSError(errno.EMFILE, "Too many")
+
+    commands.bytes_of = refused
+    try:
+        commands.lines_of("/a/b")
+    except commands.Fault as fault:
+        made.append(str(fault))
+    finally:
+        commands.bytes_of = before
+    tries.holds(f"{kind}: the file of commands", "", made and made[0].startswith(
+        "/a/b: Too many (the limit is "), made)
 
 
 def hung_alarm(tries: Shared) -> None:
@@ -188,7 +274,7 @@ def hung_alarm(tries: Shared) -> None:
     made.run("x" * 100_000, {})
     took = time.monotonic() - began
     tries.is_same(f"{kind}: its time", room.path, (took < 40, told, len(room.text("input"))),
-                  (True, ["--on-failure: it was ended, since it took 0 s"], 100_000))
+                  (True, ["--on-failure: it was ended after 0 s"], 100_000))
     for command, why in (("exit 7", "it ended with status 7"), ("kill -9 $$", "signal 9 ended it"),
                          ("true < /dev/null", "")):
         told.clear()
@@ -246,6 +332,45 @@ def begin_and_success(tries: Shared) -> None:
                       (0, False, words != ("--quiet", "--resume")))
 
 
+def given_alarms(tries: Shared) -> None:
+    """A run that resumes a night and has nothing to do gives no alarm that was given, and, quiet,
+    prints nothing; another night's, or one that nobody heard, it gives."""
+    kind, room = "an alarm that was given", Room(tries, ["g a false"])
+    hook, resume = ("--on-failure", ALARM), ("s", "JOBS", "--resume")
+    for what, words, count, is_printed in (
+            ("the night", ("s", "JOBS", *hook), 1, True),
+            ("resumed", (*resume, "--quiet", *hook), 1, False),
+            ("resumed, and not quiet", (*resume, *hook), 1, True),
+            ("run again", ("s", "JOBS", "--quiet", *hook), 2, True),
+            ("tried again", ("s", "JOBS", "--failed", *hook), 3, True),
+            ("and resumed", (*resume, "--quiet", *hook), 3, False),
+            ("the next night", ("s", "JOBS", "--nightly", *hook), 4, True),
+            ("and resumed", (*resume, "--quiet", *hook), 4, False),
+            ("printed alone", ("s", "JOBS", "--nightly", "--quiet"), 4, True),
+            ("resumed where it is to be run", (*resume, "--quiet", *hook), 5, True),
+            ("and again", (*resume, "--quiet", *hook), 5, False),
+            ("and with none", (*resume, "--quiet"), 5, False),
+            ("one that fails", ("s", "JOBS", "--nightly", "--on-failure", "exit 5"), 5, True),
+            ("resumed after that", (*resume, "--quiet", *hook), 6, True)):
+        status, output = room.run(*words)
+        tries.is_same(kind, what, (status, len(alarmed(room)), bool(output)),
+                      (1, count, is_printed))
+    raised, files = driver_module(tries, "raised"), driver_module(tries, "files")
+    its, unknown = files.Files(f"{room.path}/s"), raised.Alarm(9, None)
+    raised.write(its, unknown, True)
+    tries.is_same(kind, "one whose moment isn't known", raised.is_given(its, unknown, True), False)
+    shutil.rmtree(f"{room.path}/s.tries")
+    tries.is_same(kind, "nothing says so", (room.run(*resume, "--quiet", *hook)[0],
+                                            len(alarmed(room))), (1, 7))
+    for it in ("s", "s.log", *(f"s.log.{it}" for it in range(1, 4)), "s.nights"):
+        os.remove(f"{room.path}/{it}")
+    with open("/dev/full", "w", encoding="ascii") as full:
+        room.start(*resume, *hook, stdout=full).wait(timeout=60)
+    tries.is_same(kind, "a new store, and a full standard output", len(alarmed(room)), 8)
+    tries.is_same(kind, "resumed after that", (room.run(*resume, "--quiet", *hook)[0],
+                                               len(alarmed(room))), (1, 9))
+
+
 SAID = ("night-run: an error that nobody foresaw: ZeroDivisionError: integer division or modulo by"
         " zero; NIGHT_DEBUG=1 shows its place")
 
@@ -255,8 +380,9 @@ def unforeseen(tries: Shared) -> None:
     kind = "an error that nobody foresaw"
     folder = Room(tries, []).path
     driver = copied(tries.driver, f"{folder}/driver", (
-        "night_run/plan.py", "free: dict[str, int] = {}",
-        "free: dict[str, int] = {str(1 // (len(facts.ends) - 1)): 1}"))
+        "night_run/planner.py", "    def chosen(self, answer: Answer) -> Choice:\n",
+        "    def chosen(self, answer: Answer) -> Choice:\n"
+        "        1 // (len(self.facts.ends) - 1)\n"))
     for debug in ("", "1"):
         room = Room(tries, [job("g", "a"), job("g", "b", 3)])
         room.before = ["env", f"NIGHT_DEBUG={debug}"]
@@ -265,7 +391,7 @@ def unforeseen(tries: Shared) -> None:
             it[0] for it in alarmed(room)]), (3, ["3"]))
         if not debug:
             tries.is_same(f"{kind}: a line", room.path, room.errors.splitlines()[-1], SAID)
-        tries.is_same(f"{kind}: its place", debug, "in may_begin" in room.errors, bool(debug))
+        tries.is_same(f"{kind}: its place", debug, "in chosen" in room.errors, bool(debug))
         tries.is_same(f"{kind}: nothing is left", room.path, room.settle(5), True)
 
 
@@ -371,5 +497,5 @@ def heard_signals(tries: Shared) -> None:
 
 
 EXITS = [outcomes, heard_signals, white_lines, strange_numbers, nothing_runs, not_printed,
-         commands_left, hung_alarm, stalled_output, begin_and_success, unforeseen,
-         stalled_terminal, writers]
+         commands_left, early_signals, few_files, hung_alarm, stalled_output, begin_and_success,
+         given_alarms, unforeseen, stalled_terminal, writers]

@@ -13,9 +13,9 @@ from driver_plan import driver_module
 from driver_room import Room, Shared, hit, job
 
 HEAD = "Try\tGroup\tKey\tBegan\tSeconds\tEnd\tCommand\n"
-# So many kB a driver may take.
+# How many kB a driver may take.
 MOST_MEMORY = 60_000
-# Adds two lines to a log on a disk that has room for so many bytes more, makes room, and adds one.
+# Adds two lines to a log on a disk with room for this many more bytes, makes room, and adds one.
 FULL = """import resource, signal, sys
 sys.path.insert(0, sys.argv[1])
 from night_run.ends import read_end

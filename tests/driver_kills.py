@@ -12,13 +12,14 @@ import time
 from collections.abc import Callable
 
 from by_hand import Store
-from driver_room import (Room, Shared, children, hit, job, kill, most_at_once, name_of, nights_in)
+from driver_room import (Room, Shared, children, hit, job, kill, most_at_once, name_of, nights_in,
+                         sessions_in)
 from running import bytes_of
 
 Part = Callable[[Shared], None]
 Begun = dict[str, int]
 
-# Stands for `night`: passes lines on one by one, and does something once so many have started.
+# Stands for `night`: passes lines on one by one, and does something once this many have started.
 BETWEEN = """#!/usr/bin/env python3
 import fcntl, os, signal, subprocess, sys
 night, what, at = {night!r}, {what!r}, {at}
@@ -213,14 +214,14 @@ def night_is_killed(tries: Shared) -> None:
     for many in (2, 5, 9):
         # (one that was killed is listed until its driver has seen it)
         room.until(lambda: len(room.lines("begun")) >= many
-                   and not killed.issuperset(nights_in(children(run.pid))))
-        nights = nights_in(children(run.pid))
+                   and not killed.issuperset(sessions_in(children(run.pid))))
+        nights = sessions_in(children(run.pid))
         kill(nights)
         hits += not killed.issuperset(nights)
         killed.update(nights)
     tries.is_same(f"{kind}: its driver goes on", room.path, (*room.ended(run), hits),
                   (0, "12 commands: 12 ok; 12 run this time\n", 3))
-    told = "night-run: `night` ended with status -9; it is started again\n"
+    told = "night-run: `night` was ended by signal 9 (Killed); it is started again\n"
     tries.is_same(f"{kind}: told", room.path, room.errors, told * 3)
     tries.is_same(f"{kind}: each began once", room.path, set(room.begun().values()), {1})
     tries.is_same(f"{kind}: the limit holds", room.path, most_at_once(room, "g"), 2)
@@ -281,8 +282,9 @@ def left_behind(tries: Shared) -> None:
     ends of the others, and what can begin doesn't wait for them."""
     jobs = ["soon: within 9s", job("soon", "a", 60), "hard: within 9s",
             "hard b echo hard.b >> begun; trap '' TERM; while :; do sleep 0.1; done",
-            job("late", "c", 60), "free d echo free.d >> begun; until [ -e go ]; do sleep 0.1; done;"
-            " echo free.d >> done", job("more", "e")]
+            job("late", "c", 60),
+            "free d echo free.d >> begun; until [ -e go ]; do sleep 0.1; done; echo free.d >> done",
+            job("more", "e")]
     kind = "commands are left"
     room = Room(tries, jobs)
     run = room.start("s", "JOBS", "-j", "4")
@@ -366,7 +368,7 @@ def faults(tries: Shared) -> None:
     room = Room(tries, [job("g", "a"), job("g", "b")])
     os.makedirs(f"{room.path}/s.out/g.a.0")
     tries.is_same("a command that can't be started", room.path, room.run(), (
-        1, "g a: can't be started: Is a directory; s.out/g.a.0\n2 commands: 1 ok, 1 failed;"
+        1, "g a: can't be started: s.out: Is a directory; s.out/g.a.0\n2 commands: 1 ok, 1 failed;"
            " 2 run this time\n"))
     room.agrees("a command that can't be started")
 
@@ -375,7 +377,7 @@ def faults(tries: Shared) -> None:
     tries.is_same("a store of other tasks: made", room.path, refused, "")
     before = bytes_of(f"{room.path}/s")
     tries.is_same("a store of other tasks", room.path, (room.run(), room.errors),
-                  ((3, ""), "night-run: s has a task of another kind: 0, copy; a night-run has"
+                  ((3, ""), "night-run: s has a task of another kind: 0, copy: give night-run"
                    " a store of its own\n"))
     tries.is_file("a store of other tasks: its bytes", room.path, f"{room.path}/s", before)
 
@@ -427,7 +429,7 @@ def damaged(tries: Shared) -> None:
                   (0, "3 commands: 3 ok; 1 run this time"))
     room.write("s.ended", "events 99999\n")
     tries.is_same(f"{kind}: that of another store", room.path, (room.run(), room.errors),
-                  ((3, ""), "night-run: s.ended is of another store: put it aside\n"))
+                  ((3, ""), "night-run: s.ended belongs to another store: move it away\n"))
     os.remove(f"{room.path}/s.ended")
     os.remove(f"{room.path}/s.log")
     for make in (os.mkdir, os.mkfifo):
@@ -644,7 +646,7 @@ def renewals(tries: Shared, dice: random.Random, rounds: int) -> None:
     room = groups.room("fails")
     found, told = room.last(), room.errors
     tries.is_same(f"{kind}: told", room.path, told, "night-run: s is nearly full, and can't be"
-                  " renewed; it is used as it is: s: it fails; `night` ended with status 1\n")
+                  " renewed, so it is used as it is: s: it fails; `night` ended with status 1\n")
     tries.is_same(f"{kind}: its end", room.path, found,
                   (1, "13 commands: 12 ok, 1 failed; 4 run this time"))
     stopped_renewals(tries, groups if tries.is_short else tasks)

@@ -1,4 +1,4 @@
-"""Tables over the driver's pure functions: what a file of commands says, and what may be begun."""
+"""Tables of what a file of commands means, and of which commands `night plan` lets begin."""
 
 from __future__ import annotations
 
@@ -40,13 +40,42 @@ STANDINGS: list[tuple[str, str, dict[str, str], dict[str, str]]] = [
      {"g a": "not started", "g b": "failed", "h c": "waiting"}),
     ("stop on failure: retries first", "g: stop on failure retries 1\ng a x\ng b x",
      {"g b": "exit 1"}, {"g a": "waiting", "g b": "waiting"}),
+    ("stop on failure: a cancel stops it, too", "g: stop on failure\ng a x\ng b x",
+     {"g a": "canceled: why"}, {"g a": "canceled", "g b": "not started"}),
     ("a done group", "g a x\ng b x\nh c x", {"g a": "ok", "g": "why"},
      {"g a": "ok", "g b": "canceled", "h c": "waiting"}),
+    ("after failed: it has yet to end", "g a x\ng b x\ng b: after failed a", {},
+     {"g b": "waiting"}),
+    ("after failed: it is ok", "g a x\ng b x\ng b: after failed a\ng c x\ng c: after b\ng d x"
+     "\ng d: after ended b", {"g a": "ok"},
+     {"g b": "not needed", "g c": "not needed", "g d": "waiting"}),
+    ("after failed: it has failed", "g a x\ng b x\ng b: after failed a", {"g a": "exit 1"},
+     {"g b": "waiting"}),
+    ("after failed: it was canceled", "g a x\ng b x\ng b: after failed a", {"g a": "canceled: why"},
+     {"g b": "not needed"}),
+    ("after failed: one of two", "g a x\ng b x\ng c x\ng c: after failed a b",
+     {"g a": "exit 1", "g b": "ok"}, {"g c": "not needed"}),
+    ("after failed: each of two", "g a x\ng b x\ng c x\ng c: after failed a b",
+     {"g a": "exit 1", "g b": "exit 1"}, {"g c": "waiting"}),
+    ("after failed: one of a group", "g a x\ng b x\nh c x\nh c: after failed g\nh d x\nh d: after c"
+     " g", {"g a": "ok", "g b": "ok"}, {"h c": "not needed", "h d": "not needed"}),
+    ("after ended: it is canceled with its group", "g a x\ng b x\ng b: after ended a\ng c x",
+     {"g": "why"}, {"g a": "canceled", "g b": "waiting", "g c": "canceled"}),
+    ("after ended, and after another", "g a x\ng b x\ng b: after ended a after c\ng c x",
+     {"g": "why"}, {"g b": "canceled"}),
+    ("keys called failed and ended", "g failed x\ng ended x\ng a x\ng b x\ng b: after failed a"
+     "\ng c x"
+     "\ng c: after ended a", {"g failed": "exit 1", "g a": "ok", "g ended": "ok"},
+     {"g b": "not started", "g c": "waiting"}),
+    ("failure cancel", "g: failure cancel\ng a x\ng b x\ng c x\ng c: after ended a b",
+     {"g a": "exit 1"}, {"g a": "failed", "g b": "not started", "g c": "waiting"}),
+    ("failure cancel: no failure", "g: failure cancel\ng a x\ng b x", {"g a": "canceled: why"},
+     {"g a": "canceled", "g b": "waiting"}),
     ("a done group: no retry", "g: retries 5\ng a x", {"g a": "exit 1", "g": "why"},
      {"g a": "failed"}),
 ]
 
-# Likewise; then the free places, and what may be begun.
+# The same; then the free places, and what may be begun.
 NEXT: list[tuple[str, str, dict[str, str], int, list[str]]] = [
     ("the first ones", "g a x\ng b x\ng c x", {}, 2, ["g a", "g b"]),
     ("no place", "g a x", {}, 0, []),
@@ -63,9 +92,45 @@ NEXT: list[tuple[str, str, dict[str, str], int, list[str]]] = [
     ("a retry that is due", "g: retries 1 wait 5s\ng a x", {"g a": "exit 1"}, 9, ["g a"]),
     ("a retry at once", "g: retries 1\ng a x", {"g a": "exit 1"}, 9, ["g a"]),
     ("a done group", "g a x\nh b x", {"g": "why"}, 9, ["h b"]),
+    ("after failed", "g a x\ng b x\nh c x\nh c: after failed g\nh d x\nh d: after failed g/b",
+     {"g a": "exit 1"}, 9, ["g b", "h c"]),
+    ("after ended", "g a x\ng b x\nh c x\nh c: after ended g\nh d x\nh d: after ended g/a",
+     {"g a": "exit 1"}, 9, ["g b", "h d"]),
+    ("after ended: it is canceled with its group", "g: limit 1\ng a x\ng b x\ng b: after ended a",
+     {"g": "why"}, 9, ["g b"]),
+    ("after ended: not while it runs", "g a x\ng b x\ng b: after ended a",
+     {"g": "why", "g a": "running"}, 9, []),
+    ("after ended: it is given up", "g a x\ng b x\ng b: after a\nh c x\nh c: after ended g/b",
+     {"g a": "exit 1"}, 9, ["h c"]),
+    ("a priority", "g a x\ng b x\ng c x\ng b: priority 2\ng c: priority 2", {}, 2,
+     ["g b", "g c"]),
+    ("a group's priority first", "g a x\ng a: priority 9\nh b x\nh: priority 1", {}, 1, ["h b"]),
+    ("keys with names of settings", "g priority x\ng uses x\ng pool x\ng b x\ng b: after pool"
+     " priority uses", {"g priority": "ok", "g uses": "ok", "g pool": "ok"}, 1, ["g b"]),
+    ("a setting after names", "g a x\ng b x\ng c x\ng c: after a priority 3", {"g a": "ok"}, 1,
+     ["g c"]),
+    ("a pool", "night: pool tape 2\ng: uses tape 1\ng a x\ng b x\ng c x\ng c: uses tape 2\nh d x"
+     "\nh e x\nh e: uses tape 1", {"g a": "running"}, 9, ["g b", "h d"]),
+    ("a pool that is in use", "night: pool tape 2\ng a x\ng b x\ng b: uses tape 1\ng a: uses tape"
+     " 2", {"g a": "running"}, 9, []),
+    ("a wait that grows", "g: retries 9 wait 1s x3 up to 10s\ng a x\nh b x",
+     {"g a": "exit 1*3"}, 9, ["g a", "h b"]),
+    ("a wait that has grown more", "g: retries 9 wait 2s x3 up to 15s\ng a x\nh b x",
+     {"g a": "exit 1*3"}, 9, ["h b"]),
+    ("a wait that has grown to its end", "g: retries 9 wait 2s x9 up to 10s\ng a x",
+     {"g a": "exit 1*9"}, 9, ["g a"]),
 ]
 
-# What `ask` prints; the text of the end that it tells, and of which kind that is.
+# A retry waits for two seconds after 1000: moments at which it is asked for, and when it is due if
+# it isn't. A clock that is set back stands still, and a failure to come isn't waited for. A clock
+# may also be set by more years than a moment of a plan can say, as by one that began in 1970.
+CLOCKS: list[list[tuple[float, float | None]]] = [
+    [(1000.0, 1002.0), (1001.5, 1002.0), (1002.0, None), (999.0, None), (-2600.0, None)],
+    [(1000.5, 1002.0), (900.0, 901.5), (901.25, 901.5), (901.5, None)], [(999.0, None)],
+    [(1001.0, 1002.0), (1.8e9, None), (1.8e9 + 1, None)],
+    [(1001.0, 1002.0), (-1.8e9, 1.0 - 1.8e9), (0.5 - 1.8e9, 1.0 - 1.8e9), (1.0 - 1.8e9, None)]]
+
+# What `ask` prints; the text of the end that it reports, and of which kind that is.
 ANSWERS = [
     ("ok", "ok", "ok"), ("exit 3", "exit 3", "failed"), ("signal 9", "signal 9", "failed"),
     ("error no room", "no room", "failed"), ("error ok", "error ok", "failed"),
@@ -97,34 +162,50 @@ ROLES = [("disks", "UNTIL", "disks--until"), ("disks-", "UNTIL", "disks---until"
          ("x" * 20 + "--1000", "SAID", "x" * 20 + "--1000--said"),
          ("x" * 20 + "--10000-9", "SAID", "x" * 20 + "--10000-9--s")]
 
-ALL = ("settings are limit N, until MOMENT, within TIME, after X.., retries N [wait TIME],"
-       " timeout TIME, in FOLDER, env NAME=VALUE, stop on failure, background keep, via WORDS..,"
-       " ask WORDS.., stop WORDS.., shell WORDS..")
-RETURN = "it has a carriage return in its midst, and a line ends with a line feed"
-BACKSLASH = ("it ends with a backslash, which joins no lines here: a command has one line, and what"
-             " is longer is a script's")
+ALL = ("settings are limit N, until MOMENT, within TIME, after X.., retries N [wait TIME [xN] [up"
+       " to TIME]], timeout TIME, in FOLDER, env NAME=VALUE, stop on failure, background keep, via"
+       " WORDS.., ask WORDS.., stop WORDS.., shell WORDS.., priority N, uses NAME N, pool NAME N,"
+       " failure cancel")
+RETURN = "a carriage return stands within it; write a line feed where the line is to end"
+BACKSLASH = ("it ends with a backslash, which doesn't join it to the next line; put a longer"
+             " command into a script")
 # Files of commands without a mistake, and the command that `g a` has in each.
 RIGHT = [("g a echo x\r", "echo x"), ("# a note \\\ng a echo x", "echo x"),
          ("g a echo \\\\", "echo \\\\"), ("\tg \t a  echo  x \t", "echo  x"),
          ("\r\n# a note\r\ng a echo x\r\n", "echo x")]
-# Files with several mistakes, and what is told of them.
+# Files with several mistakes, and the messages for them.
 SEVERAL = [
     ("g: limit 0\ng a true\nG b true\ng a false", [
         "line 1: the limit '0' is not 1 to 64",
         "line 3: the group 'G' is not 1 to 20 of a-z, 0-9, - and _ without --, or it is root",
-        "line 4: the key a of g stands with two commands, first in line 2"]),
+        "line 4: g has a command a in line 2 already; give one of the two another key"]),
     ("g: after x\ng a true\ng b true\nh: after y\nh c true", [
         "line 1: after 'x': no such key of g, and no such group",
         "line 4: after 'y': no such key of h, and no such group"]),
     ("g: ask x\nh: stop failure\ng a true", [
         "line 1: g has `ask`, and no `via`",
         "line 2: the setting is stop on failure, or stop WORDS.."]),
+    ("g a true\ng b\nh c true\nh: speed 1\nh c: after g/b g/d\nu _ true\ng a: after U", [
+        "line 2: a line is GROUP KEY COMMAND.., or GROUP: and settings",
+        "line 4: no setting is called 'speed'",
+        "line 5: after 'g/d': no such key of h, and no such group",
+        "line 7: after 'U': no such key of g, and no such group"]),
+    ("g a true\nG b\ng a: after G G/b\nh: after k\nh c true\nh d true\nk e\nk h true", [
+        "line 2: a line is GROUP KEY COMMAND.., or GROUP: and settings",
+        "line 7: a line is GROUP KEY COMMAND.., or GROUP: and settings"]),
+    ("a x true\na y true\na x: after y\na y: after x\nb x true\nb y true\nb x: after y c\n"
+     "b y: after b/x\nc z true\nc z: after c\nd w true\nd w: after x/y b", [
+        "line 3: these wait for each other: a/x, after a/y, after a/x",
+        "line 7: these wait for each other: b/x, after b/y, after b/x",
+        "line 10: these wait for each other: c/z, after c, after c/z",
+        "line 12: after 'x/y': no such key of d, and no such group"]),
     ("g a true\n" + "x\n" * 30, [f"line {it}: a line is GROUP KEY COMMAND.., or GROUP: and"
                                  " settings" for it in range(2, 22)] + ["10 more mistakes"])]
 # Lines of a file of commands that are mistakes, with the line's number and why.
 MISTAKES = [
-    ("g a true\ng a false", 2, "the key a of g stands with two commands, first in line 1"),
-    ("g a true\n\ng a true", 3, "the key a of g stands twice, first in line 1"),
+    ("g a true\ng a false", 2,
+     "g has a command a in line 1 already; give one of the two another key"),
+    ("g a true\n\ng a true", 3, "g has a command a in line 1 already; remove one of the two"),
     ("g a", 1, "a line is GROUP KEY COMMAND.., or GROUP: and settings"),
     ("# x\ng A true", 2, "the key 'A' is not 1 to 32 of a-z, 0-9, - and _"),
     ("g " + "k" * 33 + " true", 1,
@@ -133,7 +214,7 @@ MISTAKES = [
      " or it is root"),
     ("root c true", 1, "the group 'root' is not 1 to 20 of a-z, 0-9, - and _ without --,"
      " or it is root"),
-    ("night c true", 1, "the group night is all groups together"),
+    ("night c true", 1, "the group night stands for all groups"),
     ("g:", 1, ALL),
     ("g: limit", 1, f"the limit is missing; {ALL}"),
     ("g: limit 0", 1, "the limit '0' is not 1 to 64"),
@@ -141,22 +222,32 @@ MISTAKES = [
     ("g: limit ٣", 1, "the limit '٣' is not 1 to 64"),
     ("night: limit 3", 1, "the limit of all groups together is the option -j"),
     ("night: retries 3", 1,
-     "all groups together have a deadline and a shell alone: until MOMENT, within TIME, shell"
+     "the settings of all groups together are until MOMENT, within TIME, pool NAME N and shell"
      " WORDS.."),
-    ("g: until 25:00", 1, "the moment '25:00' is not as 05:30 or 2026-11-26T05:30"),
+    ("g: pool tape 2", 1, "a pool is a setting of all groups together: night: pool NAME N"),
+    ("night: pool Tape 2", 1, "the pool 'Tape' is not 1 to 20 of a-z, 0-9, - and _"),
+    ("night: pool tape many", 1, "the size of the pool tape 'many' is not 0 to 999"),
+    ("night: pool tape 2 pool tape 3", 1, "night has a pool 'tape' already"),
+    ("g: uses tape 1", 1, "uses 'tape': no such pool; night: pool tape N makes one"),
+    ("night: pool tape 2\ng one: uses tape 3", 2, "uses tape 3: the pool has 2"),
+    ("g: priority high", 1, "the priority 'high' is not 0 to 999"),
+    ("g: priority 1\ng: priority 2", 2, "g has a priority already"),
+    ("g: retries 2 wait 1s x0", 1, "a wait grows by a number from x1 to x99"),
+    ("g: retries 2 wait 1s x2 up to", 1, f"the longest wait is missing; {ALL}"),
+    ("g: until 25:00", 1, "the moment '25:00' is not written like 05:30 or 2026-11-26T05:30"),
     ("g: until 2026-02-30T05:30", 1,
-     "the moment '2026-02-30T05:30' is not as 05:30 or 2026-11-26T05:30"),
-    ("g: within 2", 1, "the time '2' is not as 2h, 90m, 1h30m or 45s"),
-    ("g: within ٣h", 1, "the time '٣h' is not as 2h, 90m, 1h30m or 45s"),
+     "the moment '2026-02-30T05:30' is not written like 05:30 or 2026-11-26T05:30"),
+    ("g: within 2", 1, "the time '2' is not written like 2h, 90m, 1h30m or 45s"),
+    ("g: within ٣h", 1, "the time '٣h' is not written like 2h, 90m, 1h30m or 45s"),
     ("g: within 2h until 05:30", 1, "g has a deadline already"),
     ("g: limit 2\ng: limit 2", 2, "g has a limit already"),
     ("g: speed 2", 1, "no setting is called 'speed'"),
     ("g a printf '\0'", 1, "it has a byte 0, as no text does"),
-    ("g limit 2", 1, "a setting stands after a colon, as g: limit 2"),
-    ("g until 05:30", 1, "a setting stands after a colon, as g: until 05:30"),
-    ("g within 1h30m", 1, "a setting stands after a colon, as g: within 1h30m"),
-    ("g timeout 10m", 1, "a setting stands after a colon, as g: timeout 10m"),
-    ("g retries 3 wait 10s", 1, "a setting stands after a colon, as g: retries 3 wait 10s"),
+    ("g limit 2", 1, "a setting stands after a colon, as in g: limit 2"),
+    ("g until 05:30", 1, "a setting stands after a colon, as in g: until 05:30"),
+    ("g within 1h30m", 1, "a setting stands after a colon, as in g: within 1h30m"),
+    ("g timeout 10m", 1, "a setting stands after a colon, as in g: timeout 10m"),
+    ("g retries 3 wait 10s", 1, "a setting stands after a colon, as in g: retries 3 wait 10s"),
     ("g " + "k" * 41 + " true", 1,
      "the key '" + "k" * 40 + "..' is not 1 to 32 of a-z, 0-9, - and _"),
     ("g: timeout 0s", 1, "a timeout has a second at least"),
@@ -164,8 +255,8 @@ MISTAKES = [
     ("g: retries many", 1, "the number of retries 'many' is not 0 to 999"),
     ("g: retries 1 wait", 1, f"the time to wait is missing; {ALL}"),
     ("g: in", 1, f"the folder is missing; {ALL}"),
-    ("g: env A", 1, "'A' is not as NAME=VALUE"),
-    ("g: env NIGHT_KEY=x", 1, "the variable NIGHT_KEY is the driver's own"),
+    ("g: env A", 1, "'A' is not written like NAME=VALUE"),
+    ("g: env NIGHT_KEY=x", 1, "night-run itself sets the variable NIGHT_KEY"),
     ("g: env 'A=b", 1, "a quotation: No closing quotation"),
     ("g: stop on success", 1, "the setting is stop on failure, or stop WORDS.."),
     ("g: stop failure", 1, "the setting is stop on failure, or stop WORDS.."),
@@ -180,17 +271,25 @@ MISTAKES = [
     ("g: limit \\", 1, BACKSLASH), ("g a \\\\\\", 1, BACKSLASH),
     ("g a\u00a0b true", 1, "the key 'a\\xa0b' is not 1 to 32 of a-z, 0-9, - and _"),
     ("g: background", 1, "keep is missing; " + ALL),
-    ("g one: limit 2", 1, "limit, until, within, stop on failure, via, ask and stop are settings of"
-     " a group"),
-    ("g: after", 1, f"what it comes after is missing; {ALL}"),
+    ("g one: limit 2", 1, "limit, until, within, stop on failure, failure cancel, via, ask and stop"
+     " are settings of a group"),
+    ("g one: failure cancel", 1, "limit, until, within, stop on failure, failure cancel, via, ask"
+     " and stop are settings of a group"),
+    ("g: failure stop", 1, "the setting is failure cancel"),
+    ("g: failure cancel stop on failure", 1, "g has a failure cancel already"),
+    ("g: stop on failure failure cancel", 1, "g has a stop on failure already"),
+    ("g one: after failed two", 1, "after 'two': no such key of g, and no such group"),
+    ("g one: after ended one", 1, "these wait for each other: g/one, after g/one"),
+    ("g: after", 1, f"the key or group after `after` is missing; {ALL}"),
     ("g one: after two", 1, "after 'two': no such key of g, and no such group"),
     ("g one: after h/two", 1, "after 'h/two': no such key of g, and no such group"),
     ("h one true\ng h true\ng one: after h", 3,
      "after h: it is a group, and a key of g; g/h is the key"),
     ("g two true\ng one: after two\ng two: after one", 3,
-     "a cycle: g/two, after g/one, after g/two"),
-    ("g one: after g", 1, "a cycle: g/one, after g, after g/one"),
-    ("h: after g\nh a true\ng one: after h/a", 1, "a cycle: h/a, after g, after g/one, after h/a"),
+     "these wait for each other: g/two, after g/one, after g/two"),
+    ("g one: after g", 1, "these wait for each other: g/one, after g, after g/one"),
+    ("h: after g\nh a true\ng one: after h/a", 1,
+     "these wait for each other: h/a, after g, after g/one, after h/a"),
 ]
 
 # In Berlin's zone: a moment in UTC, a time of day, and the next moment with that time in UTC. On 25
@@ -264,38 +363,59 @@ def facts_of(tries: Shared, ends: dict[str, str]) -> object:
     return facts
 
 
+def planner_of(tries: Shared, text: str) -> Any:
+    """The planner of a file of commands with this text."""
+    os.environ["NIGHT"] = tries.program
+    return driver_module(tries, "planner").Planner(jobs_of(tries, text))
+
+
 def stand(tries: Shared) -> None:
-    plan = driver_module(tries, "plan")
     for what, text, ends, wanted in STANDINGS:
-        found = plan.standings(jobs_of(tries, text), facts_of(tries, ends))
+        found = planner_of(tries, text).standings(facts_of(tries, ends))
         shown = {it: found[pair(it)].phase for it in wanted}
         tries.is_same("how a command stands", what, shown, wanted)
 
 
 def next_ones(tries: Shared) -> None:
-    plan = driver_module(tries, "plan")
     for what, text, ends, places, wanted in NEXT:
-        jobs, facts = jobs_of(tries, text), facts_of(tries, ends)
-        left = [name for name, it in plan.standings(jobs, facts).items() if not it.is_final]
-        found = plan.may_begin(jobs, facts, left, places, 1000.0).names
+        facts: Any = facts_of(tries, ends)
+        found = planner_of(tries, text).choose(facts, places + len(facts.busy), 1000.0).names
         tries.is_same("what may be begun", what, [" ".join(it) for it in found], wanted)
 
 
 def retries_wait(tries: Shared) -> None:
     """A retry waits by the clock, but not for the hours that the clock was set back."""
-    plan = driver_module(tries, "plan")
-    jobs = jobs_of(tries, "g: retries 1 wait 2s\ng a true")
-    facts = driver_module(tries, "facts").Facts()
-    facts.ended(("g", "a"), driver_module(tries, "ends").failed("exit 3"), 1000.0)
-    for now, wanted in ((1000.0, 1002.0), (1001.5, 1002.0), (1002.0, None), (999.0, None),
-                        (-2600.0, None)):
-        found = plan.may_begin(jobs, facts, [("g", "a")], 1, now)
-        tries.is_same("a retry and the clock", now, (len(found.names), found.later),
-                      (0 if wanted else 1, wanted))
+    for times in CLOCKS:
+        planner = planner_of(tries, "g: retries 1 wait 2s\ng a true")
+        facts = driver_module(tries, "facts").Facts()
+        facts.ended(("g", "a"), driver_module(tries, "ends").failed("exit 3"), 1000.0)
+        for now, wanted in times:
+            found = planner.choose(facts, 1, now)
+            tries.is_same("a retry and the clock", now, (len(found.names), found.later),
+                          (0 if wanted else 1, wanted))
+
+
+def retries_wait_on(tries: Shared) -> None:
+    """A retry waits for what was left of its wait after the clock was set back, also where its
+    failure is told once more."""
+    for what in "to another process", "to the same":
+        planner = planner_of(tries, "g: retries 1 wait 60s\ng a true\ng b true")
+        facts = driver_module(tries, "facts").Facts()
+        facts.ended(("g", "a"), driver_module(tries, "ends").failed("exit 3"), 10_000.0)
+        facts.busy.add(("g", "b"))
+        for now, wanted in (10_010.0, 10_060.0), (5000.0, 5050.0), (5001.0, 5050.0), (5050.0, None):
+            if now == 5001.0 and what == "to the same":
+                planner.told[0] = "(not told)"
+                facts.changed.add(("g", "a"))
+            elif now == 5001.0:
+                planner.close()
+            found = planner.choose(facts, 2, now)
+            tries.is_same(f"a failure that is told {what}", now, (len(found.names), found.later),
+                          (0 if wanted else 1, wanted))
 
 
 def mistakes(tries: Shared) -> None:
-    """Each mistake is told with file, line and reason."""
+    """Each mistake is reported with file, line and reason."""
     wrong = driver_module(tries, "jobs").Mistake
     for text, line, why in MISTAKES:
         whole = f"{text}\ng one true"
@@ -308,7 +428,7 @@ def mistakes(tries: Shared) -> None:
 
 
 def mistakes_together(tries: Shared) -> None:
-    """Every mistake of a file is told at a time; and what is none isn't."""
+    """All mistakes of a file are reported together, and nothing else is."""
     wrong = driver_module(tries, "jobs").Mistake
     for text, wanted in SEVERAL:
         found: list[str] = []
@@ -342,11 +462,11 @@ def moments(tries: Shared) -> None:
 
 def cycles_are_long(tries: Shared) -> None:
     """A chain of thousands of commands is sorted, and a failure at its head is known at its end."""
-    plan, count = driver_module(tries, "plan"), 5000
+    count = 5000
     lines = [f"g k{it} x" for it in range(count)]
     lines += [f"g k{it}: after k{it - 1}" for it in range(1, count)]
-    jobs = jobs_of(tries, "\n".join(reversed(lines)))
-    found = plan.standings(jobs, facts_of(tries, {"g k0": "exit 1"}))
+    planner = planner_of(tries, "\n".join(reversed(lines)))
+    found = planner.standings(facts_of(tries, {"g k0": "exit 1"}))
     tries.is_same("a long chain", count, found["g", f"k{count - 1}"].phase, "not started")
 
 
@@ -384,5 +504,5 @@ def names(tries: Shared) -> None:
                       (rounds.base_of(name), rounds.round_of(name), True))
 
 
-TABLES = [stand, ends, names, next_ones, retries_wait, mistakes, mistakes_together, moments,
-          repeated_hours, cycles_are_long]
+TABLES = [stand, ends, names, next_ones, retries_wait, retries_wait_on, mistakes,
+          mistakes_together, moments, repeated_hours, cycles_are_long]

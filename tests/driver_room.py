@@ -161,7 +161,7 @@ class Room:
 
 
 def job(group: str, key: str, seconds: float = 0.0, end: str = "") -> str:
-    """A command that tells where it begins and where it ends."""
+    """A command that writes down where it begins and where it ends."""
     name = f"{group}.{key}"
     return (f"{group} {key} echo {name} >> begun; echo +{group} >> steps; sleep {seconds};"
             f" echo -{group} >> steps; echo {name} >> done{end}")
@@ -207,6 +207,15 @@ def children(parent: int) -> dict[int, str]:
 
 def nights_in(processes: dict[int, str]) -> list[int]:
     return [it for it, name in processes.items() if name == "night"]
+
+
+def sessions_in(processes: dict[int, str]) -> list[int]:
+    """Those of them that are a `night script`, and live."""
+    found = []
+    for it in nights_in(processes):
+        with contextlib.suppress(OSError):
+            found += [it] if b"\0script\0" in bytes_of(f"/proc/{it}/cmdline") else []
+    return found
 
 
 def kill(numbers: Iterable[int], in_groups: bool = False,

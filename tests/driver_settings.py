@@ -13,22 +13,23 @@ import time
 from driver_room import (Room, Shared, environments, hit, job, kill, locked,
                          most_at_once)
 
+NO_STORE = "so it is not a store; give STORE first, and then JOBS"
 # Words that name a wrong file, or no program: the status, and why. The room has a file `bytes` and
 # `null`, a link to a device.
 ASTRAY = [
-    (("JOBS", "JOBS"), 2, "JOBS: it has 9 bytes, and so is no store"),
-    ((".", "JOBS"), 2, ".: it is no regular file, and so no store"),
-    (("null", "JOBS"), 2, "/dev/null: it is no regular file, and so no store"),
+    (("JOBS", "JOBS"), 2, f"JOBS: it has 9 bytes, {NO_STORE}"),
+    ((".", "JOBS"), 2, f".: it is not a regular file, {NO_STORE}"),
+    (("null", "JOBS"), 2, f"/dev/null: it is not a regular file, {NO_STORE}"),
     (("s", "bytes"), 2, "bytes: line 1: it has a byte 0, as no text does"),
     (("s", "missing"), 2, "missing: No such file or directory"),
     (("s", "--cancel", "g"), 2, "s: No such file or directory"),
     (("s", "JOBS"), 3, "NIGHT names no program: ./missing"),
 ]
-KEY = ("crm is a key of db: --cancel db/crm cancels that command alone; a reason for all of the"
-       " group has to begin with another word")
+KEY = ("crm is a key of db: --cancel db/crm cancels that command alone; to cancel all of db,"
+       " begin the reason with another word")
 ENDED = "night-run: s: night 1 has ended, and nothing of it is left to cancel\n"
 LEFT = "night-run: night 1 wasn't finished: the rest of it comes first\n"
-# Words that are told with the usage.
+# Wrong options, which are reported with the usage.
 UNUSABLE = [("s",), ("s", "JOBS", "-j", "0"), ("s", "JOBS", "-j", "x"), ("s", "JOBS", "--json"),
             ("s", "JOBS", "--failed", "--again"), ("s", "JOBS", "--report", "pdf"),
             ("s", "JOBS", "--dry-run", "--list"), ("s", "JOBS", "--list", "--again"),
@@ -58,6 +59,84 @@ def retries(tries: Shared) -> None:
     kill([run.pid], which=signal.SIGTERM)
     room.ended(run)
     tries.is_same(kind, room.path, (room.run()[0], room.begun()), (1, {"g.a": 5}))
+
+
+def cleanups(tries: Shared) -> None:
+    """A cleanup begins once what it comes after has ended, though their group is past its deadline
+    or was canceled by a failure; its own timeout stops it."""
+    tidy = ["g tidy echo g.tidy >> begun; sleep 1; echo g.tidy >> done", "g tidy: after ended a b"]
+    kind = "a cleanup after a deadline"
+    room = Room(tries, ["g: within 3s", job("g", "a", 60), job("g", "b", 0), *tidy,
+                        job("g", "more", 0), "g more: after a"])
+    status, output = room.run()
+    tries.is_same(kind, room.path, (status, room.lines("done"), output.splitlines()), (
+        1, ["g.b", "g.tidy"], ["g a: canceled: within 3s; s.out/g.a.0",
+                               "g more: canceled: within 3s",
+                               "4 commands: 2 ok, 2 canceled; 3 run this time"]))
+    kind = "a cleanup after a failure that cancels"
+    room = Room(tries, ["g: failure cancel", job("g", "a", 60),
+                        job("g", "b", 0.5, "; exit 3"), *tidy,
+                        job("h", "mail", 0), "h mail: after failed g/b", job("h", "other", 0),
+                        "h other: after failed g/tidy", "h last true", "h last: after ended g"])
+    status, output = room.run()
+    shown = [it for it in output.splitlines() if not it.startswith(" ")]
+    tries.is_same(kind, room.path, (status, sorted(room.lines("done")), shown), (
+        1, ["g.b", "g.tidy", "h.mail"], ["g a: canceled: exit 3; s.out/g.a.0",
+                                  "g b: exit 3; s.out/g.b.0",
+                                  "6 commands: 3 ok, 1 failed, 1 canceled, 1 not needed; 5 run this"
+                                  " time"]))
+    kind = "a cleanup after a cancel by hand"
+    room = Room(tries, [job("g", "a", 60), *tidy[:1], "g tidy: after ended a timeout 1s",
+                        "g tidy2 echo g.tidy2 >> done", "g tidy2: after ended tidy"])
+    room.write("JOBS", room.text("JOBS").replace("sleep 1; echo", "sleep 60; echo"))
+    run = room.start()
+    room.until(lambda: room.lines("begun"))
+    room.run("s", "--cancel", "g", "why", errors="errors2")
+    status, output = room.ended(run)
+    shown = [it for it in output.splitlines() if not it.startswith(" ")]
+    tries.is_same(kind, room.path, (status, room.lines("done"), shown), (
+        1, ["g.tidy2"], ["g a: canceled: why; s.out/g.a.0", "g tidy: timeout 1s; s.out/g.tidy.0",
+                         "3 commands: 1 ok, 1 failed, 1 canceled; 3 run this time"]))
+    cleanups_over_runs(tries)
+    kind = "what isn't needed is well"
+    room = Room(tries, [job("g", "a", 0), job("h", "mail", 0), "h mail: after failed g/a"])
+    for words in (("s", "JOBS"), ("s", "JOBS", "--failed")):
+        status, output = room.run(*words)
+        tries.is_same(kind, words, (status, room.lines("done")), (0, ["g.a"]))
+    tries.is_same(kind, room.path, room.run("s", "JOBS", "--list"),
+                  (0, "h mail: not needed, because g/a didn't fail\n"))
+
+
+def cleanups_over_runs(tries: Shared) -> None:
+    """A cleanup that was killed with its driver begins again, though its group is canceled; and a
+    failure of an earlier run cancels its group."""
+    kind = "a cleanup that is killed"
+    room = Room(tries, ["g: within 1s", job("g", "a", 60), "g tidy echo g.tidy >> begun; until"
+                        " [ -e go ]; do sleep 0.1; done; echo g.tidy >> done",
+                        "g tidy: after ended a"])
+    run = room.start()
+    room.until(lambda: room.begun()["g.tidy"] == 1)
+    hit(run, "all")
+    room.ended(run)
+    room.settle()
+    room.write("go", "")
+    tries.is_same(f"{kind}: what would begin", room.path,
+                  room.run("s", "JOBS", "--dry-run")[1].splitlines()[1:],
+                  ["canceled g a: canceled: within 1s"])
+    status, output = room.run()
+    tries.is_same(kind, room.path, (status, room.begun()["g.tidy"], room.lines("done"), output
+                                    .splitlines()[-1]), (
+        1, 2, ["g.tidy"], "2 commands: 1 ok, 1 canceled; 1 run this time"))
+    kind = "a failure of an earlier run that cancels"
+    room = Room(tries, [job("g", "b", 0, "; exit 3")])
+    tries.is_same(f"{kind}: before", room.path, room.run()[0], 1)
+    room.set(["g: failure cancel", job("g", "b", 0, "; exit 3"), job("g", "c", 0),
+              job("g", "tidy", 0), "g tidy: after ended c"])
+    status, output = room.run()
+    shown = [it for it in output.splitlines() if not it.startswith(" ")]
+    tries.is_same(kind, room.path, (status, shown), (
+        1, ["g b: exit 3; s.out/g.b.0", "g c: canceled: exit 3",
+            "3 commands: 1 ok, 1 failed, 1 canceled; 1 run this time"]))
 
 
 def timeout(tries: Shared) -> None:
@@ -118,7 +197,7 @@ def places(tries: Shared) -> None:
 
 
 def shells(tries: Shared) -> None:
-    """What runs the commands in place of /bin/sh."""
+    """What runs the commands instead of /bin/sh."""
     kind = "a shell"
     room = Room(tries, [
         "night: shell ./say night", "g: shell ./say", "g a echo 'a b'", "g b echo x",
@@ -197,7 +276,7 @@ def cancels(tries: Shared) -> None:
 
 
 def cancels_alone(tries: Shared) -> None:
-    """Likewise, where no driver runs."""
+    """The same, where no driver runs."""
     kind = "a cancel of one command where nothing runs"
     room = Room(tries, ["db: limit 1", job("db", "a"), "db b echo b >> begun; exec sleep 900",
                         job("db", "crm"), job("www", "x")])
@@ -211,7 +290,7 @@ def cancels_alone(tries: Shared) -> None:
         (("s", "--cancel", "db/Crm"), "--cancel 'db/Crm': the key 'Crm' is not 1 to 32 of a-z, 0-9,"
          " - and _"),
         (("s", "--cancel", "night/a"),
-         "--cancel 'night/a': the group night is all groups together"),
+         "--cancel 'night/a': the group night stands for all groups"),
         (("s", "--cancel", "nowhere"), "s has no group nowhere"),
         (("s", "--cancel", "db", "a", "stop"), KEY.replace("crm", "a")),
         (("s", "JOBS", "--cancel", "db", "crm"), KEY),
@@ -415,8 +494,8 @@ def failed(tries: Shared) -> None:
 
 
 def missed(tries: Shared) -> None:
-    """What the last night missed for good is told with tonight's, and a command that outlived its
-    driver and its deadline is stopped before tonight's try of it begins."""
+    """What the last night missed for good is reported with tonight's, and a command that outlived
+    its driver and its deadline is stopped before tonight's try of it begins."""
     kind = "the rest of a night whose deadline has passed"
     room = Room(tries, ["g: within 4s", job("g", "a"), "g b [ -e second ] || { touch second;"
                         " exec sleep 61; }; echo b >> done", job("g", "c"), "g c: after b"])
@@ -465,7 +544,7 @@ def nightly(tries: Shared) -> None:
 
 
 def astray(tries: Shared) -> None:
-    """Words by which a newcomer goes astray: each is told, and nothing is made."""
+    """Mistakes of a newcomer on the command line: each is reported, and nothing is made."""
     for words, status, why in ASTRAY:
         room = Room(tries, ["g a true"])
         room.write("bytes", "\0" * 4096)
@@ -525,7 +604,7 @@ def terminals(tries: Shared) -> None:
 
 
 def on_a_terminal(room: Room) -> str:
-    """What a driver tells a terminal."""
+    """What a driver prints on a terminal."""
     ours, its = os.openpty()
     with subprocess.Popen([room.tries.driver, "s", "JOBS"], cwd=room.path, stderr=its,
                           stdin=subprocess.DEVNULL, stdout=subprocess.DEVNULL,
@@ -541,6 +620,6 @@ def on_a_terminal(room: Room) -> str:
     return told.decode()
 
 
-SETTINGS = [retries, timeout, places, shells, cancels, cancels_alone, after, stop_on_failure,
-            limits, summaries, views, looks, failed, missed,
+SETTINGS = [cleanups, retries, timeout, places, shells, cancels, cancels_alone, after,
+            stop_on_failure, limits, summaries, views, looks, failed, missed,
             nightly, astray, keys, terminals]

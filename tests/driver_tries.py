@@ -3,6 +3,7 @@ believed."""
 
 from __future__ import annotations
 
+import json
 import os
 import re
 import shutil
@@ -47,7 +48,7 @@ def has_settled(room: Room, kind: str) -> None:
 def tries_in(room: Room) -> list[str]:
     """The files of tries that are there."""
     folder = f"{room.path}/s.tries"
-    return sorted(it for it in os.listdir(folder) if it != "night") if os.path.isdir(folder) else []
+    return sorted(it for it in os.listdir(folder) if "." in it) if os.path.isdir(folder) else []
 
 
 # --- how a command ended is known
@@ -83,6 +84,40 @@ def outlived(tries: Shared) -> None:
         tries.is_same(f"{kind}: run again", room.path, room.last()[1][:17], "nothing to do: 7 ")
 
 
+def counted(room: Room) -> dict[str, list[str]]:
+    """How each try of a command ended, as the list has it."""
+    status, printed = room.run("s", "JOBS", "--list", "--json", errors="listed")
+    return {f"{it['group']}.{it['key']}": [one["end"] for one in it["tries"]]
+            for it in json.loads(printed)} if status == 0 else {"status": [str(status)]}
+
+
+def counted_once(tries: Shared) -> None:
+    """A command that outlives its driver or its `night` is one try, while it runs and once it has
+    ended. One that is begun again is two."""
+    for who, again in (("both", "both"), ("both", "night"), ("night", "driver"), ("night", "")):
+        kind = f"tries of a command that outlives: {who}, {again}"
+        room = Room(tries, [waiting("g", "a"), waiting("g", "b", "exit 3"), "g b: retries 1"])
+        run = room.start("s", "JOBS")
+        tries.holds(f"{kind}: they run", room.path,
+                    room.until(lambda: len(room.lines("begun")) == 2))
+        for one in (who, again):
+            hit(run, one) if one else None
+            if one in ("both", "driver"):
+                room.ended(run)
+                run = room.start("s", "JOBS")
+            room.until(lambda: room.lines("s.log")[2:])
+            time.sleep(0.5)
+            tries.is_same(f"{kind}: they run", one, counted(room), {"g.a": [""], "g.b": [""]})
+        room.write("go", "")
+        tries.is_same(f"{kind}: they end", room.path, room.ended(run)[0], 1)
+        tries.is_same(kind, room.path, (counted(room), room.begun()), (
+            {"g.a": ["ok"], "g.b": ["exit 3", "exit 3"]}, {"g.a": 1, "g.b": 2}))
+        prom = [it for it in room.run("s", "JOBS", "--report", "prom")[1].splitlines()
+                if it.startswith("night_run_command_tries{")]
+        tries.is_same(f"{kind}: metrics", room.path, [it.split()[-1] for it in prom], ["1", "2"])
+        room.agrees(kind)
+
+
 def outlived_twice(tries: Shared) -> None:
     """Driver and `night` are killed again and again: a command begins once."""
     kind = "it outlives four drivers"
@@ -114,25 +149,29 @@ def of_its_shell(tries: Shared) -> None:
     room.until(lambda: room.lines("begun"))
     hit(run, "both")
     room.ended(run)
-    shell = [it for it in shells(room)]
+    shell = [*shells(room)]
     tries.is_same(f"{kind}: there is one", room.path, len(shell), 1)
     kill(shell)
     run = room.start("s", "JOBS", "--grace", "3")
     tries.holds(f"{kind}: it is begun again", room.path,
-                room.until(lambda: len(room.lines("begun")) == 2, 20))
+                room.until(lambda: len(room.lines("begun")) == 2))
+    tries.is_same(f"{kind}: these are two tries", room.path, counted(room),
+                  {"g.a": ["interrupted", ""]})
     room.write("go", "")
     tries.is_same(kind, room.path, (room.ended(run), room.begun(), room.lines("beside")),
                   ((0, "1 command: 1 ok; 1 run this time\n"), {"g.a": 2}, []))
 
 
 def shells(room: Room) -> Iterator[int]:
-    """The shells that began commands of a room, which lead sessions."""
+    """The shells that began commands of a room, which lead sessions. So does its `night`, which
+    has the room's environment, too, and on a slow machine is still to be seen after its kill."""
     for it in filter(str.isdigit, os.listdir("/proc")):
         try:
             if os.readlink(f"/proc/{it}/cwd") == room.path and os.getsid(int(it)) == int(it):
                 with open(f"/proc/{it}/environ", "rb") as file:
-                    if f"NIGHT_STORE={room.path}/s".encode() in file.read().split(b"\0"):
-                        yield int(it)
+                    had = file.read().split(b"\0")
+                if f"NIGHT_STORE={room.path}/s".encode() in had and b"NIGHT_GROUP=night" not in had:
+                    yield int(it)
         except OSError:
             continue
 
@@ -159,6 +198,17 @@ def passed_meanwhile(tries: Shared) -> None:
         "c a: canceled: not now", "d a: canceled: within 10s", "g a: timeout 9s"],
         {"g.a": 1, "d.a": 1, "c.a": 1}))
     room.agrees(kind)
+
+
+def many_left(tries: Shared) -> None:
+    """Commands that have ended since are taken up though there are more than files that a night
+    may have open at a time."""
+    kind = "more commands than files"
+    room = left(tries, kind, [waiting("g", f"k{it}") for it in range(16)])
+    has_settled(room, kind)
+    room.before = ["sh", "-c", 'ulimit -n 22; exec "$@"', "sh"]
+    tries.is_same(kind, room.path, (room.last("s", "JOBS"), room.errors), (
+        (0, "16 commands: 16 ok; 16 run this time"), ""))
 
 
 def limited(tries: Shared) -> None:
@@ -457,6 +507,17 @@ def full_at_first(tries: Shared) -> None:
         told = "/s.tries: No space left on device: commands are started later\n"
         tries.holds(f"{kind}: it waits", room.path,
                     room.until(lambda: told in room.text("errors"), 30), room.text("errors"))
+        os.kill(run.pid, signal.SIGTERM)
+        room.ended(run)
+        run = room.start("m/s", "JOBS", "--quiet", "--on-failure", "cat > alarm")
+        tries.holds(f"{kind}: told with --quiet, too", room.path,
+                    room.until(lambda: told in room.text("errors"), 30), room.text("errors"))
+        os.kill(run.pid, signal.SIGTERM)
+        status, alarm = room.ended(run)[0], "".join(
+            it for it in room.lines("alarm") if it.startswith("commands couldn't be started: "))
+        tries.is_same(f"{kind}: in the alarm", alarm, (
+            status, alarm.endswith("/s.tries: No space left on device")), (1, True))
+        run = room.start("m/s", "JOBS")
         os.remove(f"{room.path}/m/hog")
         tries.is_same(kind, room.path, room.ended(run), (0, "2 commands: 2 ok; 1 run this time\n"))
 
@@ -538,10 +599,10 @@ def renewed_badly(tries: Shared) -> None:
     tries.is_same(f"{kind}: the night goes on", room.path, (status, output),
                   (1, "13 commands: 12 ok, 1 failed; 4 run this time"))
     tries.is_same(f"{kind}: the file is named", room.path, room.errors, (
-        "night-run: s is nearly full, and can't be renewed; it is used as it is: s.ended.new: Is a"
-        " directory\n"))
+        "night-run: s is nearly full, and can't be renewed, so it is used as it is: s.ended.new: Is"
+        " a directory\n"))
 
 
-TRIES = [outlived, outlived_twice, of_its_shell, passed_meanwhile, limited, keeps, cut_off,
-         of_others, forged, another_process, given, full_at_first, never_began,
+TRIES = [outlived, counted_once, outlived_twice, of_its_shell, passed_meanwhile, many_left, limited,
+         keeps, cut_off, of_others, forged, another_process, given, full_at_first, never_began,
          ends_on_full_disk, torn_far, renewed_badly]

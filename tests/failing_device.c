@@ -1,4 +1,4 @@
-/* A device that fails when it is told to, at once or after a while, for tests/real_ext4: a file
+/* A device that fails on demand, at once or after a while, for tests/real_ext4: a file
  * system (FUSE, without a library) with one file, `img`, whose bytes are those of another file.
  *
  *     failing_device MOUNTPOINT BACKING RANGES

@@ -1,8 +1,8 @@
 """The engines of docs/far.md as this machine has them, each with daemons of its own in a folder of
 its own, which end with it:
 
-    ssh          sshd, behind a line that can be cut as a power failure cuts it: the far side isn't
-                 told that the near one has gone
+    ssh          sshd, behind a line that can be cut as a power failure cuts it: the far side doesn't
+                 learn that the near one has gone
     sbatch       munged, slurmctld and a slurmd for each of the nodes n1 and n2
     systemd-run  a user's manager
 
@@ -193,7 +193,7 @@ class Engine:
 
 
 class Line(threading.Thread):
-    """A line to a port. While it is cut, the far side isn't told that the near one has gone."""
+    """A line to a port. While it is cut, the far side doesn't learn that the near one has gone."""
 
     def __init__(self, port: int) -> None:
         super().__init__(daemon=True)

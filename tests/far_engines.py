@@ -125,7 +125,7 @@ def sshd() -> None:
 
 
 def session(line: socket.socket) -> None:
-    """Runs the guard over a connection, by a shell that stays beside what it is told to run, and
+    """Runs the guard over a connection, by a shell that stays beside what it runs, and
     ends some time after the connection has gone."""
     asked = b""
     while not asked.endswith(b"\0"):

@@ -43,7 +43,7 @@ exit $3
 # canceled, and those that have a deadline.
 GROUPS = {"g": 130, "r": 30, "c": 20, "d": 20}
 AT_ONCE = 30
-# So many kills of one night, each kind of them once at least.
+# How many kills of one night, each kind of them once at least.
 KILLS = 14
 OTHERS = ("driver", "all", "client", "night", "SIGTERM")
 # What a driver prints last where the night has ended.
@@ -52,13 +52,13 @@ LONGEST = 900
 # How what was killed ends; and the failures of what a killed slurmctld has forgotten.
 OF_CLIENTS = re.compile(r"exit 255|signal 9")
 OF_SLURM = re.compile(r"CANCELLED|NODE_FAIL|exit 1")
-# So many seconds may lie between the clocks' times of an end and of a beginning.
+# How many seconds may lie between the clocks' times of an end and of a beginning.
 SLACK = 0.05
 
 
 @dataclass
 class Ran:
-    """What a command told of one run of it."""
+    """What a command wrote down about one run of it."""
 
     tried: str
     began: float

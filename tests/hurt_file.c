@@ -1,7 +1,7 @@
 /* Stands between a program and one of its files (LD_PRELOAD), and hurts that file.
  *
  *   HURT_FILE   the file, by the name that it is opened by; no other is touched
- *   HURT_LOG    each call on it is told there, in a line
+ *   HURT_LOG    each call on it writes a line there
  *   HURT_SHORT  a seed: each read and write moves a random part of its bytes, one at least
  *   HURT_ROOM   so many bytes can be written; the write that goes past them is short, and each one
  *               after it fails with ENOSPC
@@ -26,10 +26,10 @@
  *               the file is locked
  *   HURT_TOUCH  so many reads: before each of the first ones the file's last byte is changed, as by
  *               another program
- *   HURT_SLOW   each sync takes so many milliseconds longer
+ *   HURT_SLOW   each sync takes this many milliseconds longer
  *   HURT_LOCK   the number of an error: each lock of the file is answered so
  *   HURT_NAME   a name: each opening of it fails, with the error of the number HURT_ERROR
- *   HURT_NAMES  each call on any file is told there, in a line, with the name of the file
+ *   HURT_NAMES  each call on any file writes a line there, with the name of the file
  *   HURT_DIE    the number of such a call, from 1: the program is killed before it
  *   HURT_BREAK  the number of such a call, from 1: it alone fails with EIO
  *   HURT_HALT   the number of such a call, from 1: the program stops before it (SIGSTOP)
@@ -47,7 +47,6 @@
 #include <errno.h>
 #include <fcntl.h>
 #include <signal.h>
-#include <stdarg.h>
 #include <stdint.h>
 #include <stdio.h>
 #include <stdlib.h>
@@ -139,7 +138,7 @@ static void leave_rest(void)
         give_up("what is left can't be kept");
 }
 
-/* The file that lines are told in, where one is asked for. */
+/* The file into which lines are written, if one is asked for. */
 static int log_of(const char *name)
 {
     const char *text = getenv(name);
@@ -445,38 +444,7 @@ static int opened(int folder, const char *name, int flags, mode_t mode)
     return fd;
 }
 
-#define MODE(flags, mode)                          \
-    mode_t mode = 0;                               \
-    if ((flags) & (O_CREAT | __O_TMPFILE)) {       \
-        va_list words;                             \
-        va_start(words, flags);                    \
-        mode = va_arg(words, mode_t);              \
-        va_end(words);                             \
-    }
-
-int open(const char *name, int flags, ...)
-{
-    MODE(flags, mode)
-    return opened(AT_FDCWD, name, flags, mode);
-}
-
-int open64(const char *name, int flags, ...)
-{
-    MODE(flags, mode)
-    return opened(AT_FDCWD, name, flags, mode);
-}
-
-int openat(int folder, const char *name, int flags, ...)
-{
-    MODE(flags, mode)
-    return opened(folder, name, flags, mode);
-}
-
-int openat64(int folder, const char *name, int flags, ...)
-{
-    MODE(flags, mode)
-    return opened(folder, name, flags, mode);
-}
+#include "opens.h"
 
 int close(int fd)
 {

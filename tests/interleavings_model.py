@@ -1,9 +1,9 @@
-"""A model of a crew's threads: the bodies of `crates/crew_workers/src` that wait and wake, what
+"""A model of a crew's threads: the bodies of `crates/run_crew/src` that wait and wake, what
 each of their statements does, and every order in which the threads can take them.
 
 BODIES has the statements as the source has them, by file and function. A line `// .. is dropped`
 stands where a guard goes that no statement drops. EFFECTS says what a statement does; what isn't
-there can't be run. `explore` takes the steps of all threads in every order, and tells the first
+there can't be run. `explore` takes the steps of all threads in every order, and returns the first
 state that must not be.
 
 A step is an access to a counter of the arrivals, a lock that is taken, a sleep, a wake-up, the
@@ -96,7 +96,7 @@ BODIES: dict[Place, str] = {
         }
         unreachable!()
         """,
-    ("workplaces.rt", "start"): """
+    ("thread_calls.rt", "start"): """
         self.arrivals.come();
         let mut place = self.shared.lock(self.rt);
         let started = place.start_as(seat);
@@ -106,10 +106,10 @@ BODIES: dict[Place, str] = {
         // place is dropped
         started
         """,
-    ("workplaces.rt", "save"): """
+    ("thread_calls.rt", "save"): """
         save(self.rt, self.shared, self.arrivals, event)
         """,
-    ("workplaces.rt", "finish"): """
+    ("thread_calls.rt", "finish"): """
         self.arrivals.come();
         let mut place = self.shared.lock(self.rt);
         let finished = place.finish_as(seat, task, outcome);
@@ -117,30 +117,30 @@ BODIES: dict[Place, str] = {
         // place is dropped
         finished
         """,
-    ("workplaces.rt", "ring"): """
+    ("thread_calls.rt", "ring"): """
         self.bell.ring(self.rt, event);
         """,
-    ("watches.rt", "wait"): """
+    ("flusher_calls.rt", "wait"): """
         self.bell.wait(self.rt, heard)
         """,
-    ("watches.rt", "save"): """
+    ("flusher_calls.rt", "save"): """
         self.arrivals.come();
         save(self.rt, self.shared, self.arrivals, event)
         """,
-    ("watches.rt", "save_rings"): """
+    ("flusher_calls.rt", "save_rings"): """
         let mut heard = 0;
         for _ in rt.forever() {
-            let Some(event) = watch.wait(heard) else {
+            let Some(event) = flusher.wait(heard) else {
                 return;
             };
             heard = event;
-            let _ = watch.save(event);
+            let _ = flusher.save(event);
         }
         unreachable!()
         """,
     ("courses.rt", "take_tasks"): """
         for _ in rt.forever() {
-            if !take_task(floor, seat, notes) {
+            if !take_task(worker, seat, notes) {
                 return;
             }
         }
@@ -150,12 +150,12 @@ BODIES: dict[Place, str] = {
         if notes.is_full() {
             return false;
         }
-        let Some(started) = start(floor, seat) else {
+        let Some(started) = start(worker, seat) else {
             return false;
         };
         let task = started.info.task;
-        let outcome = run(floor, &started.info);
-        let Ok(event) = floor.finish(seat, task, &outcome) else {
+        let outcome = run(worker, &started.info);
+        let Ok(event) = worker.finish(seat, task, &outcome) else {
             return false;
         };
         notes.note(Note {
@@ -163,26 +163,26 @@ BODIES: dict[Place, str] = {
             task,
             outcome,
         });
-        floor.tell(task);
-        floor.ring(event);
+        worker.tell(task);
+        worker.ring(event);
         true
         """,
     ("courses.rt", "start"): """
-        let Ok(started) = floor.start(seat) else {
+        let Ok(started) = worker.start(seat) else {
             return None;
         };
-        match floor.save(started.event) {
+        match worker.save(started.event) {
             Ok(_) => Some(started),
             Err(_) => None,
         }
         """,
     ("workers.rt", "work"): """
-        let Station {
+        let WorkerStart {
             jobs,
             mut seat,
             mut notes,
         } = self;
-        let mut place = Workplace {
+        let mut place = ThreadCalls {
             rt,
             shared,
             arrivals,
@@ -191,19 +191,19 @@ BODIES: dict[Place, str] = {
             jobs,
         };
         take_tasks(rt, &mut place, &mut seat, &mut notes);
-        Shift { seat, notes }
+        WorkerEnd { seat, notes }
         """,
     ("nights.rt", "save_at"): """
-        let mut watch = Lookout {
+        let mut flusher = ThreadFlusher {
             rt,
             shared,
             arrivals,
             bell,
         };
-        save_rings(rt, &mut watch);
+        save_rings(rt, &mut flusher);
         """,
     ("nights.rt", "shifts_of"): """
-        let count = stations.len();
+        let count = workers.len();
         let mut handles = Vec::with_capacity(alloc, count)?;
         let shifts = Vec::with_capacity(alloc, count)?;
         let bell = Bell::new();
@@ -213,7 +213,7 @@ BODIES: dict[Place, str] = {
         thread::scope(
             thread::scope_env(),
             rt,
-            |scope| -> Result<Vec<Shift<S, F>>, AllocError> {
+            |scope| -> Result<Vec<WorkerEnd<S, F>>, AllocError> {
                 let flusher = scope.spawn(move || save_at(rt, shared, arrivals, bell))?;
                 start_each(
                     scope,
@@ -222,7 +222,7 @@ BODIES: dict[Place, str] = {
                     arrivals,
                     bell,
                     gate,
-                    stations,
+                    workers,
                     &mut handles,
                 );
                 let left = joined(rt, gate, handles, shifts, count);
@@ -233,10 +233,15 @@ BODIES: dict[Place, str] = {
         )
         """,
     ("nights.rt", "start_each"): """
-        for station in stations {
+        for worker in workers {
+            let promise = ShiftOf {
+                gate,
+                jobs: Snapshot::of(&worker.jobs),
+                place: PhantomData::<T>,
+            };
             match scope.spawn_with(
-                GateOf { gate },
-                move || -> Shift<S, F> { station.work(rt, shared, arrivals, bell, gate) },
+                promise,
+                move || -> WorkerEnd<S, F> { worker.work(rt, shared, arrivals, bell, gate) },
             ) {
                 Ok(handle) => handles.push_reserved(handle),
                 Err(_) => {}
@@ -252,20 +257,23 @@ BODIES: dict[Place, str] = {
         }
         Ok(shifts)
         """,
-    ("nights.rt", "work_night"): """
+    ("nights.rt", "run_night"): """
+        let lists = run_shifts(rt, alloc, shared, seat, jobs, gate);
+        let last = shared.lock(rt).flush_as(seat);
+        Ok((lists?, last))
+        """,
+    ("nights.rt", "run_shifts"): """
         let Ok(mut notes) = Vec::with_capacity(alloc, jobs.len()) else {
             return Err(Fault::Memory);
         };
-        let Ok(stations) = stations_of(alloc, seat, jobs) else {
+        let Ok(workers) = workers_of(alloc, seat, jobs) else {
             return Err(Fault::Memory);
         };
-        let shifts = shifts_of(rt, alloc, shared, stations, gate);
-        let last = shared.lock(rt).flush();
-        let Ok(shifts) = shifts else {
+        let Ok(shifts) = shifts_of(rt, alloc, shared, workers, gate) else {
             return Err(Fault::Memory);
         };
         gather(seat, shifts, &mut notes);
-        Ok((notes, last))
+        Ok(notes)
         """,
 }
 
@@ -468,7 +476,7 @@ def wake_all(it: Night, me: int) -> None:
 # The lock, and what lies under it.
 
 @does("saves.rt", "let mut place = shared.lock(rt)", is_step=True)
-@does("workplaces.rt", "let mut place = shared.lock(rt)", is_step=True)
+@does("thread_calls.rt", "let mut place = shared.lock(rt)", is_step=True)
 def lock(it: Night, me: int) -> bool:
     if it.locked:
         return False
@@ -477,12 +485,12 @@ def lock(it: Night, me: int) -> bool:
 
 
 @does("saves.rt", "// place is dropped")
-@does("workplaces.rt", "// place is dropped")
+@does("thread_calls.rt", "// place is dropped")
 def unlock(it: Night, me: int) -> None:
     it.locked = 0
 
 
-@does("workplaces.rt", "let started = place.start_as(seat)")
+@does("thread_calls.rt", "let started = place.start_as(seat)")
 def start_as(it: Night, me: int) -> None:
     it.ok[me] = it.ready > 0 and not it.broken
     if it.ok[me]:
@@ -491,7 +499,7 @@ def start_as(it: Night, me: int) -> None:
         it.event[me] = it.events
 
 
-@does("workplaces.rt", "let finished = place.finish_as(seat, task, outcome)")
+@does("thread_calls.rt", "let finished = place.finish_as(seat, task, outcome)")
 def finish_as(it: Night, me: int) -> None:
     it.ok[me] = not it.broken
     if it.ok[me]:
@@ -499,7 +507,7 @@ def finish_as(it: Night, me: int) -> None:
         it.event[me] = it.events
 
 
-@does("workplaces.rt", "if started.is_err()")
+@does("thread_calls.rt", "if started.is_err()")
 def is_err(it: Night, me: int) -> None:
     it.test[me] = not it.ok[me]
 
@@ -509,7 +517,7 @@ def is_failed(it: Night, me: int) -> None:
     it.test[me], it.ok[me] = not it.ok[me], False
 
 
-@does("workplaces.rt", "started", "finished")
+@does("thread_calls.rt", "started", "finished")
 def answer(it: Night, me: int) -> None:
     it.test[me], it.ok[me] = it.ok[me], False
 
@@ -528,7 +536,7 @@ def flush(it: Night, me: int) -> None:
         it.durable = it.events
 
 
-@does("nights.rt", "let last = shared.lock(rt).flush()", is_step=True)
+@does("nights.rt", "let last = shared.lock(rt).flush_as(seat)", is_step=True)
 def flush_last(it: Night, me: int) -> bool:
     if it.locked:
         return False
@@ -599,17 +607,17 @@ def rise(it: Night, me: int) -> bool:
 
 # Workers, the flusher, and the thread that joins them.
 
-@does("courses.rt", "let outcome = run(floor, &started.info)", is_step=True)
+@does("courses.rt", "let outcome = run(worker, &started.info)", is_step=True)
 def make_turns(it: Night, me: int) -> None:
     pass
 
 
-@does("watches.rt", "let mut heard = 0")
+@does("flusher_calls.rt", "let mut heard = 0")
 def hear_nothing(it: Night, me: int) -> None:
     it.event[me] = 0
 
 
-@does("workplaces.rt", "let event = event - 1")
+@does("thread_calls.rt", "let event = event - 1")
 def take_earlier(it: Night, me: int) -> None:
     it.event[me] -= 1
 
@@ -626,9 +634,9 @@ def end(it: Night, me: int) -> None:
 
 @does("saves.rt", "return Ok(durable)")
 @does("arrivals.rt", "if true")
-@does("workplaces.rt", "if true")
+@does("thread_calls.rt", "if true")
 @does("nights.rt", "let Ok(mut notes) = Vec::with_capacity(alloc, jobs.len()) else",
-      "let Ok(stations) = stations_of(alloc, seat, jobs) else", "let Ok(shifts) = shifts else")
+      "let Ok(workers) = workers_of(alloc, seat, jobs) else", "left")
 def yes(it: Night, me: int) -> None:
     it.test[me] = True
 
@@ -655,33 +663,35 @@ def invert(it: Night, me: int) -> None:
     it.test[me] = not it.test[me]
 
 
-for _file in ("saves.rt", "workplaces.rt", "watches.rt"):
+for _file in ("saves.rt", "thread_calls.rt", "flusher_calls.rt"):
     calls(_file, "arrivals.come()", "arrivals.rt", "come")
     calls(_file, "arrivals.go()", "arrivals.rt", "go")
 calls("saves.rt", "if !arrivals.is_last()", "arrivals.rt", "is_last")
 does("saves.rt", "if !arrivals.is_last()")(invert)
 calls("saves.rt", "place = arrivals.sleep(rt, place)", "arrivals.rt", "sleep")
 calls("saves.rt", "arrivals.wake(&place)", "arrivals.rt", "wake")
-calls("workplaces.rt", "save(rt, shared, arrivals, event)", "saves.rt", "save")
-calls("workplaces.rt", "bell.ring(rt, event)", "bells.rt", "ring")
-calls("watches.rt", "bell.wait(rt, heard)", "bells.rt", "wait")
-calls("watches.rt", "save(rt, shared, arrivals, event)", "saves.rt", "save")
-calls("watches.rt", "let Some(event) = watch.wait(heard) else", "watches.rt", "wait")
-calls("watches.rt", "let _ = watch.save(event)", "watches.rt", "save")
-does("watches.rt", "let _ = watch.save(event)")(no)
-calls("courses.rt", "if !take_task(floor, seat, notes)", "courses.rt", "take_task")
-does("courses.rt", "if !take_task(floor, seat, notes)")(invert)
-calls("courses.rt", "let Some(started) = start(floor, seat) else", "courses.rt", "start")
-calls("courses.rt", "let Ok(started) = floor.start(seat) else", "workplaces.rt", "start")
-calls("courses.rt", "match floor.save(started.event)", "workplaces.rt", "save")
-calls("courses.rt", "let Ok(event) = floor.finish(seat, task, &outcome) else", "workplaces.rt",
+calls("thread_calls.rt", "save(rt, shared, arrivals, event)", "saves.rt", "save")
+calls("thread_calls.rt", "bell.ring(rt, event)", "bells.rt", "ring")
+calls("flusher_calls.rt", "bell.wait(rt, heard)", "bells.rt", "wait")
+calls("flusher_calls.rt", "save(rt, shared, arrivals, event)", "saves.rt", "save")
+calls("flusher_calls.rt", "let Some(event) = flusher.wait(heard) else", "flusher_calls.rt", "wait")
+calls("flusher_calls.rt", "let _ = flusher.save(event)", "flusher_calls.rt", "save")
+does("flusher_calls.rt", "let _ = flusher.save(event)")(no)
+calls("courses.rt", "if !take_task(worker, seat, notes)", "courses.rt", "take_task")
+does("courses.rt", "if !take_task(worker, seat, notes)")(invert)
+calls("courses.rt", "let Some(started) = start(worker, seat) else", "courses.rt", "start")
+calls("courses.rt", "let Ok(started) = worker.start(seat) else", "thread_calls.rt", "start")
+calls("courses.rt", "match worker.save(started.event)", "thread_calls.rt", "save")
+calls("courses.rt", "let Ok(event) = worker.finish(seat, task, &outcome) else", "thread_calls.rt",
       "finish")
-calls("courses.rt", "floor.ring(event)", "workplaces.rt", "ring")
+calls("courses.rt", "worker.ring(event)", "thread_calls.rt", "ring")
 calls("workers.rt", "take_tasks(rt, &mut place, &mut seat, &mut notes)", "courses.rt", "take_tasks")
-calls("nights.rt", "save_rings(rt, &mut watch)", "watches.rt", "save_rings")
+calls("nights.rt", "save_rings(rt, &mut flusher)", "flusher_calls.rt", "save_rings")
 calls("nights.rt", "bell.close(rt)", "bells.rt", "close")
-calls("nights.rt", "let shifts = shifts_of(rt, alloc, shared, stations, gate)", "nights.rt",
-      "shifts_of")
+calls("nights.rt", "let lists = run_shifts(rt, alloc, shared, seat, jobs, gate)", "nights.rt",
+      "run_shifts")
+calls("nights.rt", "let Ok(shifts) = shifts_of(rt, alloc, shared, workers, gate) else",
+      "nights.rt", "shifts_of")
 calls("nights.rt", statements(BODIES["nights.rt", "shifts_of"])[9], "nights.rt", "start_each")
 calls("nights.rt", "let left = joined(rt, gate, handles, shifts, count)", "nights.rt", "joined")
 
@@ -690,14 +700,15 @@ calls("nights.rt", "let left = joined(rt, gate, handles, shifts, count)", "night
 IDLE: dict[str, tuple[str, ...]] = {
     "arrivals.rt": ("guard",),
     "saves.rt": ("let durable = place.durable()",),
-    "watches.rt": ("return", "heard = event"),
+    "flusher_calls.rt": ("return", "heard = event"),
     "courses.rt": ("return", "let task = started.info.task", "notes.note(Note)",
-                   "floor.tell(task)", "Ok(_) => Some(started), Err(_) => None,"),
-    "workers.rt": ("let Station = self", "let mut place = Workplace", "Shift"),
-    "nights.rt": ("let mut watch = Lookout", *statements(BODIES["nights.rt", "shifts_of"])[:9],
-                  "left", *statements(BODIES["nights.rt", "start_each"]), "for handle in handles",
+                   "worker.tell(task)", "Ok(_) => Some(started), Err(_) => None,"),
+    "workers.rt": ("let WorkerStart = self", "let mut place = ThreadCalls", "WorkerEnd"),
+    "nights.rt": ("let mut flusher = ThreadFlusher",
+                  *statements(BODIES["nights.rt", "shifts_of"])[:9],
+                  *statements(BODIES["nights.rt", "start_each"]), "for handle in handles",
                   "return Err(AllocError)", "Ok(shifts)", "return Err(Fault::Memory)",
-                  "gather(seat, shifts, &mut notes)", "Ok((notes, last))"),
+                  "gather(seat, shifts, &mut notes)", "Ok(notes)", "Ok((lists?, last))"),
 }
 for _file, _lines in IDLE.items():
     for _line in _lines:
@@ -807,7 +818,7 @@ FAULTS = HANGS, LOSES, LEAVES = (
     "it hangs", "an event doesn't become durable", "an event isn't durable at the end")
 # Steps that may take any time: a turn; and the join of the workers, of which one more may be in a
 # turn.
-SLOW = (*EFFECTS["courses.rt", "let outcome = run(floor, &started.info)"],
+SLOW = (*EFFECTS["courses.rt", "let outcome = run(worker, &started.info)"],
         *EFFECTS["nights.rt", "shifts.push_reserved(handle.join(rt))"])
 
 
@@ -820,7 +831,7 @@ def explore(bodies: dict[Place, str], crew: Crew, most: int) -> Found:
     - all have ended, the device didn't fail, and an event isn't durable.
     """
     worker = code_of(bodies, ("workers.rt", "work"))
-    others = [code_of(bodies, ("nights.rt", it)) for it in ("save_at", "work_night")]
+    others = [code_of(bodies, ("nights.rt", it)) for it in ("save_at", "run_night")]
     codes = [worker] * crew.workers + others
     ends = [len(it) for it in codes]
     night = Night(crew, ends)

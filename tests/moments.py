@@ -38,7 +38,7 @@ class Known:
         self.moments = moments
 
     def after(self, lines: Lines, ended: Ended) -> "Known":
-        """After a script of these lines that printed so many acknowledgements."""
+        """After a script of these lines that printed this many acknowledgements."""
         acked = [int(it[6:]) for it in ended.output.splitlines() if it.startswith("acked ")]
         found = set()
         for before in self.moments:

@@ -1,4 +1,4 @@
-/* A library before a driver: the time of day is so many seconds later as the file says that
+/* A library before a driver: the time of day is this many seconds later as the file says that
    NIGHTS_CLOCK names, in each process. The monotonic clock stays. */
 #define _GNU_SOURCE
 #include <dlfcn.h>

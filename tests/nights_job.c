@@ -57,7 +57,7 @@ static int lock(const char *name) {
   return 1;
 }
 
-/* Whether one of so many locks could be taken. */
+/* Whether one of this many locks could be taken. */
 static int lock_one(const char *kind, const char *of, int many) {
   char name[200];
   for (int at = 0; at < many; at++) {

@@ -1,6 +1,6 @@
-"""What the commands of a night told of themselves, what `night` acked meanwhile, what was done to
-them, and whether all of it is as a driver's invariants say. Times are those of the monotonic clock,
-in seconds."""
+"""What the commands of a night wrote down about themselves, what `night` acked meanwhile, what was
+done to them, and whether all of it is as a driver's invariants say. Times are those of the
+monotonic clock, in seconds."""
 
 import bisect
 import os
@@ -12,9 +12,9 @@ from dataclasses import dataclass, field
 
 from nights_plan import Group, Plan
 
-# A cancel is obeyed, and a deadline is, within so many seconds.
+# A cancel is obeyed, and a deadline is, within this many seconds.
 PROMPT = 2.0
-# Meanwhile at most so many rounds begin commands: the one that is under way, and the next.
+# Meanwhile at most this many rounds begin commands: the one that is under way, and the next.
 ROUNDS = 2
 # What a command may say that it sees beside it as it begins.
 BESIDE = {"key": "4: {key} began at {at:.3f} beside another try of it",
@@ -193,7 +193,7 @@ def starts_acked(seen: Seen) -> Iterator[str]:
 
 def places(seen: Seen) -> Iterator[str]:
     """In each stretch between two stops the commands that began and whose end isn't acked. Where
-    only a `night` was killed, an end from before that may be durable, and nobody was told."""
+    only a `night` was killed, an end from before that may be durable, and nobody has learned it."""
     events: list[tuple[float, int, str]] = [(it.at, 0, "") for it in seen.stops]
     events += [(at, 1, it.key) for at in seen.hits for it in seen.all_tries()
                if it.ended is not None and it.ended < at]
@@ -326,7 +326,7 @@ def end_between(seen: Seen, key: str, one: float, other: float) -> str | None:
                  if it.end is not None and one < it.at < other), None)
 
 
-# --- 6: so many commands run twice after a stop that ends them, and none after another one
+# --- 6: this many commands run twice after a stop that ends them, and none after another one
 
 def run_twice(seen: Seen) -> Iterator[str]:
     again: Counter[int] = Counter()
@@ -380,16 +380,16 @@ def has_failed(seen: Seen, key: str, since: float, until: float) -> bool:
 
 
 def outputs_own(seen: Seen) -> Iterator[str]:
-    """Each try has an output of its own, whose name ends with its number. (Numbers begin anew with
+    """Each try has an output of its own, whose name ends with its number. (Numbers begin again with
     a round of the group, which is in that name: another night, a group that was done, a store that
-    was renewed or made anew.)"""
+    was renewed or made again.)"""
     for key, tries in seen.tries.items():
         had: set[str] = set()
         since = 0.0
         for it in tries:
             if it.output in had:
                 yield f"5: {key} has two tries with the output {it.output}"
-            # (where `night` died as it began, on a busy machine, its output has another name by now)
+            # (where `night` died as it began, on a busy machine, its output has another name now)
             starts = sum(ack.end is None and since < ack.at <= it.began for ack in seen.acked[key])
             is_its = it.output.rpartition(f".{key}.")[2] == it.number
             if it.number != "-" and not is_its and starts < 2:
@@ -426,7 +426,7 @@ def night_of(seen: Seen, at: float) -> float:
 
 
 def epoch_of(seen: Seen, at: float) -> float:
-    """Likewise, or when what failed was asked for once more."""
+    """The same, or when what failed was asked for once more."""
     return next((it.began for it in reversed(seen.runs)
                  if it.is_first_of and it.began <= at), 0.0)
 

@@ -1,4 +1,4 @@
-"""How slow the machine is: what must happen within some seconds may come so much later."""
+"""How slow the machine is: what must happen within some seconds may come that much later."""
 
 import subprocess
 import sys

@@ -12,7 +12,7 @@ SHAPES = {"mixed": 8, "many": 4, "stops": 3, "names": 3, "damage": 2, "clock": 1
 
 @dataclass(frozen=True)
 class Command:
-    """A command: its place, what `nights_job` is told, and its settings."""
+    """A command: its place, the arguments of `nights_job`, and its settings."""
 
     group: str
     key: str

@@ -1,5 +1,5 @@
 """A random night from its first line to its last: drivers are begun, disturbed and begun again
-until it has ended, and then it is compared with what its commands told."""
+until it has ended, and then it is compared with what its commands wrote down."""
 
 import json
 import os
@@ -160,7 +160,7 @@ class Night:
         return has_it
 
     def wait_for_moment(self, driver: subprocess.Popen[str]) -> None:
-        """Waits until some commands more have told something, or a time."""
+        """Waits until some more commands have written something, or for a time."""
         most = 2 if self.plan.is_brief else 2 * len(self.plan.commands)
         size = self.room.told_size() + 90 * self.dice.randint(1, most)
         if self.dice.random() < 0.35 and not self.plan.is_brief:
@@ -358,7 +358,7 @@ class Night:
     # --- what is compared
 
     def compare(self, status: int | None, output: str) -> None:
-        """Compares how a night ended with what its commands told."""
+        """Compares how a night ended with what its commands wrote down."""
         room, seen = self.room, self.room.look()
         if not room.holds(status in (0, 1), f"8: a night ended with status {status}:"
                           f" {room.text('errors')[-400:]}"):
@@ -474,7 +474,7 @@ class Night:
 
     def goes_on_later(self) -> None:
         """A clock that was once ahead doesn't make a later deadline pass. (The group is a new one:
-        that of the last night may have been made while the clock was behind.)"""
+        that of the last night may have been made while the clock was late.)"""
         it = Command(f"later-{len(self.plan.commands)}", f"z{len(self.plan.commands)}")
         self.plan.commands[it.key] = it
         self.plan.groups[it.group] = Group(it.group, within=3600)

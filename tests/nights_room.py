@@ -20,7 +20,7 @@ from nights_pace import Pace
 from nights_plan import Plan
 
 HERE = os.path.dirname(os.path.abspath(__file__))
-# So long a driver that nothing disturbs may take, and one that was asked to end.
+# How long a driver that nothing disturbs may take, and one that was asked to end.
 SECONDS, SECONDS_TO_END = 45.0, 20.0
 # What a driver prints on a fault of its own.
 TRACEBACK = "Traceback (most recent call last)"
@@ -124,7 +124,7 @@ class Room:
             return 0
 
     def bound(self, most: int) -> None:
-        """Tells the commands how many of them may run at a time."""
+        """Writes down for the commands how many of them may run at a time."""
         limits = "".join(f" {it.name} {it.limit}" for it in self.plan.groups.values()
                          if it.limit is not None)
         self.write("bounds", f"{most}{limits}\n")

@@ -9,13 +9,13 @@
  *                             has them, then those after each change that no sync has written yet
  *                   gone.N    a file that has no name any more, so that N isn't given again
  *                   clean     a sync of the folder failed, and no name has changed after it
- *   CACHE_LOG     each call on the folder or on a file of it is told there, in a line
+ *   CACHE_LOG     each call on the folder or on a file of it writes a line there
  *   CACHE_KILL    the number of such a call, from 1: the program is killed before it
  *   CACHE_STOP    the number of such a call, from 1: the program stops before it (SIGSTOP)
- *   CACHE_HALT    likewise, of a later one
+ *   CACHE_HALT    the same for a later call
  *   CACHE_FAIL    the number of such a call, from 1: it fails with EIO; CACHE_ERROR, of which error
  *   CACHE_HANG    the number of such a call, from 1, which is a sync: it hangs, the program is killed
- *                 meanwhile, and then it fails, which nobody is told
+ *                 meanwhile, and then it fails, which nobody learns
  *   CACHE_PART    a seed: a sync of a file that fails has written some of the pages, and else none
  *   CACHE_MAPPED  advice to drop pages isn't followed, as where another program has them mapped
  *   CACHE_UNSYNCED  a sync of the folder answers so and does nothing: the number of an error
@@ -345,38 +345,7 @@ static int opened(int at, const char *name, int flags, mode_t mode)
     return fd;
 }
 
-#define MODE(flags, mode)                          \
-    mode_t mode = 0;                               \
-    if ((flags) & (O_CREAT | __O_TMPFILE)) {       \
-        va_list words;                             \
-        va_start(words, flags);                    \
-        mode = va_arg(words, mode_t);              \
-        va_end(words);                             \
-    }
-
-int open(const char *name, int flags, ...)
-{
-    MODE(flags, mode)
-    return opened(AT_FDCWD, name, flags, mode);
-}
-
-int open64(const char *name, int flags, ...)
-{
-    MODE(flags, mode)
-    return opened(AT_FDCWD, name, flags, mode);
-}
-
-int openat(int at, const char *name, int flags, ...)
-{
-    MODE(flags, mode)
-    return opened(at, name, flags, mode);
-}
-
-int openat64(int at, const char *name, int flags, ...)
-{
-    MODE(flags, mode)
-    return opened(at, name, flags, mode);
-}
+#include "opens.h"
 
 int close(int fd)
 {

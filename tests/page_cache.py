@@ -15,7 +15,7 @@ from dataclasses import dataclass, field
 from running import Ended, Tries, bytes_of
 
 PAGE = 4096
-# A run of the program takes so many seconds at most, on a machine with much else to do.
+# A run of the program takes this many seconds at most, on a machine with much else to do.
 PATIENCE = 300
 
 # How a run is hurt: variables of the library, without CACHE_, as kill=3.
@@ -72,7 +72,7 @@ class Left:
         return {name: self.inodes[it].dropped() for name, it in self.names[-1].items()}
 
     def cut(self, table: int = 0, seed: int = 0) -> dict[str, bytes]:
-        """The files after a power failure which kept so many of the changes of names; with a seed
+        """The files after a power failure which kept this many of the changes of names; with a seed
         some of the pages that no sync wrote are there."""
         dice = random.Random(seed) if seed else None
         table = min(table, len(self.names) - 1)
@@ -80,7 +80,7 @@ class Left:
 
     def cuts(self, seeds: int = 0) -> dict[str, dict[str, bytes]]:
         """What power failures may leave, by what they keep: each number of changes of names, with
-        no page that no sync wrote, and, for so many seeds, with some of them."""
+        no page that no sync wrote, and, for this many seeds, with some of them."""
         return {f"{table} of {len(self.names) - 1} changes of names, seed {seed}":
                 self.cut(table, seed)
                 for table in range(len(self.names)) for seed in range(seeds + 1)}
@@ -176,7 +176,7 @@ class Cache:
 
     def ended_over(self, files: dict[str, bytes], word: str, name: str) -> Ended:
         """How the program ends over one of these files, where all of them are durable. What it did
-        over the same bytes before isn't tried anew."""
+        over the same bytes before isn't tried again."""
         key = (word, name, files.get(name), *sorted(files))
         if key not in self.ended:
             self.begin(files)

@@ -3,7 +3,7 @@
  *   REFUSE_GROWTH  the number of a growth, from 1: it is refused
  *   REFUSE_THREAD  the number of a thread's start, from 1: it is refused
  *   REFUSE_ALL     so is each one after it
- *   REFUSE_LOG     how many growths and starts there were is told there, in a line, at the end
+ *   REFUSE_LOG     the number of growths and starts is written there, in a line, at the end
  *
  * A growth is a call that asks for memory or for more of it, the C library's own too, from the
  * program's first to its last.

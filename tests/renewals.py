@@ -53,10 +53,10 @@ class Both:
         return there.index(numbers) if numbers in there else f"{numbers} are no {kind}"
 
     def ask(self, line, task=None):
-        """The replies of both to a line, told by places; a task has its number in the line."""
+        """The replies of both to a line, by places; a task has its number in the line."""
         found = []
         for at, run in enumerate(self.runs):
-            # (one that has ended answers nothing, which is told then)
+            # (one that has ended answers nothing, which is printed then)
             with contextlib.suppress(BrokenPipeError):
                 number = self.tasks[task][at] if task is not None else ""
                 run.stdin.write(f"{line.format(number)}\n")
@@ -70,7 +70,7 @@ class Both:
         return told, places
 
     def shown(self, tries):
-        """What both show of what is in both, told by places."""
+        """What both show of the rows that are in both, by places."""
         for run in self.runs:
             with contextlib.suppress(BrokenPipeError):
                 run.stdin.close()
@@ -135,7 +135,7 @@ def try_answers(tries, drawn, seeds, count):
 
 
 def try_many(tries, nights, tasks):
-    """Goes on for so many nights of so many tasks in a large store, beside a group that wasn't
+    """Goes on for this many nights of this many tasks in a large store, beside a group that wasn't
     waited for and lives in a scope that is done."""
     paths = [tries.file("one.store"), tries.file("two.store")]
     tries.run("format", paths[0])

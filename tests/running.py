@@ -50,7 +50,7 @@ README = [
     "derive copy backup deadline 3600 copy took too long", "derive report backup detached",
     "derive mail report cancel", "advance 3600", "cancel backup disk full", "group disks report",
     "go disks copy a", "start", "finish 0 error no room", "wait disks"]
-# Among the lines of a night: the store is opened anew.
+# Among the lines of a night: the store is opened again.
 RESTART = "restart"
 
 
@@ -86,7 +86,7 @@ def fault(text, name, why=None):
 
 
 class Tries:
-    """What a script tries: so many tries of each kind, those that failed, and what it skipped."""
+    """What a script tries: this many tries of each kind, those that failed, and what it skipped."""
 
     def __init__(self, about, source="hurt_file.c"):
         self.about, self.ran, self.bad, self.skipped = about, {}, {}, []
@@ -123,7 +123,7 @@ class Tries:
         """A file of the script's own folder, which gets these bytes."""
         path = f"{self.folder}/{name}"
         if content is not None:
-            # (one that has its length is written over, which is faster than to make it anew)
+            # (one that has its length is written over, which is faster than to make it again)
             is_there = os.path.isfile(path) and os.path.getsize(path) == len(content)
             with open(path, "r+b" if is_there else "wb") as file:
                 file.write(content)
@@ -232,7 +232,7 @@ def steps(store, lines):
 
 
 def step(store, line):
-    """Runs a line over a store by hand, or opens it anew."""
+    """Runs a line over a store by hand, or opens it again."""
     if line == RESTART:
         store.checkpoint()
         store.opened()

@@ -17,7 +17,6 @@
 #include <errno.h>
 #include <fcntl.h>
 #include <limits.h>
-#include <stdarg.h>
 #include <stdlib.h>
 #include <string.h>
 #include <sys/file.h>
@@ -99,38 +98,7 @@ static int opened(int folder, const char *name, int flags, mode_t mode)
     return fd;
 }
 
-#define MODE(flags, mode)                          \
-    mode_t mode = 0;                               \
-    if ((flags) & (O_CREAT | __O_TMPFILE)) {       \
-        va_list words;                             \
-        va_start(words, flags);                    \
-        mode = va_arg(words, mode_t);              \
-        va_end(words);                             \
-    }
-
-int open(const char *name, int flags, ...)
-{
-    MODE(flags, mode)
-    return opened(AT_FDCWD, name, flags, mode);
-}
-
-int open64(const char *name, int flags, ...)
-{
-    MODE(flags, mode)
-    return opened(AT_FDCWD, name, flags, mode);
-}
-
-int openat(int folder, const char *name, int flags, ...)
-{
-    MODE(flags, mode)
-    return opened(folder, name, flags, mode);
-}
-
-int openat64(int folder, const char *name, int flags, ...)
-{
-    MODE(flags, mode)
-    return opened(folder, name, flags, mode);
-}
+#include "opens.h"
 
 int close(int fd)
 {
