@@ -3,7 +3,7 @@
 
 _night() {
     local current=${COMP_WORDS[COMP_CWORD]} before=${COMP_WORDS[COMP_CWORD - 1]} flags=""
-    local words="demo format script inspect crew migrate renew help"
+    local words="demo format script inspect crew migrate renew plan help"
     COMPREPLY=()
     if ((COMP_CWORD == 1)); then
         mapfile -t COMPREPLY < <(compgen -W "$words --help --version" -- "$current")
@@ -17,6 +17,7 @@ _night() {
         inspect) flags="--tasks --phase --group --json --tree --no-tasks --summary --help" ;;
         migrate) flags="--new --help" ;;
         renew) flags="--new --in-place --help" ;;
+        plan) flags="--help" ;;
         help) mapfile -t COMPREPLY < <(compgen -W "$words" -- "$current") && return ;;
         *) return ;;
     esac
@@ -35,7 +36,7 @@ _night() {
         mapfile -t COMPREPLY < <(compgen -W "$(_night_groups)" -- "$current")
     elif [[ $current == -* ]]; then
         mapfile -t COMPREPLY < <(compgen -W "$flags" -- "$current")
-    elif [[ ${COMP_WORDS[1]} != demo ]]; then
+    elif [[ ${COMP_WORDS[1]} != demo && ${COMP_WORDS[1]} != plan ]]; then
         compopt -o filenames 2> /dev/null
         mapfile -t COMPREPLY < <(compgen -f -- "$current")
     fi

@@ -12,7 +12,9 @@ from dataclasses import dataclass, field
 from itertools import combinations
 from xml.sax.saxutils import escape
 
-WIDTH = 792
+# How wide a picture is unless it says otherwise: a telephone shows it 400 wide, and the smallest
+# text, of size 11, has to be legible there.
+WIDTH = 640
 # A class has a fill and a stroke, light and dark; a text has its ink alone.
 SHADES = {
     "back": ("#ffffff", "none", "#0d1117", "none"),
@@ -57,6 +59,7 @@ class Picture:
     name: str
     height: int
     title: str
+    wide: int = WIDTH
     parts: list[str] = field(default_factory=list)
     boxes: list[Area] = field(default_factory=list)
     texts: list[Area] = field(default_factory=list)
@@ -110,9 +113,10 @@ class Picture:
 
     def wrong(self) -> Iterator[str]:
         """What is ill laid out."""
-        whole = Area(0, 0, WIDTH, self.height, self.name)
+        whole = Area(0, 0, self.wide, self.height, self.name)
         for it in [*self.boxes, *self.texts, *self.lines]:
-            if min(it.left, it.top) < 8 or it.right > WIDTH - 8 or it.bottom > whole.bottom - 8:
+            if (min(it.left, it.top) < 8 or it.right > whole.right - 8
+                    or it.bottom > whole.bottom - 8):
                 yield f"{it.what} isn't inside"
         for one, other in combinations([*self.boxes, *self.texts], 2):
             if one.meets(other):
@@ -136,12 +140,12 @@ class Picture:
         tips = ('<marker id="tip" viewBox="0 0 8 8" refX="8" refY="4" markerWidth="8" '
                 'markerHeight="8" orient="auto"><path class="dim" d="M0 0L8 4L0 8z"/></marker>')
         return "\n".join([
-            f'<svg xmlns="http://www.w3.org/2000/svg" viewBox="0 0 {WIDTH} {self.height}" '
-            f'width="{WIDTH}" height="{self.height}" role="img">',
+            f'<svg xmlns="http://www.w3.org/2000/svg" viewBox="0 0 {self.wide} {self.height}" '
+            f'width="{self.wide}" height="{self.height}" role="img">',
             f"<title>{escape(self.title)}</title>",
             f"<style>\n{light}\n.sans {{ font-family: system-ui, sans-serif }}\n"
             ".mono { font-family: ui-monospace, monospace }\n"
             f"@media (prefers-color-scheme: dark) {{\n{dark}\n}}\n</style>",
             f"<defs>{tips}</defs>",
-            f'<rect class="back" width="{WIDTH}" height="{self.height}"/>', *self.parts, "</svg>",
-            ""])
+            f'<rect class="back" width="{self.wide}" height="{self.height}"/>', *self.parts,
+            "</svg>", ""])
