@@ -3,9 +3,9 @@ use Rattle.std.specs.Prelude.{◌≡◌, ◌⊎◌, ◌<◌, ◌≤◌, ◌+◌,
 use Rattle.run_disk.specs.Contents.{SameOutside, Holds, Follows}
 use Rattle.run_disk.specs.Disk.{DiskState, IsSame, IsSynced, last_moment}
 
--- What each call does, on any disk. The call is counted, and so is its failure. A crash inside it
--- leaves what a crash before it or after it may leave. On a spent disk it fails, and changes
--- nothing.
+-- What each call does, on any disk. The call is counted, and so is its failure. A crash during the
+-- call leaves what a crash before it or after it may leave. On a spent disk each call fails, and
+-- changes nothing.
 pub record Calls {T E : Type 0} (old new : DiskState) (result : Result T E) : Type 0 where
   pub size : new.size ≡ old.size
   pub honest : old.honest → new.honest
@@ -18,16 +18,17 @@ pub record Calls {T E : Type 0} (old new : DiskState) (result : Result T E) : Ty
       (t : ℕ) (x : List ℕ) → t ≤ old.clock → new.since t x → old.since t x ⊎ new.images x
   pub keeps : (t : ℕ) (x : List ℕ) → t ≤ old.clock → old.since t x → new.since t x
 
--- What a read does to an honest disk, even if it fails: reads return the same bytes, a crash leaves
--- nothing more, and no more places are unsure.
+-- What a read does to an honest disk, even if it fails: reads still return the same bytes, a crash
+-- can leave nothing else than before, and no further place is unsure.
 pub record Reads (old new : DiskState) : Type 0 where
   pub now : new.now ≡ old.now
   pub images : (x : List ℕ) → new.images x → old.images x
   pub unsure : (i : ℕ) → new.unsure i → old.unsure i
 
--- What a write of these bytes does to an honest disk. Each of the new images is an old one with any
--- bytes in the written range. At Ok reads return the bytes there, and no failed write waits there.
--- After a failure the bytes there are unknown until they are written again.
+-- What a write of these bytes does to an honest disk. A crash after the write may leave whatever a
+-- crash before it might have left, with any bytes in the written range. At Ok reads return the
+-- written bytes there, and no failed write waits there. After a failure the bytes there are unknown
+-- until they are written again.
 pub record Writes {T E : Type 0}
     (at : ℕ) (bytes : List ℕ) (old new : DiskState) (result : Result T E) : Type 0 where
   pub elsewhere : SameOutside at (length bytes) old.now new.now
@@ -38,8 +39,8 @@ pub record Writes {T E : Type 0}
   pub unsure : OnErr result
       ((i : ℕ) → new.unsure i → old.unsure i ⊎ ((at ≤ i) × (i < at + length bytes)))
 
--- What a sync does to an honest disk: reads return the same bytes, and no image is added. At Ok the
--- disk is synced.
+-- What a sync does to an honest disk: reads return the same bytes, and a crash can leave nothing
+-- else than before. At Ok the disk is synced.
 pub record Syncs {T E : Type 0} (old new : DiskState) (result : Result T E) : Type 0 where
   pub now : new.now ≡ old.now
   pub images : (x : List ℕ) → new.images x → old.images x

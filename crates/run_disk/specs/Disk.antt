@@ -1,4 +1,4 @@
--- A disk at one moment: what reads give, and what a crash may leave or may have left.
+-- A disk at one moment: what reads return, and what a crash may leave or may have left.
 use Rattle.std.specs.Prelude.{◌≡◌, ◌<◌, ◌≤◌, ◌-◌, ◌^◌, ℕ, List, length, get_or}
 
 -- What contracts see of a disk.
@@ -9,13 +9,13 @@ pub record DiskState : Type 1 where
   pub now : List ℕ
   -- the contents that a crash now may leave
   pub images : List ℕ → Type 0
-  -- the contents that a crash at any moment since that one may have left, even inside a call
+  -- the contents that a crash at any moment since this one may have left, also during a call
   pub since : ℕ → List ℕ → Type 0
   -- the moment: the number of reads, writes and syncs so far
   pub clock : ℕ
   -- how many of them failed
   pub failures : ℕ
-  -- whether it keeps the clauses about its bytes
+  -- whether it keeps the promises about its bytes
   pub honest : Type 0
   -- the places of failed writes that weren't written again
   pub unsure : ℕ → Type 0
@@ -29,16 +29,16 @@ pub record IsDisk (s : DiskState) : Type 0 where
   pub size_fits : s.size < 2 ^ 64
   pub clock_fits : s.clock < 2 ^ 64
   pub failures_fit : s.failures ≤ s.clock
-  -- of an honest disk: all contents have its size, and a crash may leave what reads give
+  -- of an honest disk: all contents have its size, and a crash may leave what reads return
   pub size_now : s.honest → length s.now ≡ s.size
   pub size_image : s.honest → (x : List ℕ) → s.images x → length x ≡ s.size
   pub now_is_image : s.honest → s.images s.now
-  -- and it stays: what a crash may have left since a moment has that size too
+  -- what a crash since any moment may have left has that size, too
   pub size_since : s.honest → (t : ℕ) (x : List ℕ) → s.since t x → length x ≡ s.size
-  -- this moment is one of those since an earlier one, and there is no later one yet
+  -- the moments since an earlier one include this moment, and there is no later one yet
   pub counts_now : (t : ℕ) (x : List ℕ) → t ≤ s.clock → s.images x → s.since t x
   pub only_now : (x : List ℕ) → s.since s.clock x → s.images x
-  -- what a crash since a later moment may have left, one since an earlier moment may have left too
+  -- whatever a crash since moment u may have left, a crash since an earlier moment t may have left
   pub earlier :
       (t u : ℕ) (x : List ℕ) → t ≤ u → u ≤ s.clock → s.since u x → s.since t x
 
@@ -64,8 +64,8 @@ pub record Begins (bytes : List ℕ) (s : DiskState) : Type 0 where
   pub clock : s.clock ≡ 0
   pub failures : s.failures ≡ 0
 
--- Reads and the two counts are the same, a crash leaves nothing more, and no more places are
--- unsure.
+-- Nothing has changed: reads return the same bytes, both counts are the same, a crash can leave
+-- nothing else than before, and no further place is unsure.
 pub record IsSame (old new : DiskState) : Type 0 where
   pub now : new.now ≡ old.now
   pub images : (x : List ℕ) → new.images x → old.images x

@@ -1,4 +1,4 @@
--- A disk over another that fails some of its calls, as contracts see it.
+-- A disk over another one, some of whose calls it fails, as contracts see it.
 use Rattle.std.specs.Prelude.{◌≡◌, ℕ}
 use Rattle.run_disk.specs.declared.disks.RunDisk.{Ghosts}
 use Rattle.run_disk.specs.declared.failing_disks.FailingDisk.{FailingDisk}
@@ -9,11 +9,12 @@ use Rattle.run_disk.specs.Over.{Gap, Passes, moment_of, over}
 abbrev pub calls_cut : {D W : Type 0} {g : Ghosts D} → FailingDisk D W g → Gap
 calls_cut d = record { first = d.first; behind = d.behind }
 
--- The clock that the disk below had when this one was made over it.
+-- The clock of the disk below when this disk was made over it.
 abbrev pub clock_below : {D W : Type 0} {g : Ghosts D} → FailingDisk D W g → ℕ
 clock_below {g = g} d = (g.state d.made.value).clock
 
--- The state of this disk, in which its calls and their failures are its own.
+-- The state of this disk: its calls and failures are counted separately from those of the disk
+-- below.
 abbrev pub state_of : {D W : Type 0} {g : Ghosts D} → FailingDisk D W g → DiskState
 state_of {g = g} d =
     over (calls_cut d) (clock_below d) (g.state d.disk) d.tally.calls d.tally.failures
@@ -22,7 +23,7 @@ state_of {g = g} d =
 abbrev pub below : {D W : Type 0} {g : Ghosts D} → FailingDisk D W g → D
 below d = d.disk
 
--- The moment of the disk below that stands for this moment of this disk.
+-- The moment of the disk below that corresponds to this moment of this disk.
 abbrev pub moment_below : {D W : Type 0} {g : Ghosts D} → FailingDisk D W g → ℕ → ℕ
 moment_below d t = moment_of (calls_cut d) (clock_below d) t
 
@@ -30,7 +31,7 @@ moment_below d t = moment_of (calls_cut d) (clock_below d) t
 abbrev pub PassesNext : {D W : Type 0} {g : Ghosts D} → FailingDisk D W g → Type 0
 PassesNext d = Passes (calls_cut d) d.tally.calls
 
--- This disk fails the same calls, and its moments are the same ones of the disk below.
+-- Both fail the same calls, and their moments correspond to the same moments of the disk below.
 pub record IsSetAs {D W : Type 0} {g : Ghosts D} (old new : FailingDisk D W g) : Type 0 where
   pub calls : calls_cut new ≡ calls_cut old
   pub clock_below : clock_below new ≡ clock_below old

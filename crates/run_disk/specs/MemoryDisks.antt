@@ -8,6 +8,6 @@ use Rattle.run_disk.specs.Memory.{memory_state}
 abbrev pub state_of : {A : Type 0} → MemoryDisk A → DiskState
 state_of d = memory_state d.history d.tally.calls d.tally.failures
 
--- What this disk kept of its calls.
+-- What this disk has kept of its calls.
 abbrev pub history_of : {A : Type 0} → MemoryDisk A → History
 history_of d = d.history

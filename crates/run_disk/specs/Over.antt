@@ -1,4 +1,4 @@
--- A disk over another, which passes some of its calls on to it and fails the others by itself.
+-- A disk over another one: it passes some of its calls on, and fails the others by itself.
 use Rattle.std.specs.Prelude.{◌≡◌, ◌⊎◌, ◌≤◌, ◌<◌, ◌^◌, ◌+◌, ◌-◌, ◌↔◌, ℕ, List, Result, IsErr, min}
 use Rattle.std.proofs.Common.{arith, subst, sym}
 use Rattle.run_disk.specs.Disk.{DiskState, IsDisk, last_moment}
@@ -11,13 +11,13 @@ pub record Relays {D T E : Type 0}
   pub passed_on : passes → Calls (state old) (state new) result
   pub cut_off : (passes → ⊥) → IsErr result × (new ≡ old)
 
--- Whatever a crash of the one disk at any moment since t may have left, a crash of the other one
--- since the corresponding moment may have left, and vice versa.
+-- Whatever a crash at any moment since t may have left on one disk, a crash since the corresponding
+-- moment may have left on the other, and vice versa.
 abbrev pub LeftSame : (ℕ → ℕ) → DiskState → DiskState → Type 0
 LeftSame moment one other = (t : ℕ) (x : List ℕ) → one.since t x ↔ other.since (moment t) x
 
--- Both disks have the same size, reads return the same bytes of them, a crash now may leave the
--- same, and one is honest exactly if the other is.
+-- Both disks have the same size, reads of both return the same bytes, a crash now may leave the
+-- same on both, and one is honest exactly if the other is.
 pub record ShowsSame (one other : DiskState) : Type 0 where
   pub size : one.size ≡ other.size
   pub now : one.now ≡ other.now
@@ -28,22 +28,23 @@ pub record ShowsSame (one other : DiskState) : Type 0 where
   pub honest : one.honest → other.honest
   pub honest_back : other.honest → one.honest
 
--- The calls that such a disk fails by itself: from the first up to the one before `behind`. The
--- first call of all has number 0.
+-- The calls that such a disk fails by itself: from the first one up to the one before `behind`.
+-- Calls are counted from 0.
 pub record Gap : Type 0 where
   pub first : ℕ
   pub behind : ℕ
 
--- The disk passes this call on: it isn't spent then, and the call is not one that it fails.
+-- The disk passes this call on: it isn't spent at that moment, and the call isn't one of those that
+-- it fails.
 abbrev pub Passes : Gap → ℕ → Type 0
 Passes gap n = (n < last_moment) × ((n < gap.first) ⊎ (gap.behind ≤ n))
 
--- Of its first n calls the disk passes on this many.
+-- The number of calls that the disk passes on, of its first n.
 abbrev pub passed : Gap → ℕ → ℕ
 passed gap n = min gap.first n + (n - gap.behind)
 
--- The moment of the disk below that stands for moment n of this disk, if the disk below had the
--- clock `first` when this one was made over it.
+-- The moment of the disk below that corresponds to moment n of this disk, if the clock of the disk
+-- below was `first` when this disk was made over it.
 abbrev pub moment_of : Gap → ℕ → ℕ → ℕ
 moment_of gap first n = min last_moment (first + passed gap n)
 

@@ -1,8 +1,8 @@
 //! A [`RunDisk`] is a sequence of bytes that can be read, written and synced. A [`DiskFailed`]
 //! reports that a call failed.
 //!
-//! Between two syncs, a crash may leave any bytes in a range that was written, and leaves the
-//! places outside as they were. After a sync, a crash leaves what reads return.
+//! After a write that wasn't synced, a crash may leave any bytes in the written range, and leaves
+//! the other places as they were. After a sync, a crash leaves what reads return.
 
 ghost use Rattle.std.specs.Prelude.{◌≡◌, ◌≤◌, ◌+◌, length, OnOk, Some, slice_range};
 ghost use Rattle.run_disk.specs.Disk.{DiskState, IsDisk};
@@ -12,7 +12,7 @@ use run_model::Fault;
 use std::error::Error;
 use std::fmt;
 
-/// A call of the device failed. It is printed as the fault `fault 2 DiskFailed`.
+/// Reports that a call of the device failed. It is printed as `fault 2 DiskFailed`.
 #[derive(Clone, Copy, Debug, PartialEq, Eq)]
 pub struct DiskFailed;
 

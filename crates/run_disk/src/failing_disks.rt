@@ -77,7 +77,7 @@ impl<D: RunDisk, W> FailingDisk<D, W> {
     ghost use Rattle.run_disk.specs.FailingDisks.{below, calls_cut, clock_below, moment_below};
     ghost use Rattle.run_disk.specs.FailingDisks.{PassesNext, state_of};
 
-    /// Makes a disk over this one. The calls from `first` up to the one before `behind` fail.
+    /// Makes a disk over this one that fails the calls from `first` up to the one before `behind`.
     fn over(disk: D, first: u64, behind: u64) -> FailingDisk<D, W>
         requires { first ≤ behind }
         ensures cut { calls_cut result ≡ record { first = first; behind = behind } }

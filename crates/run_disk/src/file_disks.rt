@@ -1,8 +1,9 @@
 //! A [`FileDisk`] is a disk over a file.
 //!
 //! Nothing is known here about the bytes of a file. So such a disk isn't called honest: its
-//! contracts only promise its size, its counts and its safety. A program that relies on it has to
-//! assume that nobody else writes the file, and that the file behaves like a disk.
+//! contracts promise only its size, its counts, and that no call panics. A program that relies on
+//! such a disk has to assume that nobody else writes to the file, and that the file behaves like a
+//! disk.
 //!
 //! A Linux file behaves like a disk only until a sync of it fails. After that the system treats the
 //! pages that it couldn't write as if they were written: reads still return them, a later sync
@@ -113,7 +114,7 @@ impl RunDisk for FileDisk {
     }
 }
 
-/// The result of a call of the file: whatever its error, the device failed. The first is kept.
+/// Returns `DiskFailed` for an error of the system, and keeps the first such error.
 fn or_failed(done: io::Result<()>, first: &mut Option<io::Error>) -> Result<(), DiskFailed>
     ensures { is_ok result ≡ is_ok done }
 {

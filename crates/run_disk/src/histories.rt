@@ -1,4 +1,4 @@
-//! What a disk in memory keeps of its calls: a [`History`].
+//! What a disk in memory remembers of its calls: a [`History`].
 //!
 //! A moment is the number of calls that were made before it.
 
@@ -29,8 +29,8 @@ impl<A: Allocator> Model for Written<A> {
 }
 
 impl<A: Allocator> Written<A> {
-    /// Puts over `window`, which begins at the place `from`, what a crash after the first `calls`
-    /// calls leaves of this write.
+    /// Puts what a crash after the first `calls` calls leaves of this write over `window`, which
+    /// begins at the place `from`.
     fn leave(&self, from: usize, window: &mut [u8], syncs: &[u64], calls: u64, torn: Torn)
         ensures { PutsOver from self.now.at (left_of torn syncs.now calls self.now)
             window.old window.new }
@@ -46,15 +46,15 @@ impl<A: Allocator> Written<A> {
     }
 }
 
-/// Returns whether a sync was made after this moment, among the first `calls` calls.
+/// Returns whether one of the first `calls` calls was a sync, made after this moment.
 fn is_followed(moment: u64, syncs: &[u64], calls: u64) -> bool
     ensures { result ≡ is_synced syncs.now calls moment }
 {
     syncs.iter().any(|sync| moment < *sync && *sync < calls)
 }
 
-/// Puts over `window`, which begins at the place `from`, what the tearing leaves of these bytes,
-/// which begin at the place `at`.
+/// Puts what the tearing leaves of these bytes, which begin at the place `at`, over `window`, which
+/// begins at the place `from`.
 fn tear(window: &mut [u8], from: usize, at: usize, bytes: &[u8], torn: Torn)
     ensures { PutsOver from at (torn_bytes torn bytes.now) window.old window.new }
 {
@@ -78,7 +78,7 @@ fn put(window: &mut [u8], from: usize, at: usize, bytes: &[u8])
     }
 }
 
-/// Puts this value so many times, from the place `at` on, over `window`, which begins at `from`.
+/// Puts this value `times` times, from the place `at` on, over `window`, which begins at `from`.
 fn put_value(window: &mut [u8], from: usize, at: usize, times: usize, value: u8)
     ensures { PutsOver from at (replicate times value) window.old window.new }
 {
@@ -90,8 +90,8 @@ fn put_value(window: &mut [u8], from: usize, at: usize, times: usize, value: u8)
     }
 }
 
-/// What a disk in memory keeps: its first bytes, and the writes and syncs that succeeded. Zeros at
-/// the end of the first bytes need no memory.
+/// What a disk in memory remembers: the bytes with which it began, and the writes and syncs that
+/// succeeded. Zeros at the end of those bytes need no memory.
 #[derive(Drop)]
 pub struct History<A: Allocator> {
     // zeros fill them up to the disk's size
@@ -113,8 +113,8 @@ impl<A: Allocator> Model for History<A> {
     } };
 }
 
-/// Puts over `window`, which begins at the place `from`, what a crash after the first `calls` calls
-/// leaves of these writes.
+/// Puts what a crash after the first `calls` calls leaves of these writes over `window`, which
+/// begins at the place `from`.
 fn leave_all<A: Allocator>(
     writes: &[Written<A>],
     from: usize,
@@ -134,8 +134,8 @@ fn leave_all<A: Allocator>(
 }
 
 impl<A: Allocator> History<A> {
-    /// The history of a disk of this size before its first call. It begins with these bytes, and
-    /// zeros after them.
+    /// Returns the history of a disk of this size before its first call. The disk holds these
+    /// bytes, and zeros after them.
     pub fn new(alloc: A, first: Vec<u8, A>, size: usize) -> History<A>
     where
         A: Copy,
@@ -156,7 +156,7 @@ impl<A: Allocator> History<A> {
         self.size
     }
 
-    /// Keeps a write, unless memory is refused.
+    /// Records a write. An error means that memory for it was refused, and nothing has changed.
     pub fn keep_write(&mut self, moment: u64, at: usize, bytes: &[u8]) -> Result<(), AllocError>
     where
         A: Copy,
@@ -169,7 +169,7 @@ impl<A: Allocator> History<A> {
         Ok(())
     }
 
-    /// Keeps a sync, unless memory is refused.
+    /// Records a sync. An error means that memory for it was refused, and nothing has changed.
     pub fn keep_sync(&mut self, moment: u64) -> Result<(), AllocError>
         ensures ok { OnOk result (self.new ≡ and_sync self.old moment) }
         ensures err { OnErr result (self.new ≡ self.old) }
@@ -188,7 +188,8 @@ impl<A: Allocator> History<A> {
         leave_all(&self.writes, at, out, &self.syncs, calls, Torn::Take);
     }
 
-    /// What a crash after the first `calls` calls leaves, with each unsynced write torn this way.
+    /// Returns what a crash after the first `calls` calls leaves, if it tears each unsynced write
+    /// this way.
     pub fn image(&self, alloc: A, calls: u64, torn: Torn) -> Result<Vec<u8, A>, AllocError>
         ensures { IfOk result (λ image. IsTornImage torn self.now calls image.items) }
     {

@@ -1,6 +1,6 @@
 //! Disks of a fixed size, with four calls: size, read, write and sync.
 //!
-//! The ghost side of [`RunDisk`] states what reads return, what a crash may leave now, and what a
+//! The ghost side of [`RunDisk`] says what reads return, what a crash may leave now, and what a
 //! crash since an earlier moment may have left. A gate ([`OPEN`], [`CLOSED`]) is a single byte of a
 //! disk, so no crash can leave it half written.
 #![tactic(auto)]

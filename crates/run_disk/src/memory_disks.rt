@@ -1,6 +1,6 @@
-//! A [`MemoryDisk`] is a disk in memory. It keeps the bytes with which it began, and each write and
-//! sync since. From these it computes what a read returns, and what a crash after any of its calls
-//! leaves.
+//! A [`MemoryDisk`] is a disk in memory. It remembers the bytes with which it began, and each write
+//! and sync since then. From these it computes what a read returns, and what a crash after any of
+//! its calls leaves.
 
 ghost use Rattle.std.specs.Prelude.{◌≡◌, ◌≤◌, ◌+◌, length, slice_range, IfOk, IfErr, OnOk, OnErr};
 ghost use Rattle.std.specs.List.{All};
@@ -18,9 +18,9 @@ use crate::tears::Torn;
 use run_model::Fault;
 use std::alloc::{Allocator, Global};
 
-/// A disk in memory, which is honest. A write or a sync fails if memory for it is refused. Then it
-/// is counted, and changes neither the bytes nor what a crash may leave. A read looks at each write
-/// so far.
+/// A disk in memory, which is honest. If memory for a write or a sync is refused, the call fails
+/// and is counted, but changes neither the bytes nor what a crash may leave. The cost of a read
+/// grows with the number of writes so far.
 #[derive(Drop)]
 pub struct MemoryDisk<A: Allocator = Global> {
     history: History<A>,
@@ -70,9 +70,9 @@ impl<A: Allocator + Copy> MemoryDisk<A> {
         self.tally.calls
     }
 
-    /// Returns what a crash after the first `after_calls` calls leaves, if it tears each write that
-    /// wasn't synced in this way. It is one of the contents that the disk then said a crash may
-    /// leave. The call copies the disk once, and looks for a sync after each write.
+    /// Returns what a crash after the first `after_calls` calls leaves, if it tears each unsynced
+    /// write in this way. It is one of the contents that a crash at that moment might have left.
+    /// The call copies the disk once, and searches for a sync after each write.
     pub fn image(&self, alloc: A, after_calls: u64, torn: Torn) -> Result<Vec<u8, A>, Fault>
         requires { after_calls ≤ (⟦<MemoryDisk<A> as RunDisk>⟧.state self.now).clock }
         ensures bytes { IfOk result (λ image.

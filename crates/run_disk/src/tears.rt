@@ -9,6 +9,6 @@ pub enum Torn {
     Take,
     /// This value in each of its bytes.
     Fill(u8),
-    /// The first bytes of the write, as many as the number says, or all if there are fewer.
+    /// A prefix of the write with this number of bytes; all of it if it is shorter.
     Front(usize),
 }
