@@ -33,7 +33,7 @@ not_root t s row rooted found is same =
     same_Some root row (sym rooted ∙ ap (slice_get t.scopes) same ∙ found) in
     both_ways (can_be_hit row.kind) (ap (λ r. can_be_hit r.kind) (sym here)) is
 
--- A cancelled scope of a kind that can be hit.
+-- A canceled scope of a kind that can be hit.
 pub hit_cancelled : (e s : ℕ) (cause : Option (List ℕ)) (t : TreeState) → 1 ≤ e
     → slice_get t.scopes 0 ≡ Some root → has_kind can_be_hit t s ≡ true → AreRight e t
     → IsHit e t (after_cancel e s cause t)

@@ -1,4 +1,4 @@
--- Hits stay on scopes that can be cancelled, of the past, and as deadlines want them.
+-- Hits stay on scopes that can be canceled, of the past, and as deadlines want them.
 use Rattle.run_model.proofs.Common.{◌≡◌, ◌≤◌, ℕ, Bool, true, false, List, Option, Some, None}
 use Rattle.run_model.proofs.Common.{slice_get, inl, inr, refl, sym, ap, ◌∙◌, arith, option_map_or}
 use Rattle.run_model.proofs.Common.{option_and_then, option_or, is_some, nat_le, IsSome}
@@ -227,7 +227,7 @@ right_cancelled e s hit t new right k row found =
           (new here.old (rw (here.here) at here.found)))
     ]
 
--- A cancellation is right on each scope that can be cancelled.
+-- A cancellation is right on each scope that can be canceled.
 pub right_cancellation : (e clock : ℕ) (cause : Option (List ℕ)) (of : Kind) → 1 ≤ e
     → can_be_hit of ≡ true → IsRightHit e clock of (new_hit e clock Canceled cause)
 right_cancellation e clock cause of counted is = record {

@@ -4,7 +4,7 @@ use Rattle.run_model.specs.declared.groups.Group.{Group}
 use Rattle.run_model.specs.Rules.{IsConsistent, HasRow}
 use Rattle.run_model.specs.State.{State}
 
--- In a consistent state, this group has an error or was waited for.
+-- The state is consistent, and group g has an error or was waited for.
 pub record HasGroupEnded (p : State) (g : ℕ) : Type 0 where
   pub kept : IsConsistent p
   pub row : Group

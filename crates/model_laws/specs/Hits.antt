@@ -1,4 +1,4 @@
--- Where a hit reaches.
+-- How far a hit reaches.
 use Rattle.std.specs.Prelude.{◌≡◌, ℕ, ◌==◌, Bool, true, false, not, ◌&&◌, if◌then◌else◌, List, []}
 use Rattle.std.specs.Prelude.{◌∷◌, is_some, IsSome, slice_get}
 use Rattle.std.specs.List.{list_any}
@@ -8,20 +8,20 @@ use Rattle.run_model.specs.Scopes.{is_detached, line, chain, own_hit, is_done}
 
 -- ---- places on a line
 
--- Scope n stands on this line or chain.
+-- Scope n is on this line or chain.
 abbrev pub is_on : ℕ → List (ℕ × Scope) → Bool
 is_on n rows = list_any (λ r. r.0 == n) rows
 
--- The scopes of a line that stand below scope n.
+-- The scopes of a line that are below scope n.
 abbrev pub below : ℕ → List (ℕ × Scope) → List (ℕ × Scope)
 below n [] = []
 below n (r ∷ rows) = if r.0 == n then [] else r ∷ below n rows
 
--- A detached scope stands among these.
+-- One of these scopes is detached.
 abbrev pub has_detached : List (ℕ × Scope) → Bool
 has_detached rows = list_any (λ r. is_detached r.1.kind) rows
 
--- A scope that was hit stands among these.
+-- One of these scopes was hit.
 abbrev pub has_hit : List (ℕ × Scope) → Bool
 has_hit rows = list_any (λ r. is_some r.1.hit) rows
 
@@ -37,24 +37,24 @@ IsAttached rows n = is_detached_at rows n ≡ false
 abbrev pub is_cut_off : List Scope → ℕ → ℕ → Bool
 is_cut_off rows n s = has_detached (below n (line rows s))
 
--- ---- what a hit of scope n does
+-- ---- the effect of a hit on scope n
 
 -- Every scope with n on its chain is done.
 abbrev pub EndsBelow : List Scope → ℕ → Type 0
 EndsBelow rows n = (s : ℕ) → is_on n (chain rows s) ≡ true → is_done rows s ≡ true
 
--- Scope n is on the chain of those below it that aren't cut off, and of no other.
+-- Scope n is on the chain of each scope below it that isn't cut off, and on no other chain.
 abbrev pub IsOnChains : List Scope → ℕ → Type 0
 IsOnChains rows n = (s : ℕ)
     → is_on n (chain rows s) ≡ (is_on n (line rows s) && not (is_cut_off rows n s))
 
--- A scope below n without it on its chain is detached, or has a detached scope between.
+-- A scope below n whose chain lacks n is detached, or a detached scope is between the two.
 abbrev pub EndsAllButCutOff : List Scope → ℕ → Type 0
 EndsAllButCutOff rows n = (s : ℕ) → is_on n (line rows s) ≡ true → is_on n (chain rows s) ≡ false
     → is_cut_off rows n s ≡ true
 
--- A hit reaches down: every scope with it on its chain is done, and a scope below it without it on
--- its chain is detached, or has a detached scope between.
+-- A hit on scope n reaches down: every scope that has n on its chain is done, and a scope below n
+-- whose chain lacks n is detached, or a detached scope is between the two.
 pub record ReachesDown (rows : List Scope) (n : ℕ) : Type 0 where
   pub ends : EndsBelow rows n
   pub cut : EndsAllButCutOff rows n

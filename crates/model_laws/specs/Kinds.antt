@@ -1,4 +1,4 @@
--- The events that no command asks for: a start, a finish and a restart.
+-- The events that no command makes: a start, a finish and a restart.
 use Rattle.std.specs.Prelude.{Bool, true, false}
 use Rattle.run_model.specs.Event.{Event}
 use Rattle.run_model.specs.Event as event

@@ -34,7 +34,8 @@ pub fn what_is_made_is_seen()
 {}
 
 /// A submitted task is found at the number and in the phase that the answer gives. After a try that
-/// phase is ready. A retry has the group, the job and the argument of the old task, and names it.
+/// phase is ready. A retry has the group, the job and the argument of the old task, and a link to
+/// it.
 pub fn what_is_submitted_is_seen()
     ensures go { (s : Session) (group job argument : List ℕ) (n : ℕ) (told : Phase) (q : State)
         → Answered s (command.Go group job argument) (answer.Task n told) q

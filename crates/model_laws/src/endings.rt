@@ -25,8 +25,8 @@ pub fn reasons_and_causes_stay()
         → cause_of old s ≡ Some cause → cause_of new s ≡ Some cause }
 {}
 
-/// If an event comes after all hits of a tree, its change of the tree leaves every ending as it
-/// was.
+/// If the number of an event is greater than those of all hits of a tree, its change of the tree
+/// leaves every ending as it was.
 pub fn changes_keep_endings()
     ensures derive { DerivesKeepEndings }
     ensures cancel { CancelsKeepEndings }

@@ -1,5 +1,5 @@
-//! How far a hit reaches: every scope that has it on its chain is done. Only a detached scope keeps
-//! the scopes below it out of reach.
+//! How far a hit on a scope reaches: every scope that has this scope on its chain is done. Only a
+//! detached scope shields the scopes below it.
 
 ghost use Rattle.std.specs.Prelude.{◌≡◌, ℕ, List, IsSome};
 ghost use Rattle.run_model.specs.declared.scopes.Scope.{Scope};
@@ -14,8 +14,8 @@ pub fn a_scope_is_done_by_a_hit_on_its_chain()
     ensures { (rows : List Scope) (s : ℕ) → is_done rows s ≡ has_hit (chain rows s) }
 {}
 
-/// A scope that isn't detached is on the chain of each scope below it that no detached scope cuts
-/// off.
+/// A scope that isn't detached is on the chain of each scope below it, unless the lower one is cut
+/// off by a detached scope.
 pub fn a_detached_scope_cuts_chains()
     ensures { (rows : List Scope) (n : ℕ) → IsAttached rows n → IsOnChains rows n }
 {}

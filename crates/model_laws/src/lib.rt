@@ -8,8 +8,8 @@
 //! - Scopes and runs: what holds in every well formed state (parents have lower numbers, and hits
 //!   are in the past), and through every event.
 //! - States: what every event keeps of groups, tasks and retries, and what a restart changes.
-//! - Replies: what is decided is what is allowed, what is refused changes nothing, and the log
-//!   always has room for the finishes.
+//! - Replies: what is decided is what is allowed, what is refused changes nothing, and the finishes
+//!   of running tasks always fit into the log.
 #![tactic(auto)]
 
 // Scopes and runs.

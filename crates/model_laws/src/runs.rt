@@ -5,8 +5,8 @@ ghost use Rattle.run_model.specs.State.{State, formatted};
 ghost use Rattle.run_model.specs.Rules.{IsWellFormed, IsConsistent};
 ghost use Rattle.model_laws.specs.Runs.{RunsJoin, RunsCount, EventsKeep, RunsKeep};
 
-/// To run two lists joined means to run the first one, and then the second one from the state to
-/// which the first one led.
+/// Running two lists joined has the same result as running the first list, and then the second one
+/// from the state to which the first one led.
 pub fn runs_join()
     ensures { RunsJoin }
 {}

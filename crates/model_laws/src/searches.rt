@@ -1,5 +1,5 @@
-//! The row of a scope and the results for its parent determine each search upwards: it is one step
-//! from the parent. The first hit is the first one on the chain.
+//! Each search upwards from a scope is one step from its parent: the row of the scope and the
+//! parent's result determine the result. The first hit is the first one on the chain.
 
 ghost use Rattle.std.specs.Prelude.{◌≡◌, ℕ, List};
 ghost use Rattle.run_model.specs.declared.scopes.Scope.{Scope};
@@ -7,7 +7,7 @@ ghost use Rattle.run_model.specs.Scopes.{line, chain, first_hit, deadline_of};
 ghost use Rattle.model_laws.specs.Searches.{OfEachScope, line_from, chain_from, first_hit_from};
 ghost use Rattle.model_laws.specs.Searches.{deadline_from, HasValuesFrom, IsFirstTheLeast};
 
-/// A line goes up to root, and a chain up to the first detached scope.
+/// A line goes up to root, and a chain goes up to the first detached scope.
 pub fn lines_go_up()
     ensures line { OfEachScope (λ rows s row. line rows s ≡ line_from rows s row) }
     ensures chain { OfEachScope (λ rows s row. chain rows s ≡ chain_from rows s row) }

@@ -56,8 +56,9 @@ pub fn a_running_task_can_finish()
         → s.log + record_len (Finish n outcome) ≤ SESSION_LEN }
 {}
 
-/// When a state is opened that has no more tasks than a store holds, the log has its reserve, and
-/// it keeps the reserve at every step. So the log never grows beyond its greatest length.
+/// When a state is opened that has no more tasks than a store can hold, the log has enough free
+/// bytes for the finishes of the running tasks, and every step keeps it so. So the log never
+/// exceeds its greatest length.
 pub fn the_log_keeps_its_reserve()
     ensures opening { (p : State) → length p.work.tasks ≤ MOST_TASKS → HasReserve (begun_at p) }
     ensures steps { (s : Session) (steps : List Step) → list_all can_be_written steps ≡ true

@@ -1,11 +1,11 @@
-//! The head of an image: what stands in front of the rows.
+//! The head of an image, which comes before the rows.
 //!
 //! | Bytes | What |
 //! |---|---|
 //! | 1 | version, 1 or 2 |
 //! | 8 | clock, a moment |
 //! | 8 | the count of events, below 2^63 |
-//! | 2, 2, 2 | how many rows of scopes (root has none), groups and tasks follow |
+//! | 2, 2, 2 | the numbers of rows of scopes (without root), groups and tasks |
 
 ghost use Rattle.std.specs.Prelude.{◌≡◌, ◌≤◌, ◌+◌, length, IfSome, IsTrue};
 ghost use Rattle.std.specs.Option.{option_map};
@@ -19,8 +19,8 @@ use row_view::puts::{put_byte, put_u16, put_u64};
 use row_view::{ImageHead, ImageVersion};
 use run_model::{Layout, MOST_GROUPS};
 
-/// Returns the head that the bytes begin with, and the bytes after it; `None` exactly when they
-/// begin with no head whose rows are within the limits of this layout.
+/// Returns the head with which the bytes begin, and the bytes after it; `None` exactly if they
+/// begin with no head whose numbers of rows are within the limits of this layout.
 pub fn read_head(bytes: &[u8], layout: Layout) -> Option<(ImageHead, &[u8])>
     ensures value { option_map (λ x. (x.0, x.1.now)) result ≡ head_at layout bytes.now }
     ensures kept { IfSome result (λ x. IsTrue (is_kept_head layout x.0)) }
@@ -28,8 +28,8 @@ pub fn read_head(bytes: &[u8], layout: Layout) -> Option<(ImageHead, &[u8])>
     read_head_fields(bytes, layout)
 }
 
-/// Puts the head of an image at a place, in version 2 whatever version it was read in, and returns
-/// the place after it.
+/// Writes the head of an image at a place, and returns the place after it. It is written in version
+/// 2, even if it was read in version 1.
 pub fn put_head(out: &mut [u8], at: usize, head: &ImageHead) -> usize
     requires room { at + 23 ≤ length out.old }
     ensures end { result ≡ at + 23 }
@@ -89,7 +89,7 @@ fn read_count(bytes: &[u8]) -> Option<(u64, &[u8])>
     Some((count, rest))
 }
 
-/// Returns a number of rows, which is below the bound, and the bytes after it.
+/// Returns a number of rows that is below the bound, and the bytes after it.
 #[tactic(auto, unfolding(row_view::specs::RowReading::fewer_at))]
 fn read_fewer(bytes: &[u8], bound: usize) -> Option<(u16, &[u8])>
     ensures { option_map (λ x. (x.0, x.1.now)) result ≡ fewer_at bound bytes.now }

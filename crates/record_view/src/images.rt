@@ -1,4 +1,4 @@
-//! The laws of images: each function has an empty body, and its clause is the law.
+//! The laws of images. Each function has an empty body, and its clauses are the law.
 
 ghost use Rattle.std.specs.Prelude.{◌≡◌, ◌≤◌, ◌∷◌, ◌++◌, List, ℕ, Some, IsTrue, length};
 ghost use Rattle.std.specs.Option.{option_map};
@@ -38,7 +38,7 @@ pub fn the_greatest_images_have_these_sizes()
     ensures large { greatest_image Two Large ≡ 1913559 }
 {}
 
-/// A state has only one image of each version, and no image has more bytes than the greatest one.
+/// A state has exactly one image in each version, and no image is longer than the greatest one.
 pub fn a_state_has_one_image()
     ensures one { (version : ImageVersion) (layout : Layout) (bytes other : List ℕ) (p : State) →
         IsImage version layout bytes p → IsImage version layout other p → bytes ≡ other }
@@ -46,14 +46,14 @@ pub fn a_state_has_one_image()
         IsImage version layout bytes p → length bytes ≤ greatest_image version layout }
 {}
 
-/// In a given layout, an image has only one state and one version.
+/// In a given layout, an image belongs to one state and one version only.
 pub fn an_image_has_one_state()
     ensures { (version other : ImageVersion) (layout : Layout) (bytes : List ℕ) (p q : State) →
         IsImage version layout bytes p → IsImage other layout bytes q →
         (version ≡ other) × (p ≡ q) }
 {}
 
-/// Rows that were written are read back, whatever comes after them.
+/// Rows that were written are read back correctly, whatever comes after them.
 pub fn written_rows_are_read()
     ensures head { (layout : Layout) (head : ImageHead) (rest : List ℕ) →
         IsTrue (is_kept_head layout head) →
@@ -67,7 +67,8 @@ pub fn written_rows_are_read()
         task_at version (task_bytes version row ++ rest) ≡ Some (row, rest) }
 {}
 
-/// Rows that are read are spelled as they would be written, and the rest is what comes after them.
+/// If bytes are read as a row and a rest, they are that row as it would be written, followed by the
+/// rest.
 pub fn read_rows_are_written()
     ensures head { (layout : Layout) (head : ImageHead) (bytes rest : List ℕ) →
         head_at layout bytes ≡ Some (head, rest) →

@@ -1,4 +1,4 @@
--- The rules between scopes and groups, as a test of both row lists.
+-- The rules between scopes and groups, as a test of both lists of rows.
 use Rattle.std.specs.Prelude.{ℕ, ◌==◌, Bool, false, not, ◌&&◌, ◌||◌, List, is_some, slice_get}
 use Rattle.std.specs.List.{list_any}
 use Rattle.std.specs.Option.{option_map_or}
@@ -8,8 +8,8 @@ use Rattle.run_model.specs.declared.groups.Group.{Group}
 use Rattle.run_model.specs.Scopes.{is_group_kind}
 use Rattle.row_view.specs.WorkRows.{each_passes}
 
--- The scope belongs to the group: it has the kind that groups' scopes have, and the group's name,
--- and is hit if the group has an error or was waited for.
+-- The scope belongs to the group: it has the kind of a group's scope and the group's name, and it
+-- is hit if the group has an error or was waited for.
 abbrev pub belongs : Group → Scope → Bool
 belongs group scope =
     is_group_kind scope.kind && bytes_eq group.name scope.name
@@ -24,11 +24,11 @@ fits_scope scopes group =
 abbrev pub lives_in : ℕ → Group → Bool
 lives_in s group = not group.bare && group.scope == s
 
--- A scope of the kind that groups have is the scope of some group that isn't bare.
+-- A scope of the kind Group is the scope of some group that isn't bare.
 abbrev pub has_group : List Group → ℕ → Scope → Bool
 has_group groups s scope = not (is_group_kind scope.kind) || list_any (lives_in s) groups
 
--- Each group fits its scope, and each scope of the kind that groups have has a group.
+-- Each group fits its scope, and each scope of the kind Group has a group.
 abbrev pub fits_between : List Scope → List Group → Bool
 fits_between scopes groups =
     each_passes (λ g group. fits_scope scopes group) 0 groups

@@ -39,15 +39,15 @@ abbrev pub reason_bytes : Reason → List ℕ
 reason_bytes Canceled = 1 ∷ []
 reason_bytes DeadlineExceeded = 2 ∷ []
 
--- A hit is one byte, and after a 1 the event's number and the moment, in eight bytes each, the
--- reason and the cause.
+-- A hit is one byte. After a 1 come the number of the event and the moment, in eight bytes each,
+-- the reason and the cause.
 abbrev pub hit_bytes : Option Hit → List ℕ
 hit_bytes None = 0 ∷ []
 hit_bytes (Some hit) =
     1 ∷ to_be_bytes w64 hit.event ++ to_be_bytes w64 hit.moment ++ reason_bytes hit.reason
     ++ text_bytes hit.cause
 
--- A stage is one byte, and after a failure its text.
+-- A stage is one byte, followed by the text of a failure.
 abbrev pub stage_bytes : Stage → List ℕ
 stage_bytes stage.Fresh = 0 ∷ []
 stage_bytes stage.Running = 1 ∷ []
@@ -88,14 +88,14 @@ abbrev pub version_bytes : ImageVersion → List ℕ
 version_bytes One = 1 ∷ []
 version_bytes Two = 2 ∷ []
 
--- A head is the version, the clock and the count of events, in eight bytes each, and how many rows
--- there are of scopes, groups and tasks, in two each.
+-- A head is the version, the clock and the count of events, in eight bytes each, and the numbers of
+-- rows of scopes, groups and tasks, in two bytes each.
 abbrev pub head_bytes : ImageHead → List ℕ
 head_bytes head =
     version_bytes head.version ++ to_be_bytes w64 head.clock ++ to_be_bytes w64 head.count
     ++ to_be_bytes w16 head.scopes ++ to_be_bytes w16 head.groups ++ to_be_bytes w16 head.tasks
 
--- A head in one of the versions.
+-- The head in this version.
 abbrev pub in_version : ImageVersion → ImageHead → ImageHead
 in_version version head = record head { version = version }
 
@@ -110,14 +110,13 @@ head_of version p = record {
   tasks = length p.work.tasks;
 }
 
--- The image of a state in one of the versions: the head, and the rows in the order of their
--- numbers.
+-- The image of a state in this version: the head, and the rows in the order of their numbers.
 abbrev pub image_in : ImageVersion → State → List ℕ
 image_in version p =
     head_bytes (head_of version p) ++ flat_map scope_bytes (drop 1 p.tree.scopes)
     ++ flat_map group_bytes p.work.groups ++ flat_map (task_bytes version) p.work.tasks
 
--- The image of a state is written in version 2.
+-- The image of a state, which is written in version 2.
 abbrev pub image : State → List ℕ
 image p = image_in Two p
 
@@ -128,7 +127,7 @@ abbrev pub is_kept_kind : Kind → Bool
 is_kept_kind kind.Group = true
 is_kept_kind other = is_recorded_kind other
 
--- There is no hit, or its fields are in range. Every reason is in range.
+-- There is no hit, or the fields of the hit are in range. Every reason is in range.
 abbrev pub is_kept_hit : Option Hit → Bool
 is_kept_hit None = true
 is_kept_hit (Some hit) =
@@ -171,13 +170,13 @@ is_kept_head layout head =
 
 -- ---- lengths
 
--- A task's row has 134 bytes at most, and two more with its link.
+-- The greatest length of a task's row: 134 bytes, and two more for the link in version 2.
 abbrev pub task_most : ImageVersion → ℕ
 task_most One = 134
 task_most Two = 136
 
--- The most bytes of an image: a head has 23, a group's row 103 at most, and a scope's 192 if only
--- the kinds that can be hit have a hit.
+-- The greatest length of an image: a head has 23 bytes, a group's row at most 103, and a scope's
+-- row at most 192, because only the kinds that can be hit have a hit.
 abbrev pub greatest_image : ImageVersion → Layout → ℕ
 greatest_image version layout =
     23 + 192 * (most_scopes layout - 1) + 103 * MOST_GROUPS

@@ -1,4 +1,4 @@
--- Which bytes are the image of which state.
+-- When bytes are the image of a state.
 use Rattle.std.specs.Prelude.{◌≡◌, ℕ, List, drop, IsTrue}
 use Rattle.std.specs.List.{AllByRecursion}
 use Rattle.run_model.specs.declared.layouts.Layout.{Layout}

@@ -1,4 +1,4 @@
--- Reading a row off the front of some bytes.
+-- Reading a row from the beginning of some bytes.
 use Rattle.std.specs.Prelude.{ℕ, ◌+◌, nat_lt, ◌==◌, Bool, true, false, if◌then◌else◌, List, ◌^◌}
 use Rattle.std.specs.Prelude.{Option, Some, None}
 use Rattle.std.specs.Int.{w16, w64}
@@ -24,7 +24,7 @@ use Rattle.row_view.specs.declared.heads.ImageVersion.TheVariants.{One, Two}
 
 -- ---- several in a row
 
--- Four, five and six values, from which another is made.
+-- Four values, from which another one is made; in the same way five, and six.
 abbrev pub four :
     {A B C D X : Type 0} → Reader A → Reader B → Reader C → Reader D → (A → B → C → D → X)
     → Reader X
@@ -83,7 +83,7 @@ reason_at bytes = do
   b ← byte_at bytes
   reason_by b.0 b.1
 
--- The kind of a row that this byte stands for.
+-- The kind of a row that begins with this byte.
 abbrev pub row_kind_by : ℕ → Reader Kind
 row_kind_by b bytes = if b == 6 then Some (kind.Group, bytes) else kind_by b bytes
 
@@ -93,7 +93,7 @@ row_kind_at bytes = do
   b ← byte_at bytes
   row_kind_by b.0 b.1
 
--- The hit of these fields.
+-- The hit with these fields.
 abbrev pub hit_made : ℕ → ℕ → Reason → List ℕ → Hit
 hit_made event moment reason cause =
     record { event = event; moment = moment; reason = reason; cause = cause }
@@ -102,7 +102,7 @@ hit_made event moment reason cause =
 unfoldable pub hit_fields_at : Reader Hit
 hit_fields_at = four (number_at w64) moment_at reason_at (text_at is_text) hit_made
 
--- The hit, or none, that this byte stands for.
+-- The hit that begins with this byte, or none.
 unfoldable pub hit_by : ℕ → Reader (Option Hit)
 hit_by b bytes =
     if b == 0 then Some (None, bytes) else (if b == 1 then one hit_fields_at Some bytes else None)
@@ -113,7 +113,7 @@ hit_at bytes = do
   b ← byte_at bytes
   hit_by b.0 b.1
 
--- The stage that this byte stands for.
+-- The stage that begins with this byte.
 unfoldable pub stage_by : ℕ → Reader Stage
 stage_by b bytes =
     if b == 0 then Some (stage.Fresh, bytes) else
@@ -132,7 +132,7 @@ stage_at bytes = do
 unfoldable pub link_by : ℕ → Reader (Option ℕ)
 link_by n bytes = if n == 65535 then Some (None, bytes) else Some (Some n, bytes)
 
--- A link; none, and no bytes, in version 1.
+-- A link. In version 1 it has no bytes, and there is none.
 unfoldable pub link_at : ImageVersion → Reader (Option ℕ)
 link_at One bytes = Some (None, bytes)
 link_at Two bytes = do
@@ -141,7 +141,7 @@ link_at Two bytes = do
 
 -- ---- rows
 
--- The scope of these fields.
+-- The scope with these fields.
 abbrev pub scope_made : List ℕ → ℕ → Kind → Option Hit → Scope
 scope_made name parent kind hit =
     record { name = name; parent = parent; kind = kind; hit = hit }
@@ -150,7 +150,7 @@ scope_made name parent kind hit =
 unfoldable pub scope_at : Reader Scope
 scope_at = four (text_at is_name) (number_at w16) row_kind_at hit_at scope_made
 
--- The group of these fields.
+-- The group with these fields.
 abbrev pub group_made : List ℕ → ℕ → Bool → Option ℕ → Bool → Option (List ℕ) → Group
 group_made name scope bare limit waited error = record {
   name = name;
@@ -166,7 +166,7 @@ unfoldable pub group_row_at : Reader Group
 group_row_at =
     six (text_at is_name) (number_at w16) flag_at limit_at flag_at optional_at group_made
 
--- The task of these fields.
+-- The task with these fields.
 abbrev pub task_made : ℕ → List ℕ → List ℕ → Stage → Option ℕ → Task
 task_made group job argument stage retry_of = record {
   group = group;
@@ -200,13 +200,13 @@ count_at bytes = do
   count ← number_at w64 bytes
   if nat_lt count.0 (2 ^ 63) then Some count else None
 
--- A number of rows, which is below the bound.
+-- A number of rows below the bound.
 unfoldable pub fewer_at : ℕ → Reader ℕ
 fewer_at bound bytes = do
   n ← number_at w16 bytes
   if nat_lt n.0 bound then Some n else None
 
--- The head of these fields.
+-- The head with these fields.
 abbrev pub head_made : ImageVersion → ℕ → ℕ → ℕ → ℕ → ℕ → ImageHead
 head_made version clock count scopes groups tasks = record {
   version = version;
@@ -217,7 +217,7 @@ head_made version clock count scopes groups tasks = record {
   tasks = tasks;
 }
 
--- The head of an image, in a store of this layout.
+-- The head of an image in a store of this layout.
 unfoldable pub head_at : Layout → Reader ImageHead
 head_at layout =
     six version_at moment_at count_at (fewer_at (most_scopes layout)) (fewer_at (MOST_GROUPS + 1))

@@ -1,4 +1,4 @@
--- What the view of a row shows, and where its names and texts stand.
+-- What the view of a row shows, and at which places its names and texts are.
 use Rattle.std.specs.Prelude.{ℕ, ◌+◌, List, [], ◌∷◌, ◌++◌, length, Option, Some, None}
 use Rattle.std.specs.Option.{option_copied, option_map}
 use Rattle.run_model.specs.declared.scopes.Hit.{Hit}
@@ -63,7 +63,8 @@ task_of view = record {
   retry_of = view.retry_of;
 }
 
--- The text of a hit: after its byte, two numbers, the reason and a byte of length.
+-- The text of a hit, which comes after the hit's byte, two numbers, the reason and a byte for the
+-- length.
 abbrev pub hit_texts : ℕ → Option HitView → List PlacedText
 hit_texts place None = []
 hit_texts place (Some hit) = (place + 19, hit.cause) ∷ []
@@ -75,17 +76,17 @@ scope_texts place row =
     ∷ kind_texts (place + 3 + length row.name.now) row.kind
     ++ hit_texts (place + 3 + length row.name.now + kind_len (kind_of row.kind)) row.hit
 
--- The name of a group's row that begins at this place, and its error.
+-- The name and the error of a group's row that begins at this place.
 abbrev pub group_texts : ℕ → GroupRow → List PlacedText
 group_texts place row =
     (place + 1, row.name) ∷ optional_text (place + 7 + length row.name.now) row.error
 
--- The text of a stage: after its byte and a byte of length.
+-- The text of a stage, which comes after the stage's byte and a byte for the length.
 abbrev pub stage_texts : ℕ → StageView → List PlacedText
 stage_texts place (stages.Failure text) = (place + 2, text) ∷ []
 stage_texts place _ = []
 
--- The job and the argument of a task's row that begins at this place, and its failure.
+-- The job, the argument and the failure of a task's row that begins at this place.
 abbrev pub task_texts : ℕ → TaskRow → List PlacedText
 task_texts place row =
     (place + 3, row.job)

@@ -1,4 +1,4 @@
--- The rows of the work in an image: the work that some bytes spell.
+-- The rows of the work in an image: the work that the bytes spell.
 use Rattle.std.specs.Prelude.{◌≡◌, ℕ, zero, suc, ◌+◌, ◌==◌, nat_lt, nat_le, Bool, true, false, not}
 use Rattle.std.specs.Prelude.{◌&&◌, ◌||◌, if◌then◌else◌, List, [], ◌∷◌, ◌++◌, length, Option, Some}
 use Rattle.std.specs.Prelude.{None, is_none, is_some, position, slice_get, IsTrue}
@@ -20,9 +20,9 @@ use Rattle.row_view.specs.declared.heads.ImageHead.{ImageHead}
 use Rattle.row_view.specs.Image.{group_bytes, task_bytes, is_kept_group, is_kept_task}
 use Rattle.row_view.specs.RowReading.{group_row_at, task_at}
 
--- ---- rows that are tested as they come
+-- ---- rows that are tested one by one
 
--- These rows, and so many more, each of which passes the test after those before it.
+-- These rows, and this many more, each of which passes the test against the rows before it.
 abbrev pub more_at : {X : Type 0} → Reader X → (List X → X → Bool) → ℕ → List X → Reader (List X)
 more_at read test zero rows bytes = Some (rows, bytes)
 more_at read test (suc n) rows bytes = do
@@ -36,19 +36,19 @@ each_passes test n (row ∷ rows) = test n row && each_passes test (n + 1) rows
 
 -- ---- the tests
 
--- No group before has this name.
+-- No group before this one has the same name.
 abbrev pub has_new_name : List Group → Group → Bool
 has_new_name rows row = is_none (position (λ r. bytes_eq row.name r.name) rows)
 
--- The old task can be retried by the new one: it was interrupted, and both are of one group, job
--- and argument.
+-- The new task can retry the old one: the old one was interrupted, and both have the same group,
+-- job and argument.
 abbrev pub can_retry : Task → Task → Bool
 can_retry new old =
     is_interrupted old.stage && new.group == old.group && bytes_eq new.job old.job
     && bytes_eq new.argument old.argument
 
--- If the new task is a retry of task m, then m is a task before it which it can retry, and no task
--- before it is a retry of m.
+-- If the new task is a retry of task m, then m is an earlier task that it can retry, and no earlier
+-- task is a retry of m.
 abbrev pub is_linked : List Task → Task → Bool
 is_linked tasks row =
     option_map_or
@@ -60,7 +60,7 @@ is_linked tasks row =
 abbrev pub work_made : Layout → List Group → List Task → WorkState
 work_made layout groups tasks = record { layout = layout; groups = groups; tasks = tasks }
 
--- The task's group is there, the task is admitted if it runs, and its link is right.
+-- The task's group exists, the task is admitted if it is running, and its link is right.
 abbrev pub can_come : Layout → List Group → List Task → Task → Bool
 can_come layout groups tasks row =
     nat_lt row.group (length groups)
@@ -68,12 +68,13 @@ can_come layout groups tasks row =
     || is_admitted (work_made layout groups tasks) (length tasks) row)
     && is_linked tasks row
 
--- Both hold or neither does.
+-- Both are true, or both are false.
 abbrev pub both_or_neither : Bool → Bool → Bool
 both_or_neither true b = b
 both_or_neither false b = not b
 
--- A group that was waited for is idle, and a group has an error exactly when a task of it has.
+-- A group that was waited for has no unfinished task, and a group has an error exactly if a task of
+-- it ended in one.
 abbrev pub is_settled : WorkState → ℕ → Group → Bool
 is_settled w g row =
     (not row.waited || unfinished_in g w.tasks == 0)
@@ -87,25 +88,25 @@ settled_at layout groups tasks =
     then Some (work_made layout groups tasks.0, tasks.1)
     else None
 
--- The groups and tasks that the bytes after the scopes begin with.
+-- The groups and tasks with whose rows the bytes after the scopes begin.
 unfoldable pub work_rows_at : Layout → ImageHead → Reader WorkState
 work_rows_at layout head bytes = do
   groups ← more_at group_row_at has_new_name head.groups [] bytes
   tasks ← more_at (task_at head.version) (can_come layout groups.0) head.tasks [] groups.1
   settled_at layout groups.0 tasks
 
--- Groups and tasks are within the layout's limits.
+-- The numbers of groups and tasks are within the layout's limits.
 abbrev pub has_work_room : Layout → ImageHead → Bool
 has_work_room layout head =
     nat_le head.groups MOST_GROUPS && nat_le head.tasks (most_tasks layout)
 
--- The work, in a store of this layout, that the bytes after the scopes begin with.
+-- The work, in a store of this layout, with whose rows the bytes after the scopes begin.
 unfoldable pub work_at : Layout → ImageHead → Reader WorkState
 work_at layout head bytes =
     if has_work_room layout head then work_rows_at layout head bytes else None
 
--- The bytes begin with the rows of this work, which has this layout and keeps its rules, and the
--- rest is after them.
+-- The bytes begin with the rows of this work, which has this layout and keeps its rules, and `rest`
+-- comes after them.
 pub record AreWorkRows
     (layout : Layout) (head : ImageHead) (bytes : List ℕ) (w : WorkState) (rest : List ℕ)
     : Type 0 where

@@ -1,5 +1,5 @@
-//! Values of what a view lends: names, texts, moments and limits of one's own. Each call requires
-//! that the bytes, or the number, are in range.
+//! Copies of what a view lends: names, texts, moments and limits that own their bytes. Each call
+//! requires that the bytes, or the number, are in range.
 
 ghost use Rattle.std.specs.Option.{option_copied};
 ghost use Rattle.std.specs.Prelude.{◌≡◌, IsTrue};
@@ -8,7 +8,7 @@ ghost use Rattle.run_model.specs.Texts.{IsName, IsText};
 
 use run_model::{Limit, Moment, Name, Text};
 
-/// Returns the name of these bytes.
+/// Returns the name with these bytes.
 pub fn name_copy(bytes: &[u8]) -> Name
     requires { IsName bytes.now }
     ensures { result ≡ bytes.now }
@@ -16,7 +16,7 @@ pub fn name_copy(bytes: &[u8]) -> Name
     Name::read(bytes).unwrap()
 }
 
-/// Returns the text of these bytes.
+/// Returns the text with these bytes.
 pub fn text_copy(bytes: &[u8]) -> Text
     requires { IsText bytes.now }
     ensures { result ≡ bytes.now }
@@ -24,7 +24,7 @@ pub fn text_copy(bytes: &[u8]) -> Text
     Text::read(bytes).unwrap()
 }
 
-/// Returns the text of these bytes, if there are any.
+/// Returns the text with these bytes; `None` if there are none.
 pub fn optional_copy(bytes: Option<&[u8]>) -> Option<Text>
     requires { IsTrue (is_optional_text (option_copied bytes)) }
     ensures { result ≡ option_copied bytes.entry }
@@ -35,7 +35,7 @@ pub fn optional_copy(bytes: Option<&[u8]>) -> Option<Text>
     }
 }
 
-/// Returns the moment of so many seconds.
+/// Returns the moment at this many seconds.
 pub fn moment_of(seconds: u64) -> Moment
     requires { IsTrue (is_moment seconds) }
     ensures { result ≡ seconds }
@@ -43,7 +43,7 @@ pub fn moment_of(seconds: u64) -> Moment
     Moment::new(seconds).unwrap()
 }
 
-/// Returns the limit of so many tasks, or none.
+/// Returns the limit of this many tasks, or no limit for `None`.
 pub fn limit_of(most: Option<u8>) -> Limit
     requires { IsTrue (is_limit most) }
     ensures { result ≡ most }

@@ -3,9 +3,9 @@
 //! | Bytes | What |
 //! |---|---|
 //! | 2 to 33 | name |
-//! | 2 | the scope that its tasks live in |
+//! | 2 | the number of the scope to which its tasks belong |
 //! | 1 | bare: 0 or 1 |
-//! | 1 | limit: 0 to 64, or 255 for none |
+//! | 1 | limit: 0 to 64, or 255 if there is none |
 //! | 1 | waited for: 0 or 1 |
 //! | 1 to 65 | first error, a text or none |
 
@@ -24,26 +24,26 @@ use crate::scope_rows::{row_number, text_view};
 use crate::texts::{put_optional, put_text, read_name, read_optional};
 use run_model::Group;
 
-/// The row of a group. It lives as long as the bytes that it was read from are lent, and copies
+/// The row of a group. It lives as long as the bytes from which it was read are lent, and copies
 /// none of them.
 #[derive(Clone, Copy, PartialEq, Eq)]
 pub struct GroupRow<'a> {
     /// The name of the group.
     pub name: &'a [u8],
-    /// The scope that its tasks live in.
+    /// The number of the scope to which its tasks belong.
     pub scope: u16,
-    /// Whether it lives in a scope that isn't its own.
+    /// Whether that scope isn't the group's own.
     pub bare: bool,
-    /// The limit of its active tasks.
+    /// How many of its tasks may be active at once; `None` if there is no limit.
     pub limit: Option<u8>,
     /// Whether it was waited for.
     pub waited: bool,
-    /// The first error of a task of it.
+    /// The first error of one of its tasks.
     pub error: Option<&'a [u8]>,
 }
 
-/// Returns the row of a group that the bytes begin with, and the bytes after it; `None` exactly
-/// when they begin with no such row.
+/// Returns the row of a group with which the bytes begin, and the bytes after it; `None` exactly if
+/// they begin with no such row.
 pub fn read_group(bytes: &[u8]) -> Option<(GroupRow<'_>, &[u8])>
     ensures value { option_map (λ x. (group_of x.0, x.1.now)) result ≡ group_row_at bytes.now }
     ensures texts { IfSome result (λ x. StandIn bytes.entry (group_texts 0 x.0)) }
@@ -52,7 +52,7 @@ pub fn read_group(bytes: &[u8]) -> Option<(GroupRow<'_>, &[u8])>
     read_group_fields(bytes)
 }
 
-/// Puts the row of a group at a place, and returns the place after it.
+/// Writes the row of a group at a place, and returns the place after it.
 pub fn put_group(out: &mut [u8], at: usize, row: &GroupRow) -> usize
     requires kept { IsTrue (is_kept_group (group_of row.now)) }
     requires room { at + length (group_bytes (group_of row.now)) ≤ length out.old }
@@ -67,7 +67,7 @@ pub fn put_group(out: &mut [u8], at: usize, row: &GroupRow) -> usize
     put_optional(out, end, row.error)
 }
 
-/// Returns the view of a row that is held. Its fields are in range.
+/// Returns the view of this row. The view's fields are in range.
 pub fn group_row(row: &Group) -> GroupRow<'_>
     ensures value { group_of result ≡ row.now }
     ensures kept { IsTrue (is_kept_group row.now) }

@@ -1,6 +1,6 @@
 //! The head of an image. `record_view` reads and writes it.
 
-/// The version of an image. Both are read, and only the second one is written.
+/// The version of an image. Images of both versions are read, but only version 2 is written.
 #[derive(Clone, Copy, PartialEq, Eq)]
 pub enum ImageVersion {
     /// Rows have no links, so no task is a retry.
@@ -12,7 +12,7 @@ pub enum ImageVersion {
 /// The fields before the rows of an image.
 #[derive(Clone, Copy, PartialEq, Eq)]
 pub struct ImageHead {
-    /// How the rows are spelled.
+    /// The version, which decides how the rows are spelled.
     pub version: ImageVersion,
     /// The clock, in whole seconds.
     pub clock: u64,

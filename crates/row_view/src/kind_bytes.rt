@@ -1,4 +1,4 @@
-//! The kind of a scope: one byte, and what belongs to it.
+//! The kind of a scope: one byte, and the fields of that kind.
 //!
 //! | Byte | Kind | After it |
 //! |---|---|---|
@@ -7,7 +7,7 @@
 //! | 3 | Deadline | moment; cause, a text or none |
 //! | 4 | Value | key, a name; a text |
 //! | 5 | Detached | |
-//! | 6 | Group, which no derive has | |
+//! | 6 | Group, only in rows of scopes | |
 
 ghost use Rattle.std.specs.Prelude.{◌≡◌, ◌≤◌, ◌+◌, length, min, IfSome, IsTrue};
 ghost use Rattle.std.specs.Option.{option_map, option_copied};
@@ -41,7 +41,7 @@ const DETACHED: u8 = 5;
 /// The kind of a group's scope.
 pub const GROUP: u8 = 6;
 
-/// Returns a kind that a derive can have, and the bytes after it.
+/// Returns a kind that the record of a derive can have, and the bytes after it.
 #[tactic(auto, unfolding(crate::specs::Fields::kind_at, crate::specs::Fields::kind_by))]
 pub fn read_kind(bytes: &[u8]) -> Option<(KindView<'_>, &[u8])>
     ensures value { option_map (λ x. (kind_of x.0, x.1.now)) result ≡ kind_at bytes.now }
@@ -82,7 +82,7 @@ pub fn kind_size(kind: &KindView) -> usize
     }
 }
 
-/// Puts a kind.
+/// Writes a kind.
 #[tactic(auto, using(crate::proofs::Lengths::name_len, crate::proofs::Lengths::text_len))]
 pub fn put_kind(out: &mut [u8], at: usize, kind: &KindView) -> usize
     requires kept { IsTrue (is_kept_kind (kind_of kind.now)) }

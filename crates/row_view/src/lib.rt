@@ -1,9 +1,9 @@
 //! Rows: the bytes of scopes, groups and tasks in an image, and the fields that rows share with
 //! records.
 //!
-//! A row is read as a view, which lends its names and texts from the bytes, and it is written from
-//! a view. Both follow the grammar exactly. [`copies`] makes values of one's own from what a view
-//! lends. No call takes memory. The grammar is in `specs/Image.antt`, apart from the code.
+//! A row is read as a view, which lends its names and texts from the bytes, and is written from a
+//! view. Both follow the grammar exactly, which stands in `specs/Image.antt`, apart from the code.
+//! [`copies`] turns what a view lends into values that own their bytes. No call takes memory.
 //! [`texts`], [`numbers`] and [`kind_bytes`] read fields, and write them together with [`puts`].
 //! The crate above, `record_view`, has records, the head of an image, and the laws of both.
 #![tactic(auto)]

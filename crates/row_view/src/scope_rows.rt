@@ -4,8 +4,8 @@
 //! |---|---|
 //! | 2 to 33 | name |
 //! | 2 | parent |
-//! | 1 or more | kind, as a derive has it, or 6 for a group's scope |
-//! | 1 | hit: 0 for none, or 1 and |
+//! | 1 or more | kind, as the record of a derive has it, or 6 for a group's scope |
+//! | 1 | hit: 0 if there is none; otherwise 1, followed by |
 //! | 8 | its event |
 //! | 8 | its moment |
 //! | 1 | its reason: 1 `Canceled`, 2 `DeadlineExceeded` |
@@ -31,35 +31,35 @@ use crate::texts::{put_text, read_name, read_text};
 use crate::views::KindView;
 use run_model::{Hit, Kind, Reason, Scope, Text};
 
-/// A scope's own first cancellation.
+/// The first cancellation of a scope itself.
 #[derive(Clone, Copy, PartialEq, Eq)]
 pub struct HitView<'a> {
-    /// The number of the event that it came with.
+    /// The number of the event that made the hit.
     pub event: u64,
-    /// The deadline that passed, otherwise the clock.
+    /// The deadline that has passed, or else the clock.
     pub moment: u64,
     /// The reason.
     pub reason: Reason,
-    /// The cause that was given, otherwise the reason's text.
+    /// The cause that was given, or else the text of the reason.
     pub cause: &'a [u8],
 }
 
-/// The row of a scope. It lives as long as the bytes that it was read from are lent, and copies
+/// The row of a scope. It lives as long as the bytes from which it was read are lent, and copies
 /// none of them.
 #[derive(Clone, Copy, PartialEq, Eq)]
 pub struct ScopeRow<'a> {
     /// The name of the scope.
     pub name: &'a [u8],
-    /// The number of the scope that it was derived from.
+    /// The number of the scope from which it was derived.
     pub parent: u16,
     /// The kind of the scope.
     pub kind: KindView<'a>,
-    /// Its own first cancellation.
+    /// The first cancellation of the scope itself.
     pub hit: Option<HitView<'a>>,
 }
 
-/// Returns the row of a scope that the bytes begin with, and the bytes after it; `None` exactly
-/// when they begin with no such row.
+/// Returns the row of a scope with which the bytes begin, and the bytes after it; `None` exactly if
+/// they begin with no such row.
 pub fn read_scope(bytes: &[u8]) -> Option<(ScopeRow<'_>, &[u8])>
     ensures value { option_map (λ x. (scope_of x.0, x.1.now)) result ≡ scope_at bytes.now }
     ensures texts { IfSome result (λ x. StandIn bytes.entry (scope_texts 0 x.0)) }
@@ -68,8 +68,8 @@ pub fn read_scope(bytes: &[u8]) -> Option<(ScopeRow<'_>, &[u8])>
     read_scope_fields(bytes)
 }
 
-/// Puts the row of a scope at a place, and returns the place after it. Its fields are in range, and
-/// the row fits.
+/// Writes the row of a scope at a place, and returns the place after it. The fields of the row must
+/// be in range, and the row must fit.
 pub fn put_scope(out: &mut [u8], at: usize, row: &ScopeRow) -> usize
     requires kept { IsTrue (is_kept_scope (scope_of row.now)) }
     requires room { at + length (scope_bytes (scope_of row.now)) ≤ length out.old }
@@ -82,7 +82,7 @@ pub fn put_scope(out: &mut [u8], at: usize, row: &ScopeRow) -> usize
     put_hit(out, end, row.hit)
 }
 
-/// Returns the view of a row that is held, which isn't root's. Its fields are in range.
+/// Returns the view of this row, which isn't root's. The view's fields are in range.
 pub fn scope_row(row: &Scope) -> ScopeRow<'_>
     requires { is_root row.now.kind ≡ false }
     ensures value { scope_of result ≡ row.now }
@@ -97,7 +97,7 @@ pub fn scope_row(row: &Scope) -> ScopeRow<'_>
     }
 }
 
-/// Returns the number of a row; two bytes hold it.
+/// Returns the same number, and states that it fits into two bytes.
 pub fn row_number(number: u16) -> u16
     ensures value { result ≡ number }
     ensures range { IsTrue (is_row_number number) }
@@ -226,7 +226,7 @@ fn put_hit(out: &mut [u8], at: usize, hit: Option<HitView>) -> usize
     }
 }
 
-/// Returns the number of an event; eight bytes hold it.
+/// Returns the same number, and states that it fits into eight bytes.
 fn event_number(number: u64) -> u64
     ensures value { result ≡ number }
     ensures range { IsTrue (nat_lt number (2 ^ 64)) }

@@ -6,7 +6,7 @@
 //! | 2 to 33 | job, a name |
 //! | 2 to 33 | argument, a name |
 //! | 1 or more | stage: 0 fresh, 1 running, 2 success, 3 failure and its text, 4 interrupted |
-//! | 2 | in version 2 the task that it is a retry of, or 65,535 if there is none |
+//! | 2 | in version 2 only: the task that it retries, or 65,535 if there is none |
 
 ghost use Rattle.std.specs.Prelude.{◌≡◌, ◌≤◌, ◌+◌, length, IfSome, IsTrue};
 ghost use Rattle.std.specs.Option.{option_map};
@@ -28,22 +28,22 @@ use run_model::{Stage, Task};
 /// The link of a task that isn't a retry.
 const NO_LINK: u16 = 65_535;
 
-/// How far a task is.
+/// How far a task has come.
 #[derive(Clone, Copy, PartialEq, Eq)]
 pub enum StageView<'a> {
-    /// Not started.
+    /// It wasn't started.
     Fresh,
-    /// Started and not finished.
+    /// It was started, and hasn't finished.
     Running,
-    /// Finished without an error.
+    /// It has finished without an error.
     Success,
-    /// Finished with this error.
+    /// It has finished with this error.
     Failure(&'a [u8]),
-    /// Running when the runner stopped.
+    /// It was running when the program crashed or ended.
     Interrupted,
 }
 
-/// The row of a task. It lives as long as the bytes that it was read from are lent, and copies
+/// The row of a task. It lives as long as the bytes from which it was read are lent, and copies
 /// none of them.
 #[derive(Clone, Copy, PartialEq, Eq)]
 pub struct TaskRow<'a> {
@@ -53,14 +53,14 @@ pub struct TaskRow<'a> {
     pub job: &'a [u8],
     /// The job's argument.
     pub argument: &'a [u8],
-    /// How far it is.
+    /// How far it has come.
     pub stage: StageView<'a>,
-    /// The number of the task that it is a retry of, below 65,535.
+    /// The number of the task that it retries, below 65,535; `None` if it isn't a retry.
     pub retry_of: Option<u16>,
 }
 
-/// Returns the row of a task, in this version, that the bytes begin with, and the bytes after it;
-/// `None` exactly when they begin with no such row.
+/// Returns the row of a task, in this version, with which the bytes begin, and the bytes after it;
+/// `None` exactly if they begin with no such row.
 pub fn read_task(bytes: &[u8], version: ImageVersion) -> Option<(TaskRow<'_>, &[u8])>
     ensures value { option_map (λ x. (task_of x.0, x.1.now)) result ≡ task_at version bytes.now }
     ensures texts { IfSome result (λ x. StandIn bytes.entry (task_texts 0 x.0)) }
@@ -69,7 +69,7 @@ pub fn read_task(bytes: &[u8], version: ImageVersion) -> Option<(TaskRow<'_>, &[
     read_task_fields(bytes, version)
 }
 
-/// Puts the row of a task, of version 2, at a place, and returns the place after it.
+/// Writes the row of a task, in version 2, at a place, and returns the place after it.
 pub fn put_task(out: &mut [u8], at: usize, row: &TaskRow) -> usize
     requires kept { IsTrue (is_kept_task Two (task_of row.now)) }
     requires room { at + length (task_bytes Two (task_of row.now)) ≤ length out.old }
@@ -83,7 +83,7 @@ pub fn put_task(out: &mut [u8], at: usize, row: &TaskRow) -> usize
     put_link(out, end, row.retry_of)
 }
 
-/// Returns the view of a row that is held, whose link is below 65,535. Its fields are in range.
+/// Returns the view of this row, whose link must be below 65,535. The view's fields are in range.
 pub fn task_row(row: &Task) -> TaskRow<'_>
     requires { IsTrue (is_kept_link Two row.now.retry_of) }
     ensures value { task_of result ≡ row.now }
@@ -152,7 +152,7 @@ fn read_stage(bytes: &[u8]) -> Option<(StageView<'_>, &[u8])>
     }
 }
 
-/// Returns a link, and the bytes after it. In version 1 there is none.
+/// Returns a link, and the bytes after it. Version 1 has no links.
 #[tactic(auto, unfolding(crate::specs::RowReading::link_at, crate::specs::RowReading::link_by))]
 fn read_link(bytes: &[u8], version: ImageVersion) -> Option<(Option<u16>, &[u8])>
     ensures value { option_map (λ x. (x.0, x.1.now)) result ≡ link_at version bytes.now }

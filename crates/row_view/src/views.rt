@@ -1,21 +1,23 @@
-//! A kind as it lies in bytes: a view holds numbers, and slices of the bytes that it was read from.
+//! The kind of a scope in bytes: a view of it holds numbers, and slices of the bytes from which it
+//! was read.
 //!
 //! A view lives as long as those bytes are lent, and copies none of them. It holds plain numbers
 //! and bytes; the calls that take or return a view state that they are in range.
 
-/// The kind of a scope, as [`run_model::Kind`] has it.
+/// The kind of a scope, which corresponds to [`run_model::Kind`].
 #[derive(Clone, Copy, PartialEq, Eq)]
 pub enum KindView<'a> {
-    /// Cancelled by command, without a cause.
+    /// A command can cancel it, without a cause.
     Cancel,
-    /// Cancelled by command, with a cause if one is given.
+    /// A command can cancel it, and may give a cause.
     Cause,
-    /// Done when this moment comes, with this cause, or cancelled before.
+    /// It is done when this moment (in seconds) comes, with this cause. A command can cancel it
+    /// before then.
     Deadline(u64, Option<&'a [u8]>),
-    /// Holds one value under one key: the key, and the text.
+    /// It holds one value under one key: first the key, and then the text.
     Value(&'a [u8], &'a [u8]),
-    /// Not done when its parent is.
+    /// It isn't done when its parent is.
     Detached,
-    /// A group's own scope. No record of a derive has it.
+    /// The scope of a group. The record of a derive never has this kind.
     Group,
 }

@@ -14,9 +14,9 @@ use std::fmt;
 pub enum Fault {
     /// Memory was refused.
     Memory,
-    /// A call of the device failed.
+    /// A call of the device failed: a read, a write or a sync.
     DiskFailed,
-    /// No slot is open.
+    /// No slot is open, so the disk holds no store.
     NotAStore,
     /// The disk doesn't have the size of a store.
     WrongSize,
@@ -30,7 +30,8 @@ pub enum Fault {
     BadRecord,
     /// The event of a record isn't allowed at its place.
     BadEvent,
-    /// The store's numbers are used up.
+    /// The store's numbers are used up: an opening finds 2^62 events or more, or a checkpoint finds
+    /// the greatest generation, 2^63 - 1.
     NumbersSpent,
 }
 

@@ -14,7 +14,7 @@ use std::alloc::AllocError;
 use std::marker::Model;
 use std::{fmt, str};
 
-/// A name: 1 to 32 bytes of `a` to `z`, `0` to `9`, `-` and `_`. It is printed as it is.
+/// A name: 1 to 32 bytes of `a` to `z`, `0` to `9`, `-` and `_`. It is printed unchanged.
 #[derive(Debug, Drop)]
 pub struct Name {
     bytes: ArrayVec<u8, NAME_LEN>,

@@ -16,9 +16,9 @@ use crate::texts::Text;
 /// Says why a scope is done, as Go's `Err` does.
 #[derive(Clone, Copy, Debug, PartialEq, Eq)]
 pub enum Reason {
-    /// The scope was cancelled, or one above it.
+    /// The scope was canceled, or a scope above it was.
     Canceled,
-    /// The scope's deadline has passed, or that of one above it.
+    /// The scope's deadline has passed, or the deadline of a scope above it has.
     DeadlineExceeded,
 }
 
@@ -43,7 +43,7 @@ pub enum Kind {
     Cancel,
     /// A command can cancel it, and may give a cause.
     Cause,
-    /// It is done when this moment comes, with this cause. A command can cancel it before.
+    /// It is done when this moment comes, with this cause. A command can cancel it before then.
     Deadline(Moment, Option<Text>),
     /// It holds one value under one key.
     Value(Name, Text),
@@ -107,7 +107,7 @@ pub struct Scope {
     pub parent: u16,
     /// The kind of the scope.
     pub kind: Kind,
-    /// The first cancellation of the scope itself, even if a scope above it had been cancelled
+    /// The first cancellation of the scope itself, even if a scope above it had been canceled
     /// before.
     pub hit: Option<Hit>,
 }

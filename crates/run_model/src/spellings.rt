@@ -1,4 +1,4 @@
-//! How names and words are compared.
+//! How names and keywords are compared.
 
 ghost use Rattle.std.specs.Prelude.{◌≡◌};
 ghost use Rattle.std.specs.Str.{bytes_eq};

@@ -14,7 +14,7 @@ use std::alloc::AllocError;
 use std::marker::Model;
 use std::{fmt, str};
 
-/// A text: 1 to 64 bytes of printable ASCII, 0x20 to 0x7E. It is printed as it is.
+/// A text: 1 to 64 bytes of printable ASCII, 0x20 to 0x7E. It is printed unchanged.
 #[derive(Debug, Drop)]
 pub struct Text {
     bytes: ArrayVec<u8, TEXT_LEN>,

@@ -175,7 +175,7 @@ derived_past e clock name parent kind rows old n row h found has =
           (tick_past e clock (new_scope name parent kind) (λ g own. absurd (none-some g own))) h has
     ]
 
--- ---- what is cancelled
+-- ---- what is canceled
 
 pub cancellation_past : (e clock : ℕ) (cause : Option (List ℕ)) (kind : Kind)
     → can_be_hit kind ≡ true → IsPastHit clock kind (new_hit e clock Canceled cause)

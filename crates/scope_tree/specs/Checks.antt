@@ -1,4 +1,4 @@
--- Which changes a tree accepts, and why it refuses the others.
+-- The changes that a tree accepts, and the refusals of all others.
 use Rattle.std.specs.Prelude.{◌≡◌, ◌<◌, ◌⊎◌, ℕ, ◌+◌, nat_lt, Bool, true, ◌||◌, if◌then◌else◌}
 use Rattle.std.specs.Prelude.{List, Some, Result, Ok, Err, slice_get}
 use Rattle.run_model.specs.declared.bounds.TheConstants.{GREATEST_MOMENT}
@@ -18,17 +18,18 @@ abbrev pub Answers : TreeState → Event → Result (Unit {0}) Refusal → Type 
 Answers t event answer = (count : ℕ) (work : WorkState)
     → answer ≡ tested (refusals (record { count = count; tree = t; work = work }) event)
 
--- The deadline so many seconds from now, unless it is past the greatest moment.
+-- The deadline that is this many seconds from now, unless it is past the greatest moment.
 abbrev pub deadline_in : TreeState → ℕ → Result ℕ Refusal
 deadline_in t seconds =
     if nat_lt GREATEST_MOMENT (t.clock + seconds) then Err refusal.MomentOutOfRange
     else Ok (t.clock + seconds)
 
--- A derive makes every kind but root's, a group's too, with its moment, key and texts in range.
+-- A derive can make a scope of each kind except root's, also a group's, if its moment, key and
+-- texts are in range.
 abbrev pub is_derived_kind : Kind → Bool
 is_derived_kind kind = is_recorded_kind kind || is_group_kind kind
 
--- No hit has a later event than e, and a hit of event e itself stands on a group's scope and has
+-- No hit has a later event than e. Each hit of event e itself is that of a group's scope, and has
 -- this cause.
 abbrev pub AreEarlierOrAlike : List Scope → ℕ → List ℕ → Type 0
 AreEarlierOrAlike rows e cause =

@@ -1,4 +1,4 @@
--- Deadlines that wait: a heap of scope numbers, the soonest deadline first.
+-- The deadlines that haven't passed yet: a heap of scope numbers, with the earliest deadline first.
 use Rattle.std.specs.Prelude.{◌≡◌, ◌≢◌, ◌⊎◌, ◌+◌, ◌*◌, ◌<◌, ◌≤◌, ℕ, List, length}
 use Rattle.std.specs.Prelude.{Option, Some, None, slice_get, slice_index, unwrap_or}
 use Rattle.std.specs.Option.{option_and_then, IsSome}
@@ -12,11 +12,12 @@ use Rattle.run_model.specs.TreeChanges.{hit_due}
 abbrev pub deadline_at : List Scope → ℕ → Option ℕ
 deadline_at rows n = option_and_then (λ row. own_deadline row.kind) (slice_get rows n)
 
--- The hit that scope n gets by event e, if its deadline has come.
+-- The hit that event e gives to scope n if its deadline has come.
 abbrev pub due_at : ℕ → ℕ → List Scope → ℕ → Option Hit
 due_at e clock rows n = option_and_then (λ row. hit_due e clock row.kind) (slice_get rows n)
 
--- Deadlines go by moment, and then by number: as one number, since scopes are fewer.
+-- Deadlines are ordered by moment, and then by the number of the scope. One number stands for both,
+-- because the number of a scope is below MOST_SCOPES.
 abbrev pub key : List Scope → ℕ → ℕ
 key rows n = unwrap_or (deadline_at rows n) 0 * MOST_SCOPES + n
 
@@ -38,26 +39,26 @@ AreKnown rows due = (n : ℕ) → Among n due → n < length rows
 abbrev pub IsParent : ℕ → ℕ → Type 0
 IsParent p j = (2 * p < j) × (j ≤ 2 * p + 2)
 
--- No place has a lesser key than the one above it.
+-- No place has a lower key than the place above it.
 abbrev pub IsHeap : (ℕ → ℕ) → ℕ → Type 0
 IsHeap k len = (p j : ℕ) → IsParent p j → j < len → k p ≤ k j
 
--- No place has a lesser key than the one above it, except perhaps place i.
+-- No place has a lower key than the place above it, except perhaps place i.
 pub record UpTo (k : ℕ → ℕ) (len i : ℕ) : Type 0 where
   pub rest : (p j : ℕ) → IsParent p j → j < len → j ≢ i → k p ≤ k j
   pub over : (p j : ℕ) → IsParent p i → IsParent i j → j < len → k p ≤ k j
 
--- No place has a lesser key than the one above it, except perhaps those below place i.
+-- No place has a lower key than the place above it, except perhaps those below place i.
 pub record DownFrom (k : ℕ → ℕ) (len i : ℕ) : Type 0 where
   pub rest : (p j : ℕ) → IsParent p j → j < len → p ≢ i → k p ≤ k j
   pub over : (p j : ℕ) → IsParent p i → IsParent i j → j < len → k p ≤ k j
 
--- Place c is the one below place i that has the lesser key, or i if nothing is below it.
+-- Place c is the one below place i that has the lower key, or i if nothing is below it.
 pub record IsLesser (k : ℕ → ℕ) (len i c : ℕ) : Type 0 where
   pub child : (c ≡ i) ⊎ (IsParent i c × (c < len))
   pub least : (j : ℕ) → IsParent i j → j < len → (IsParent i c) × (k c ≤ k j)
 
--- The numbers are those of scopes, and in a heap's order.
+-- The numbers are those of scopes, in the order of a heap.
 pub record IsDueHeap (rows : List Scope) (due : List ℕ) : Type 0 where
   pub known : AreKnown rows due
   pub few : length due ≤ MOST_SCOPES
@@ -69,9 +70,9 @@ pub record SameNumbers (old new : List ℕ) : Type 0 where
   pub there : (n : ℕ) → Among n old → Among n new
   pub back : (n : ℕ) → Among n new → Among n old
 
--- ---- what is put in and taken off
+-- ---- adding and removing deadlines
 
--- The first number is taken off, which has the least key.
+-- The first number, which has the lowest key, is removed.
 pub record TakesFirst (rows : List Scope) (old : List ℕ) (n : ℕ) (new : List ℕ) : Type 0 where
   pub heap : IsDueHeap rows new
   pub size : length new + 1 ≡ length old
@@ -81,14 +82,15 @@ pub record TakesFirst (rows : List Scope) (old : List ℕ) (n : ℕ) (new : List
   pub back : (m : ℕ) → Among m new → Among m old
   pub least : (m : ℕ) → Among m old → key rows n ≤ key rows m
 
--- If the soonest deadline has come, it is taken off with its hit; otherwise none has come.
+-- If the earliest deadline has come, it is removed, and its scope's hit is returned. Otherwise no
+-- deadline has come.
 abbrev pub TakesPassed : ℕ → ℕ → List Scope → List ℕ → Option (ℕ × Hit) → List ℕ → Type 0
 TakesPassed e clock rows old None new =
     (new ≡ old) × ((n : ℕ) → Among n old → due_at e clock rows n ≡ None)
 TakesPassed e clock rows old (Some a) new =
     TakesFirst rows old a.0 new × (due_at e clock rows a.0 ≡ Some a.1)
 
--- Scope n is put in, if it has a deadline and no hit.
+-- Scope n is added, if it has a deadline and no hit.
 pub record Noted (rows : List Scope) (old : List ℕ) (n : ℕ) (new : List ℕ) : Type 0 where
   pub heap : IsDueHeap rows new
   pub size : length new ≤ length old + 1
@@ -98,7 +100,7 @@ pub record Noted (rows : List Scope) (old : List ℕ) (n : ℕ) (new : List ℕ)
 
 -- ---- the deadlines of a tree
 
--- These scopes have deadlines, and each that has one and no hit is among them.
+-- Each of these scopes has a deadline, and each scope with a deadline and no hit is one of them.
 pub record AreWaiting (rows : List Scope) (due : List ℕ) : Type 0 where
   pub heap : IsDueHeap rows due
   pub fits : length due ≤ length rows

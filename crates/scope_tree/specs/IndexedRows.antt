@@ -1,4 +1,4 @@
--- Rows, and what stands beside them so that none has to be walked.
+-- Rows, and the indexes that spare a walk over all of them.
 use Rattle.std.specs.Prelude.{◌≡◌, ◌≤◌, ℕ, List, length, Option}
 use Rattle.run_model.specs.declared.bounds.TheConstants.{MOST_SCOPES}
 use Rattle.run_model.specs.declared.scopes.Scope.{Scope}
@@ -10,13 +10,14 @@ use Rattle.scope_tree.specs.Marks.{AreMarked}
 use Rattle.scope_tree.specs.Reaches.{AreReached}
 use Rattle.scope_tree.specs.declared.indexes.reaches.Reach.{Reach}
 
--- The rows of scopes in order of number, and the number of rows that fit.
+-- The rows of scopes in the order of their numbers, and the greatest number of rows.
 pub record Numbered : Type 0 where
   pub capacity : ℕ
   pub rows : List Scope
 
--- The rows are few and ordered, their marks, names, links and reaches are right, their deadlines
--- wait, and there is room for each row that can come and what stands beside it, and for no more.
+-- The rows are ordered and within the limit. Their marks, names, links and reaches are right, and
+-- so are the deadlines that haven't passed yet. The rows and the indexes can grow up to the limit,
+-- but not further.
 pub record IsIndexed
     (of : Numbered) (marks : List (Option ℕ)) (names links : Places) (due : List ℕ)
     (reaches : List Reach) (mark_capacity reach_capacity : ℕ) : Type 0 where

@@ -1,4 +1,4 @@
--- Marks: which hit ended a scope, as the number of the scope that was hit.
+-- Marks: the mark of a scope is the number of the scope whose own hit ended it.
 use Rattle.std.specs.Prelude.{◌≡◌, ◌<◌, ◌≤◌, ℕ, List, length, Option, Some, None, slice_index_or}
 use Rattle.std.specs.Prelude.{slice_get, false}
 use Rattle.std.specs.Option.{option_map, option_and_then}
@@ -10,22 +10,21 @@ use Rattle.run_model.specs.TreeChanges.{with_hit}
 use Rattle.run_model.specs.Scopes.{AreOrdered, own_hit, ending, is_detached}
 use Rattle.scope_tree.specs.Links.{links_of}
 
--- The mark of scope s; none also if there is no such scope.
+-- The mark of scope s; none, too, if there is no such scope.
 abbrev pub mark_of : List (Option ℕ) → ℕ → Option ℕ
 mark_of marks s = slice_index_or marks s None
 
--- A live scope has no mark. The mark of a done one names a scope whose own hit is the hit that
--- ended it.
+-- A live scope has no mark. The mark of a done scope names the scope whose own hit ended it.
 abbrev pub IsMark : List Scope → ℕ → Option ℕ → Type 0
 IsMark rows s None = ending rows s ≡ None
 IsMark rows s (Some n) = (hit : Hit) × (ending rows s ≡ Some hit) × (own_hit rows n ≡ Some hit)
 
--- Each scope has a mark, and it is right.
+-- Each scope has its mark, and the mark is right.
 pub record AreMarked (rows : List Scope) (marks : List (Option ℕ)) : Type 0 where
   pub same : length marks ≡ length rows
   pub right : (s : ℕ) → s < length rows → IsMark rows s (mark_of marks s)
 
--- The rows are ordered and few, and each has its mark and its link.
+-- The rows are ordered and within the limit, and each has its mark and its link.
 pub record AreKept (rows : List Scope) (marks links : List (Option ℕ)) : Type 0 where
   pub ordered : AreOrdered rows
   pub few : length rows ≤ MOST_SCOPES
@@ -36,7 +35,8 @@ pub record AreKept (rows : List Scope) (marks links : List (Option ℕ)) : Type 
 abbrev pub marked_hit : List Scope → Option ℕ → Option (ℕ × Hit)
 marked_hit rows mark = option_and_then (λ n. option_map (λ hit. (n, hit)) (own_hit rows n)) mark
 
--- Scope `at` isn't detached, and what ended a scope before still does if `at` gets this hit.
+-- Scope `at` isn't detached, and if it gets this hit, each scope that was done is still done by the
+-- same hit.
 pub record Struck (rows : List Scope) (at : ℕ) (hit : Hit) : Type 0 where
   pub joins : (row : Scope) → slice_get rows at ≡ Some row → is_detached row.kind ≡ false
   pub stays : (s : ℕ) (h : Hit) → s < length rows → ending rows s ≡ Some h

@@ -1,4 +1,4 @@
--- The answers of a tree on a scope, beside the searches of ancestors.
+-- The answers of a tree to questions about a scope, except those that search upwards.
 use Rattle.std.specs.Prelude.{ℕ, List, Option, slice_get}
 use Rattle.std.specs.Option.{option_map}
 use Rattle.run_model.specs.declared.scopes.Kind.{Kind}

@@ -1,4 +1,4 @@
--- Events whose fields an image can keep.
+-- Events whose fields fit into an image.
 use Rattle.std.specs.Prelude.{Bool, true, List, IsTrue}
 use Rattle.std.specs.List.{list_all}
 use Rattle.run_model.specs.Event.{Event}
@@ -10,6 +10,6 @@ abbrev pub has_ranges : Event → Bool
 has_ranges event.Restart = true
 has_ranges other = is_recorded other
 
--- Each of these events is such an event.
+-- The fields of each of these events are in range.
 abbrev pub HaveRanges : List Event → Type 0
 HaveRanges events = IsTrue (list_all has_ranges events)

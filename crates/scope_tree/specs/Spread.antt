@@ -1,4 +1,4 @@
--- Marks that go down the links from one scope.
+-- Marks that spread down the links from one scope.
 use Rattle.std.specs.Prelude.{◌≡◌, ◌⊎◌, ◌<◌, ℕ, true, is_some, is_none, List, [], ◌∷◌, length}
 use Rattle.std.specs.Prelude.{Option, Some, None, slice_get}
 use Rattle.std.specs.List.{count_by}
@@ -9,17 +9,17 @@ abbrev pub In : ℕ → List ℕ → Type 0
 In n [] = ⊥
 In n (x ∷ xs) = (n ≡ x) ⊎ In n xs
 
--- What ends p ends t.
+-- The link of t is p: whatever ends p also ends t.
 abbrev pub Child : List (Option ℕ) → ℕ → ℕ → Type 0
 Child links t p = slice_get links t ≡ Some (Some p)
 
--- Marked since: not before, and now by the hit of scope `at`.
+-- Scope s had no mark before, and is now marked with scope `at`.
 pub record Since (old new : List (Option ℕ)) (at s : ℕ) : Type 0 where
   pub was : mark_of old s ≡ None
   pub is : mark_of new s ≡ Some at
 
--- The marks so far: those that were there stay, and each new one is `at`, at scope `at` or below
--- a scope that was marked since.
+-- The marks so far: old marks stay, and each new mark is `at`, either of scope `at` itself, or of a
+-- scope below one that has a new mark.
 pub record HaveSpread (links old new : List (Option ℕ)) (at : ℕ) : Type 0 where
   pub same : length new ≡ length old
   pub here : is_some (mark_of new at) ≡ true
@@ -29,8 +29,8 @@ pub record HaveSpread (links old new : List (Option ℕ)) (at : ℕ) : Type 0 wh
   pub below : (t : ℕ) → Since old new at t
       → (t ≡ at) ⊎ ((p : ℕ) × Child links t p × Since old new at p)
 
--- The marks on the way: the children of the listed scopes, and those of s below k, are still to be
--- marked.
+-- The marks while they spread: only the children of the listed scopes, and those of s below k, are
+-- still to be marked.
 pub record Spreading (links old new : List (Option ℕ)) (at : ℕ) (work : List ℕ)
     (s k : ℕ) : Type 0 where
   pub so_far : HaveSpread links old new at

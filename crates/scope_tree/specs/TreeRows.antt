@@ -1,4 +1,4 @@
--- The rows of a tree in an image: which can follow which, and the tree that some bytes spell.
+-- The rows of a tree in an image: which row can follow others, and the tree that the bytes spell.
 use Rattle.std.specs.Prelude.{◌≡◌, ℕ, zero, suc, ◌==◌, nat_lt, nat_le, Bool, true, false, not}
 use Rattle.std.specs.Prelude.{◌&&◌, if◌then◌else◌, List, [], ◌∷◌, ◌++◌, length, Option, Some, None}
 use Rattle.std.specs.Prelude.{is_none, position, slice_get}
@@ -20,7 +20,7 @@ use Rattle.row_view.specs.Fields.{Reader, ◌>>=◌, one}
 use Rattle.row_view.specs.declared.heads.ImageHead.{ImageHead}
 use Rattle.row_view.specs.RowReading.{scope_at}
 
--- ---- what can be written
+-- ---- rows that can be written
 
 -- A row that isn't root's, and that has a hit only if its kind can be hit.
 pub record IsWritable (row : Scope) : Type 0 where
@@ -31,15 +31,16 @@ pub record IsWritable (row : Scope) : Type 0 where
 abbrev pub AreWritable : List Scope → Type 0
 AreWritable rows = (s : ℕ) (row : Scope) → slice_get rows s ≡ Some row → IsWritable row
 
--- ---- what can be read
+-- ---- rows that can be read
 
--- Only a deadline is exceeded, and at its moment.
+-- The reason DeadlineExceeded fits only a scope with a deadline, and only at the moment of that
+-- deadline.
 abbrev pub reason_fits : Reason → Option ℕ → ℕ → Bool
 reason_fits Canceled deadline moment = true
 reason_fits DeadlineExceeded deadline moment = option_map_or (λ d. d == moment) deadline false
 
--- A hit fits a row of this kind, in a state of this count and clock. There is none only if no
--- deadline has come.
+-- A hit fits a row of this kind in a state with this count and clock. A row may have no hit only if
+-- its deadline, if it has one, hasn't come.
 abbrev pub hit_fits : ℕ → ℕ → Kind → Option Hit → Bool
 hit_fits count clock kind None =
     not (option_map_or (λ moment. nat_le moment clock) (own_deadline kind) false)
@@ -53,23 +54,23 @@ can_follow count clock rows row =
     nat_lt row.parent (length rows) && is_none (position (λ r. bytes_eq row.name r.name) rows)
     && hit_fits count clock row.kind row.hit
 
--- These rows, and so many more off the front of the bytes, each of which can follow in a state of
--- this count and clock.
+-- These rows, and this many more from the beginning of the bytes, each of which can follow those
+-- before it in a state with this count and clock.
 abbrev pub more_rows_at : ℕ → ℕ → ℕ → List Scope → Reader (List Scope)
 more_rows_at e t zero rows bytes = Some (rows, bytes)
 more_rows_at e t (suc n) rows bytes = do
   row ← scope_at bytes
   if can_follow e t rows row.0 then more_rows_at e t n (rows ++ row.0 ∷ []) row.1 else None
 
--- The tree of these rows.
+-- The tree with these rows.
 abbrev pub tree_made : Layout → ImageHead → List Scope → TreeState
 tree_made layout head rows = record { layout = layout; clock = head.clock; scopes = rows }
 
--- The clock is a moment, and the scopes are within the layout's limits, root among them.
+-- The clock is a moment, and the number of scopes, with root, is within the layout's limit.
 abbrev pub has_tree_room : Layout → ImageHead → Bool
 has_tree_room layout head = is_moment head.clock && nat_lt head.scopes (most_scopes layout)
 
--- The tree, in a store of this layout, that the bytes after a head begin with.
+-- The tree, in a store of this layout, with whose rows the bytes after a head begin.
 unfoldable pub tree_at : Layout → ImageHead → Reader TreeState
 tree_at layout head bytes =
     if has_tree_room layout head

@@ -1,4 +1,4 @@
--- The rows of a tree, at the front of the bytes after a head.
+-- The rows of a tree, which come first after the head of an image.
 use Rattle.std.specs.Prelude.{◌≡◌, ◌+◌, ℕ, List, ◌++◌, length, IsTrue, drop}
 use Rattle.std.specs.List.{flat_map, AllByRecursion}
 use Rattle.run_model.specs.declared.layouts.Layout.{Layout}
@@ -9,7 +9,7 @@ use Rattle.row_view.specs.declared.heads.ImageHead.{ImageHead}
 use Rattle.row_view.specs.Image.{scope_bytes, is_kept_scope}
 
 -- The bytes after a head begin with the rows of this tree, which has this layout and keeps the
--- rules, and the rest stands after them.
+-- rules, and `rest` comes after them.
 pub record AreTreeRows
     (layout : Layout) (head : ImageHead) (bytes : List ℕ) (t : TreeState) (rest : List ℕ)
     : Type 0 where

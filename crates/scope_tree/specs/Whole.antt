@@ -1,4 +1,4 @@
--- The state that some bytes are the image of, by the parts that the crates read.
+-- The state whose image some bytes are, put together from the parts that different crates read.
 use Rattle.std.specs.Prelude.{ℕ, ◌==◌, ◌&&◌, if◌then◌else◌, List, length, Option, Some, None}
 use Rattle.run_model.specs.declared.layouts.Layout.{Layout}
 use Rattle.run_model.specs.State.{State, TreeState, WorkState}
@@ -14,7 +14,8 @@ use Rattle.row_view.specs.WorkRows.{work_at}
 abbrev pub whole : ImageHead → TreeState → WorkState → State
 whole head tree work = record { count = head.count; tree = tree; work = work }
 
--- The version and state of a head, a tree and the work that fit together, with nothing after them.
+-- The version and the state, if the head, the tree and the work fit together, and nothing comes
+-- after them.
 abbrev pub joined :
     ImageHead → TreeState → WorkState × List ℕ → Option (ImageVersion × State)
 joined head tree work =
@@ -22,7 +23,7 @@ joined head tree work =
     then Some (head.version, whole head tree work.0)
     else None
 
--- The head, the tree and the work that the bytes are, in a store of this layout.
+-- The version and the state whose image the bytes are, in a store of this layout.
 unfoldable pub image_at : Layout → List ℕ → Option (ImageVersion × State)
 image_at layout bytes = do
   head ← head_at layout bytes

@@ -1,4 +1,4 @@
-//! Hits: how a scope's own hit is made, compared and set.
+//! Hits of a scope itself: how one is made, compared and set.
 
 ghost use Rattle.std.specs.Prelude.{◌≡◌, Option};
 ghost use Rattle.std.specs.Option.{option_copied};
@@ -7,8 +7,8 @@ ghost use Rattle.run_model.specs.TreeChanges.{with_hit, hit_due, tick, new_hit};
 
 use run_model::{Hit, Kind, Moment, Reason, Scope, Text};
 
-/// Returns the hit by this event, at this moment and for this reason. Its cause is the one given,
-/// otherwise the reason's text.
+/// Returns the hit by this event, at this moment and for this reason. Its cause is the given one,
+/// or else the text of the reason.
 pub fn new_hit(event: u64, moment: Moment, reason: Reason, cause: Option<Text>) -> Hit
     ensures { result ≡ new_hit event moment reason cause }
 {
@@ -38,8 +38,8 @@ pub fn hit_due(event: u64, clock: Moment, kind: &Kind) -> Option<Hit>
     }
 }
 
-/// Gives a row whose deadline is at or before the clock the hit of that deadline by this event,
-/// unless it has a hit. The hit's moment is the deadline.
+/// Gives a row the hit of its deadline by this event, if that deadline is at or before the clock
+/// and the row has no hit. The hit's moment is the deadline.
 pub fn expire(row: &mut Scope, event: u64, clock: Moment)
     ensures { row.new ≡ tick event clock row.old }
 {

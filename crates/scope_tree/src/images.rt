@@ -24,14 +24,14 @@ pub fn the_rules_have_three_parts()
 {}
 
 /// If the work keeps its rules, the test of the two lists of rows returns whether the rules between
-/// the two hold.
+/// the tree and the work hold.
 pub fn the_rules_between_are_tested()
     ensures { (p : State) → AreWorkRules p.work →
         IsTrue (fits_between p.tree.scopes p.work.groups) ↔ AreCrossRules p }
 {}
 
-/// The image of a state is read by its parts, and whatever is read is an image. So no other bytes
-/// are images, and no image belongs to two states or two versions.
+/// The image of a state can be read part by part, and whatever is read that way is an image. So no
+/// other bytes are images, and no image belongs to two states or two versions.
 pub fn images_are_what_is_read()
     ensures again { (version : ImageVersion) (layout : Layout) (bytes : List ℕ) (p : State) →
         IsImage version layout bytes p → image_at layout bytes ≡ Some (version, p) }

@@ -1,4 +1,4 @@
-//! Kinds of scopes: one is made from its view, and questions about one.
+//! Kinds of scopes: a copy of a kind from its view, and questions about a kind.
 
 ghost use Rattle.std.specs.Option.{option_copied};
 ghost use Rattle.std.specs.Prelude.{◌≡◌, IfSome, IsTrue};

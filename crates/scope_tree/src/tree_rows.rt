@@ -1,4 +1,4 @@
-//! The rows of a tree in an image: all scopes but root, in order of number.
+//! The rows of a tree in an image: all scopes except root, in the order of their numbers.
 
 ghost use Rattle.std.specs.List.{flat_map, AllByRecursion};
 ghost use Rattle.std.specs.Option.{option_map, option_map_or};
@@ -20,7 +20,7 @@ use row_view::{HitView, ImageHead, ScopeRow, put_scope, read_scope, scope_row};
 use run_model::{Hit, Kind, Layout, Moment, Reason, Scope};
 use std::alloc::Allocator;
 
-/// Puts the rows at a place, one after the other, and returns the place after them.
+/// Writes the rows at a place, one after another, and returns the place after them.
 pub fn put_rows(rows: &[Scope], out: &mut [u8], at: usize) -> usize
     requires rows { AreWritable rows.now }
     requires room { at + 192 * length rows.now ≤ length out.old }
@@ -36,8 +36,8 @@ pub fn put_rows(rows: &[Scope], out: &mut [u8], at: usize) -> usize
     end
 }
 
-/// Reads the rows of a tree of this layout after root's, and returns its clock and the bytes after
-/// its rows; `None` if the bytes begin with the rows of no such tree.
+/// Reads the rows that come after root's, of a tree with this layout. Returns the tree's clock and
+/// the bytes after its rows; `None` if the bytes don't begin with the rows of such a tree.
 pub fn read_after_root<'a, A: Allocator>(
     layout: Layout,
     rows: &mut IndexedRows<A>,
@@ -65,8 +65,8 @@ pub fn read_after_root<'a, A: Allocator>(
     Some((clock, rest))
 }
 
-/// Reads as many rows as the head says, and adds them; `None` if the bytes don't begin with so many
-/// rows, or if one of them can't follow those before it.
+/// Reads as many rows as the head says, and adds them; `None` if the bytes don't begin with that
+/// many rows, or if one of them can't follow those before it.
 fn read_more<'a, A: Allocator>(
     rows: &mut IndexedRows<A>,
     head: &ImageHead,
@@ -94,7 +94,7 @@ fn read_more<'a, A: Allocator>(
     Some(rest)
 }
 
-/// Returns whether a row can follow these rows, in a state of this head.
+/// Returns whether a row can follow these rows in a state with this head.
 fn can_follow<A: Allocator>(rows: &IndexedRows<A>, head: &ImageHead, row: &Scope) -> bool
     ensures { result ≡ can_follow head.now.count head.now.clock rows.now.rows row.now }
 {

@@ -1,4 +1,4 @@
--- Which task is admitted when another one ends.
+-- The task that is admitted when another one ends.
 use Rattle.std.specs.Prelude.{◌≡◌, ◌≢◌, ◌<◌, ℕ, if◌then◌else◌, Some}
 use Rattle.run_model.specs.declared.tasks.Phase.TheVariants as phase
 use Rattle.run_model.specs.declared.tasks.Phase.{Phase}
@@ -6,7 +6,7 @@ use Rattle.run_model.specs.State.{WorkState}
 use Rattle.run_model.specs.Tasks.{phase_of, admits, limit_of, unfinished_in}
 use Rattle.run_model.specs.WorkChanges.{group_of_task}
 
--- The task is held, and no task of this group with a lower number is.
+-- Task h of this group is held, and none with a lower number is.
 pub record IsOldestHeld (w : WorkState) (g h : ℕ) : Type 0 where
   pub held : phase_of w h ≡ Some phase.Held
   pub group : group_of_task w h ≡ g

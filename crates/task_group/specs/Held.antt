@@ -1,4 +1,4 @@
--- Held tasks, each by its number.
+-- Held tasks, by their numbers.
 use Rattle.std.specs.Prelude.{ℕ, ◌==◌, Bool, false, not, ◌&&◌, take, slice_get}
 use Rattle.std.specs.Option.{option_map_or}
 use Rattle.run_model.specs.declared.tasks.Task.{Task}

@@ -1,9 +1,9 @@
--- The answers of the groups on one group, by its row.
+-- The answers of the groups to a question about one group, by its row.
 use Rattle.std.specs.Prelude.{ℕ}
 use Rattle.run_model.specs.declared.answers.GroupLook.{GroupLook}
 use Rattle.run_model.specs.declared.groups.Group.{Group}
 
--- What a question shows of a group with this row and so many unfinished tasks.
+-- The answer to a question about a group with this row and this many unfinished tasks.
 abbrev pub look_by : ℕ → Group → GroupLook
 look_by unfinished row = record {
   name = row.name;

@@ -10,19 +10,19 @@ use Rattle.run_model.specs.State.{WorkState}
 use Rattle.run_model.specs.Tasks.{is_running}
 use Rattle.task_group.specs.Held.{fits_limit}
 
--- A submitted task, which may be a retry of one, is a row at the end.
+-- The work after a task was submitted, which may be a retry. Its row comes last.
 abbrev pub submitted : ℕ → List ℕ → List ℕ → Option ℕ → WorkState → WorkState
 submitted g job argument tried w =
     record w { tasks = w.tasks ++ new_task g job argument tried ∷ [] }
 
--- A task has a place after these rows: its group is there, and the task that it is a retry of, and
--- there is room for it.
+-- This row can be the next one: its group exists, the task that it retries exists, and it fits.
 pub record HasPlace (w : WorkState) (row : Task) : Type 0 where
   pub known : row.group < length w.groups
   pub link : IfSome row.retry_of (λ m. m < length w.tasks)
   pub room : length w.tasks < most_tasks w.layout
 
--- The rows are few, each task's group is there, and each running task fits its group's limit.
+-- The rows are within the limits, each task's group exists, and each running task is within its
+-- group's limit.
 pub record IsSound (w : WorkState) : Type 0 where
   pub few_groups : length w.groups ≤ MOST_GROUPS
   pub few_tasks : length w.tasks ≤ most_tasks w.layout

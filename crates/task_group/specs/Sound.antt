@@ -12,7 +12,7 @@ use Rattle.task_group.specs.Flags.{AreFlagged}
 use Rattle.task_group.specs.Kept.{Kept}
 use Rattle.task_group.specs.Trees.{is_up}
 
--- These rows of a store of this layout.
+-- The work that consists of these rows, in a store of this layout.
 abbrev pub work : Layout → List Group → List Task → WorkState
 work layout groups tasks = record { layout = layout; groups = groups; tasks = tasks }
 
@@ -22,7 +22,7 @@ pub record AreQueued (w : WorkState) (flags : List Bool) : Type 0 where
   pub right : (n : ℕ) → is_up flags n ≡ is_ready w n
 
 -- The counters, the lists of held tasks, the queue, the number of running tasks and the flags of
--- the retried ones agree with the rows.
+-- retried tasks agree with the rows.
 pub record AreKept (w : WorkState) (seats : List Seats) (next : List (Option ℕ))
     (ready : List Bool)
     (count : ℕ) (flags : List Bool) : Type 0 where
@@ -31,7 +31,7 @@ pub record AreKept (w : WorkState) (seats : List Seats) (next : List (Option ℕ
   pub running : count ≡ running_count w.tasks
   pub flagged : AreFlagged w.tasks flags
 
--- There is room for every group and every task that can come, and for no more.
+-- The lists can grow up to the greatest numbers of groups and tasks, but not further.
 pub record HasRoom (layout : Layout) (groups tasks seats next flags : ℕ) : Type 0 where
   pub group_room : groups ≡ MOST_GROUPS
   pub task_room : tasks ≡ most_tasks layout

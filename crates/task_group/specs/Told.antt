@@ -1,4 +1,4 @@
--- Which scopes a change asks its caller to cancel.
+-- The scopes that a change asks its caller to cancel.
 use Rattle.std.specs.Prelude.{ℕ, ◌==◌, Bool, false, not, ◌&&◌, if◌then◌else◌, List, take, filter}
 use Rattle.std.specs.Prelude.{filter_map, Option, Some, None, is_none, slice_get, length}
 use Rattle.std.specs.List.{list_any, range_with_len}
@@ -13,30 +13,31 @@ abbrev pub is_first_error : Option Group → Bool
 is_first_error None = false
 is_first_error (Some group) = not group.bare && is_none group.error
 
--- An end with this error, or none, is the first error of this group, which isn't bare.
+-- The end of a task has an error, which is the first one of this group, and the group isn't bare.
 abbrev pub tells : Option (List ℕ) → Option Group → Bool
 tells None group = false
 tells (Some text) group = is_first_error group
 
--- The scope that the end of a task asks to cancel: that of its group, if this is the group's first
--- error and the group isn't bare.
+-- The scope that the end of a task asks the caller to cancel: the group's own, if the end brings
+-- the first error of a group that isn't bare.
 abbrev pub told_by_end : ℕ → Option (List ℕ) → WorkState → Option ℕ
 told_by_end n error w =
     if tells error (slice_get w.groups (group_of_task w n)) then own_scope w (group_of_task w n)
     else None
 
--- A running task of this group has a lesser number than n.
+-- A task of this group with a number below n is running.
 abbrev pub runs_before : WorkState → ℕ → ℕ → Bool
 runs_before w g n = list_any (λ task. task.group == g && is_running task.stage) (take n w.tasks)
 
--- Task n is the running one with the least number of its group, which isn't bare and has no error.
+-- Task n is the running task of its group with the lowest number, and the group isn't bare and has
+-- no error.
 abbrev pub ends_its_group : WorkState → ℕ → Bool
 ends_its_group w n =
     has_stage is_running w n && not (runs_before w (group_of_task w n) n)
     && is_first_error (slice_get w.groups (group_of_task w n))
 
--- A restart asks to cancel the scopes of the groups that have a running task, no error, and aren't
--- bare, each once, in the order of their least running tasks.
+-- The scopes that a restart asks the caller to cancel: those of the groups that have a running task
+-- and no error, and aren't bare. Each comes once, in the order of the groups' first running tasks.
 abbrev pub told_by_restart : WorkState → List ℕ
 told_by_restart w =
     filter_map (λ n. own_scope w (group_of_task w n))

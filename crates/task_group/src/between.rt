@@ -20,7 +20,7 @@ pub fn fit_scopes(groups: &[Group], scopes: &[Scope]) -> bool
     true
 }
 
-/// Returns whether each scope of kind Group is that of a group that isn't bare.
+/// Returns whether each scope of kind Group belongs to a group that isn't bare.
 pub fn have_groups(scopes: &[Scope], groups: &[Group]) -> bool
     ensures { result ≡ each_passes (has_group groups.now) 0 scopes.now }
 {
@@ -55,7 +55,7 @@ fn has_group(groups: &[Group], s: usize, scope: &Scope) -> bool
     !is_groups(&scope.kind) || is_lived_in(groups, s)
 }
 
-/// Returns whether scope `s` is that of a group that isn't bare.
+/// Returns whether scope `s` belongs to a group that isn't bare.
 fn is_lived_in(groups: &[Group], s: usize) -> bool
     ensures { result ≡ list_any (lives_in s) groups.now }
 {

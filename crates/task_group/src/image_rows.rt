@@ -1,4 +1,4 @@
-//! Rows of groups and tasks in an image, each by itself: they are put, copied from their views, and
+//! Single rows of groups and tasks in an image: they are written, copied from their views, and
 //! tested.
 
 ghost use Rattle.std.specs.List.{flat_map, list_any, AllByRecursion};
@@ -21,7 +21,7 @@ use row_view::copies::{limit_of, name_copy, optional_copy, text_copy};
 use row_view::{GroupRow, StageView, TaskRow, group_row, put_group, put_task, task_row};
 use run_model::{Group, MOST_GROUPS, Stage, Task};
 
-/// Puts the rows of groups at a place, one after the other, and returns the place after them.
+/// Writes the rows of groups at a place, one after another, and returns the place after them.
 pub fn put_groups(rows: &[Group], out: &mut [u8], at: usize) -> usize
     requires room { at + 103 * length rows.now ≤ length out.old }
     ensures end { result ≡ at + length (flat_map group_bytes rows.now) }
@@ -36,7 +36,7 @@ pub fn put_groups(rows: &[Group], out: &mut [u8], at: usize) -> usize
     end
 }
 
-/// Puts the rows of tasks at a place, one after the other, and returns the place after them.
+/// Writes the rows of tasks at a place, one after another, and returns the place after them.
 pub fn put_tasks(rows: &[Task], out: &mut [u8], at: usize) -> usize
     requires links { (n : ℕ) (row : TaskOf) → slice_get rows.now n ≡ Some row
         → IsTrue (is_kept_link Two row.retry_of) }
@@ -84,7 +84,7 @@ pub fn task_copy(row: &TaskRow) -> Task
     }
 }
 
-/// Not started.
+/// Returns whether a task wasn't started.
 pub fn is_fresh(stage: &Stage) -> bool
     ensures { result ≡ is_fresh stage.now }
 {
@@ -101,7 +101,8 @@ pub fn can_retry(new: &Task, old: &Task) -> bool
         && new.argument == old.argument
 }
 
-/// Returns for each group that there can be whether one of these tasks is an error of it.
+/// Returns, for each possible group, whether one of these tasks belongs to it and ended in an
+/// error.
 pub fn lost_groups(tasks: &[Task]) -> [bool; MOST_GROUPS]
     requires { (n : ℕ) (task : TaskOf) → slice_get tasks.now n ≡ Some task
         → task.group < MOST_GROUPS }
@@ -117,7 +118,7 @@ pub fn lost_groups(tasks: &[Task]) -> [bool; MOST_GROUPS]
     lost
 }
 
-/// Ended in failure or interrupted.
+/// Returns whether a task has failed or was interrupted.
 fn is_error(stage: &Stage) -> bool
     ensures { result ≡ ended_in_error stage.now }
 {

@@ -1,5 +1,5 @@
 //! Chains of places. A place has a key or none. The chain of a key links the places that have it,
-//! from the last to the first, so they are found without a walk over all places.
+//! from the last one to the first, so that they are found without a walk over all places.
 
 ghost use Rattle.std.specs.Prelude.{◌≡◌, ◌<◌, ◌≤◌, ℕ, [], ◌∷◌, ◌++◌, Some, length};
 ghost use Rattle.std.specs.Prelude.{IfSome, IfOk, None, replicate, slice_get, vec_capacity};
@@ -10,15 +10,15 @@ ghost use Rattle.scope_tree.specs.Chains.{IsLast, head_of, hung};
 use std::alloc::{AllocError, Allocator};
 use std::marker::Model;
 
-/// The number of chains: the keys are the numbers below it.
+/// The number of chains. A key is a number below it.
 pub const CHAINS: usize = 4_096;
 
-/// Places that are numbered in the order in which they came, and their keys.
+/// Places, numbered in the order in which they were added, and their keys.
 #[derive(Drop)]
 pub struct Chains<A: Allocator> {
     /// The key of each place.
     keys: Vec<Option<u16>, A>,
-    /// For each key that there can be, the last place that has it.
+    /// For each possible key, the last place that has it.
     heads: Vec<Option<u16>, A>,
     /// For each place, the place before it that has the same key.
     nexts: Vec<Option<u16>, A>,
@@ -40,7 +40,7 @@ impl<A: Allocator> Model for Chains<A> {
 }
 
 impl<A: Allocator + Copy> Chains<A> {
-    /// Makes [`Chains`] without a place, in which `capacity` of them fit.
+    /// Makes [`Chains`] without a place and with this capacity. `AllocError` if memory is refused.
     pub fn with_capacity(alloc: A, capacity: usize) -> Result<Chains<A>, AllocError>
         requires { capacity ≤ MOST_SCOPES }
         ensures { IfOk result (λ chains. chains ≡ record { capacity = capacity; keys = [] }) }
@@ -65,7 +65,7 @@ impl<A: Allocator> Chains<A> {
         self.nexts.push_reserved(next);
     }
 
-    /// Returns the last place of this key; `None` if no place has it.
+    /// Returns the last place with this key; `None` if no place has it.
     pub fn last(&self, key: u16) -> Option<u16>
         requires { key < CHAINS }
         ensures { IsLast self.now.keys key (length self.now.keys) result }
@@ -73,7 +73,7 @@ impl<A: Allocator> Chains<A> {
         self.heads[key as usize]
     }
 
-    /// Returns the last place before place `n` that has its key.
+    /// Returns the last place before place `n` that has the same key; `None` if there is none.
     pub fn before(&self, n: u16) -> Option<u16>
         requires { n < length self.now.keys }
         ensures { (key : ℕ) → slice_get self.now.keys n ≡ Some (Some key)

@@ -1,4 +1,4 @@
-//! Changes of the rows, which keep the indexes up to date.
+//! Changes of the rows. They keep the indexes up to date.
 
 ghost use Rattle.std.specs.Prelude.{◌≡◌, ◌<◌, ◌≤◌, ◌++◌, ◌∷◌, [], length, map, vec_len};
 ghost use Rattle.std.specs.Prelude.{vec_capacity, is_none, position, IsTrue, false};
@@ -23,8 +23,8 @@ use arrayvec::ArrayVec;
 use run_model::{Hit, MOST_SCOPES, Moment, Scope};
 use std::alloc::Allocator;
 
-/// Adds a row, whose name no other row has, and enters its name, its link, and its deadline if it
-/// has one that waits. Takes no memory.
+/// Adds a row whose name no other row has. Enters its name and its link in the indexes, and its
+/// deadline if it has one that hasn't passed. Takes no memory.
 pub fn push_row<A: Allocator>(
     scopes: &mut Vec<Scope, A>,
     names: &mut Chains<A>,
@@ -72,8 +72,8 @@ pub fn end_scope<A: Allocator>(
     end(&mut scopes[s as usize], hit);
 }
 
-/// Gives each scope whose deadline is at or before the clock the hit of that deadline, the earliest
-/// first, unless the scope has a hit of its own.
+/// Gives each scope whose deadline is at or before the clock the hit of that deadline, unless the
+/// scope has a hit of its own. The earliest deadline comes first.
 pub fn expire_scopes<A: Allocator>(
     scopes: &mut [Scope],
     links: &Chains<A>,

@@ -1,4 +1,5 @@
-//! Deadlines that wait: a heap of scope numbers, the earliest deadline first.
+//! The deadlines that haven't passed yet: a heap of scope numbers, with the earliest deadline
+//! first.
 //!
 //! Of two equal deadlines, that of the scope with the lower number comes first. A scope that is
 //! canceled stays in the heap until its deadline comes.
@@ -17,7 +18,7 @@ use crate::scope_kinds::own_deadline;
 use arrayvec::ArrayVec;
 use run_model::{Hit, Kind, MOST_SCOPES, Moment, Scope};
 
-/// Puts scope `n` into the heap, if it has a deadline and was not hit.
+/// Adds scope `n` to the heap, if it has a deadline and was not hit.
 pub fn note(scopes: &[Scope], due: &mut ArrayVec<u16, MOST_SCOPES>, n: u16)
     requires heap { IsDueHeap scopes.now due.old.items }
     requires known { n < length scopes.now }
@@ -29,8 +30,8 @@ pub fn note(scopes: &[Scope], due: &mut ArrayVec<u16, MOST_SCOPES>, n: u16)
     }
 }
 
-/// Removes the earliest deadline, if it is at or before the clock, and returns its scope, with the
-/// hit that this event gives to it.
+/// Removes the earliest deadline, if it is at or before the clock. Returns its scope, and the hit
+/// that this event gives to the scope.
 pub fn pop_passed(
     scopes: &[Scope],
     due: &mut ArrayVec<u16, MOST_SCOPES>,
@@ -56,7 +57,7 @@ fn waits(row: &Scope) -> bool
     own_deadline(&row.kind).is_some() && row.hit.is_none()
 }
 
-/// Returns the hit of the earliest deadline, if that has come.
+/// Returns the hit of the earliest deadline, if that deadline has come.
 fn first_hit(scopes: &[Scope], due: &[u16], event: u64, clock: Moment) -> Option<Hit>
     requires known { AreKnown scopes.now due.now }
     requires some { 0 < length due.now }
@@ -65,7 +66,7 @@ fn first_hit(scopes: &[Scope], due: &[u16], event: u64, clock: Moment) -> Option
     hit_due(event, clock, &scopes[due[0] as usize].kind)
 }
 
-/// Puts scope `n` into the heap.
+/// Adds scope `n` to the heap.
 fn push(scopes: &[Scope], due: &mut ArrayVec<u16, MOST_SCOPES>, n: u16)
     requires heap { IsDueHeap scopes.now due.old.items }
     requires known { n < length scopes.now }
@@ -91,7 +92,7 @@ fn take_first(scopes: &[Scope], due: &mut ArrayVec<u16, MOST_SCOPES>) -> u16
     first
 }
 
-/// Lets the scope at place `i` rise to where it belongs.
+/// Moves the scope at place `i` up to its place in the order.
 fn sift_up(scopes: &[Scope], due: &mut [u16], i: usize)
     requires known { AreKnown scopes.now due.old }
     requires inside { i < length due.old }
@@ -110,7 +111,7 @@ fn sift_up(scopes: &[Scope], due: &mut [u16], i: usize)
     }
 }
 
-/// Lets the first scope sink to where it belongs.
+/// Moves the first scope down to its place in the order.
 fn sift_down(scopes: &[Scope], due: &mut [u16])
     requires known { AreKnown scopes.now due.old }
     requires inside { 0 < length due.old }
@@ -130,7 +131,7 @@ fn sift_down(scopes: &[Scope], due: &mut [u16])
     }
 }
 
-/// Returns the place below `i` that has the lesser key, or `i` if nothing is below it.
+/// Returns the place below `i` that has the lower key, or `i` if nothing is below it.
 fn lesser_child(scopes: &[Scope], due: &[u16], i: usize) -> usize
     requires known { AreKnown scopes.now due.now }
     requires inside { i < length due.now }
@@ -149,7 +150,7 @@ fn lesser_child(scopes: &[Scope], due: &[u16], i: usize) -> usize
     }
 }
 
-/// Returns the key of scope `n`: keys go by deadline, and then by number.
+/// Returns the key of scope `n`. Keys are ordered by deadline, and then by number.
 fn key(scopes: &[Scope], n: u16) -> u64
     requires { n < length scopes.now }
     ensures { result ≡ key_of scopes.now n }

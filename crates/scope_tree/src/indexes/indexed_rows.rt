@@ -1,4 +1,5 @@
-//! [`IndexedRows`] are the rows of a tree's scopes, in order of number, with all of its indexes.
+//! [`IndexedRows`] are the rows of a tree's scopes, in the order of their numbers, with all
+//! indexes.
 
 ghost use Rattle.std.specs.Option.{option_copied};
 ghost use Rattle.std.specs.Prelude.{◌≡◌, ◌<◌, ◌≤◌, ◌++◌, ◌∷◌, [], length, map, position, is_none};
@@ -23,24 +24,24 @@ use run_model::{Hit, MOST_SCOPES, Moment, Scope, is_spelled};
 use std::alloc::{AllocError, Allocator};
 use std::marker::Model;
 
-/// The rows of scopes in order of number: a parent has a lower number than its children, and no two
-/// scopes have the same name. Their capacity is fixed, so only [`IndexedRows::with_capacity`] takes
-/// memory.
+/// The rows of scopes in the order of their numbers: a parent has a lower number than its children,
+/// and no two scopes have the same name. Their capacity is fixed, so only
+/// [`IndexedRows::with_capacity`] takes memory.
 ///
-/// [`IndexedRows::end`] and [`IndexedRows::expire`] look only at the scopes that they end,
-/// [`IndexedRows::value`] only at the scopes upwards that hold a value, [`IndexedRows::find`] only
-/// at the scopes whose names have the same hash, and each other call at a few scopes. Adding or
-/// passing a deadline takes a number of steps that is logarithmic in the number of deadlines.
+/// [`IndexedRows::end`] and [`IndexedRows::expire`] visit only the scopes that they end.
+/// [`IndexedRows::value`] visits only the scopes upwards that hold a value, [`IndexedRows::find`]
+/// only the scopes whose names have the same hash, and each other call visits a few scopes. Adding
+/// or passing a deadline takes a number of steps that is logarithmic in the number of deadlines.
 #[derive(Drop)]
 pub struct IndexedRows<A: Allocator> {
     scopes: Vec<Scope, A>,
     /// One for each scope: the scope whose own hit ended it.
     marks: Vec<Option<u16>, A>,
-    /// A place for each scope: its name's hash is the key.
+    /// A place for each scope, whose key is the hash of its name.
     names: Chains<A>,
-    /// A place for each scope: the scope that ends it is the key.
+    /// A place for each scope, whose key is the scope that ends it.
     links: Chains<A>,
-    /// The deadlines that wait, as a heap.
+    /// A heap of the deadlines that haven't passed yet.
     due: ArrayVec<u16, MOST_SCOPES>,
     /// One for each scope.
     reaches: Vec<Reach, A>,
@@ -61,8 +62,8 @@ impl<A: Allocator> Model for IndexedRows<A> {
 }
 
 impl<A: Allocator + Copy> IndexedRows<A> {
-    /// Makes [`IndexedRows`] without a scope, in which `capacity` of them fit. `AllocError` if the
-    /// memory for them is refused.
+    /// Makes [`IndexedRows`] without a scope and with this capacity. `AllocError` if memory is
+    /// refused.
     pub fn with_capacity(alloc: A, capacity: usize) -> Result<IndexedRows<A>, AllocError>
         requires { capacity ≤ MOST_SCOPES }
         ensures { IfOk result (λ rows. rows ≡ record { capacity = capacity; rows = [] }) }
@@ -85,8 +86,8 @@ impl<A: Allocator + Copy> IndexedRows<A> {
 }
 
 impl<A: Allocator> IndexedRows<A> {
-    /// Adds a row as the scope with the next number. No other scope has its name, and its parent is
-    /// there, unless the row is root's. The row may have a hit of its own.
+    /// Adds a row as the scope with the next number. No other scope may have its name, and its
+    /// parent must exist, unless the row is root's. The row may have a hit of its own.
     pub fn push(&mut self, row: Scope)
         requires room { length self.old.rows < self.old.capacity }
         requires free { IsTrue (is_none
@@ -118,8 +119,8 @@ impl<A: Allocator> IndexedRows<A> {
     }
 
     /// Gives each scope whose deadline is at or before `clock` the hit of that deadline, unless it
-    /// has a hit of its own. A scope that is done because a scope above it is gets the hit too. The
-    /// event is later than those of all earlier hits.
+    /// has a hit of its own. The scope gets this hit even if it is done because of a scope above
+    /// it. The event must come after those of all earlier hits.
     pub fn expire(&mut self, event: u64, clock: Moment)
         requires { AreEarlier self.old.rows event }
         ensures { self.new ≡ record self.old { rows = map (tick event clock) self.old.rows } }

@@ -1,8 +1,8 @@
-//! Marks: the mark of a scope is the number of the scope whose own hit ended it.
+//! The mark of a scope is the number of the scope whose own hit ended it.
 //!
-//! A hit marks its scope and the scopes that end with it, with a list of the scopes whose children
-//! are still to be marked. So it looks only at scopes that it ends. A row that is added takes its
-//! mark from its parent's mark and its own hit, whichever came first.
+//! A hit marks its scope and the scopes that end with it. A list holds the scopes whose children
+//! are still to be marked, so only scopes that the hit ends are visited. A row that is added takes
+//! its mark from its parent's mark or its own hit, whichever came first.
 
 ghost use Rattle.std.specs.Option.{option_copied, option_map_or};
 ghost use Rattle.std.specs.Prelude.{◌≡◌, ◌+◌, ◌<◌, ◌≤◌, ℕ, List, Option, Some, None, length};
@@ -21,7 +21,7 @@ use arrayvec::ArrayVec;
 use run_model::{Hit, MOST_SCOPES, Scope};
 use std::alloc::Allocator;
 
-/// Returns the mark that a row gets if it is added.
+/// Returns the mark that this row gets when it is added.
 pub fn mark_for(scopes: &[Scope], marks: &[Option<u16>], row: &Scope) -> Option<u16>
     requires ordered { AreOrdered scopes.now }
     requires few { length scopes.now < MOST_SCOPES }

@@ -1,20 +1,20 @@
-//! Names: a hash of its bytes leads to the scope of a name.
+//! Finds a scope by its name, through a hash of the name's bytes.
 //!
-//! The hash has no key. So somebody can choose many names with the same hash; they share a chain,
-//! and a search in it looks at each of them.
+//! The hash has no secret key. So somebody can choose many names with the same hash. They share a
+//! chain, and a search in this chain compares each of them.
 
 ghost use Rattle.std.specs.Prelude.{◌≡◌, ◌<◌};
 ghost use Rattle.scope_tree.specs.Names.{home};
 
 use crate::indexes::chains::CHAINS;
 
-/// Spreads neighbouring names over the chains: 2 to the 32nd divided by the golden ratio, and odd.
+/// Spreads similar names over the chains: 2^32 divided by the golden ratio, made odd.
 const FACTOR: u32 = 2_654_435_761;
 
-/// Mixed names are the numbers below it: 2 to the 32nd.
+/// A mixed name is a number below 2^32.
 const SPAN: u64 = 4_294_967_296;
 
-/// Returns the chain of a name.
+/// Returns the chain to which a name belongs.
 pub fn home(name: &[u8]) -> u16
     ensures home { result ≡ home name.now }
     ensures chain { result < CHAINS }

@@ -1,4 +1,4 @@
-//! Reaches: the reach of a scope is its deadline, and the nearest scope upwards that holds a value.
+//! The reach of a scope is its deadline, and the nearest scope from it upwards that holds a value.
 //! Kind and parent of a scope never change, so its reach is computed once, when the row is added.
 
 ghost use Rattle.std.specs.Prelude.{◌≡◌, ◌<◌, ◌≤◌, length, vec_len, vec_capacity};
@@ -11,14 +11,14 @@ use crate::scope_kinds::{is_detached, is_root, own_deadline};
 use run_model::{Kind, MOST_SCOPES, Moment, Scope};
 use std::alloc::Allocator;
 
-/// A scope's deadline, and the nearest scope at or above it that holds a value, otherwise root.
+/// A scope's deadline, and the nearest scope at or above it that holds a value, or else root.
 #[derive(Clone, Copy)]
 pub struct Reach {
     pub deadline: Option<Moment>,
     pub holder: u16,
 }
 
-/// Computes the reaches of the last scopes, which have none yet. Takes no memory.
+/// Computes the reaches of the last scopes, which don't have one yet. Takes no memory.
 pub fn reach_rest<A: Allocator>(scopes: &[Scope], reaches: &mut Vec<Reach, A>)
     requires ordered { AreOrdered scopes.now }
     requires few { length scopes.now ≤ MOST_SCOPES }
@@ -59,7 +59,7 @@ fn new_reach(scopes: &[Scope], reaches: &[Reach], s: u16) -> Reach
     Reach { deadline, holder }
 }
 
-/// Returns whether a search for a value has to look at a scope of this kind, or ends there.
+/// Returns whether a search for a value examines a scope of this kind, or ends there.
 fn is_holder(kind: &Kind) -> bool
     ensures { result ≡ is_holder kind.now }
 {

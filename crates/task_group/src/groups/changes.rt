@@ -194,7 +194,7 @@ impl<A: Allocator> Groups<A> {
         told
     }
 
-    /// Appends a task, which may be a retry of one.
+    /// Appends a task, which may be a retry of another one.
     fn submit(&mut self, group: u16, job: Name, argument: Name, tried: Option<u16>) -> u16
         requires open { IsTrue (is_open self.old group) }
         requires room { length self.old.tasks < most_tasks self.old.layout }
@@ -209,7 +209,8 @@ impl<A: Allocator> Groups<A> {
         n
     }
 
-    /// Appends a task that was not started: ready if the limit admits one more, otherwise held.
+    /// Appends a task that wasn't started. It is ready if the limit admits one more, and otherwise
+    /// held.
     pub(crate) fn take_fresh(&mut self, row: Task)
         requires fresh { is_fresh row.stage ≡ true }
         requires place { HasPlace self.old row }
@@ -226,7 +227,8 @@ impl<A: Allocator> Groups<A> {
         push_task(&mut self.tasks, row);
     }
 
-    /// Ends a running task at this stage, with this error or none.
+    /// Ends a running task at this stage, with this error or none. Returns the scope that must be
+    /// canceled.
     fn end(&mut self, task: u16, stage: Stage, error: Option<&[u8]>) -> Option<u16>
         requires error { IfSome error (λ e. IsText e.now) }
         requires running { IsTrue (has_stage is_running self.old task) }
@@ -249,7 +251,8 @@ impl<A: Allocator> Groups<A> {
         first.then_some(scope)
     }
 
-    /// Interrupts a running task, which is an error of its group.
+    /// Interrupts a running task, which is an error of its group. Returns the scope that must be
+    /// canceled.
     fn interrupt(&mut self, task: u16) -> Option<u16>
         requires { IsTrue (has_stage is_running self.old task) }
         ensures told { result ≡ told_by_end task (Some interruption) self.old }
@@ -261,7 +264,7 @@ impl<A: Allocator> Groups<A> {
     }
 }
 
-/// Notes a scope that must be cancelled, if there is one.
+/// Adds a scope that must be canceled to the list, if there is one.
 fn note(told: &mut ArrayVec<u16, MOST_GROUPS>, scope: Option<u16>)
     requires { length told.old.items + length (option_to_list scope) ≤ MOST_GROUPS }
     ensures { told.new.items ≡ told.old.items ++ option_to_list scope }

@@ -1,6 +1,6 @@
 //! The rows of groups and tasks in an image. They are written in the order of their numbers. They
-//! are read one by one, and each is tested against those before it. The counters and lists besides
-//! the rows are built in the course of reading.
+//! are read one by one, and each is tested against those before it. The counters and lists that are
+//! kept next to the rows are built while reading.
 
 ghost use Rattle.std.specs.List.{flat_map, AllByRecursion};
 ghost use Rattle.std.specs.Option.{IfNone, IfSome};
@@ -36,9 +36,9 @@ use run_model::{Fault, Group, Layout, MOST_GROUPS, Scope, Task};
 use std::alloc::Allocator;
 
 impl<A: Allocator> Groups<A> {
-    /// Writes the rows of the groups at a place, and those of the tasks after them, both in the
-    /// order of their numbers, in version 2. Returns the place after all of them. The row of a
-    /// group has at most 103 bytes, and that of a task 136. Takes no memory.
+    /// Writes the rows of the groups at a place, and after them those of the tasks, both in the
+    /// order of their numbers and in version 2. Returns the place after them. The row of a group
+    /// has at most 103 bytes, and that of a task 136. Takes no memory.
     pub fn write_rows(&self, out: &mut [u8], at: usize) -> usize
         requires room { at + 103 * length self.now.groups + 136 * length self.now.tasks
             ≤ length out.old }
@@ -112,8 +112,8 @@ impl<A: Allocator> Groups<A> {
         Some(rest)
     }
 
-    /// Reads so many groups after those that there are. `None` if the bytes don't begin with them,
-    /// or one of them has the name of one before it.
+    /// Reads `many` groups after the existing ones. `None` if the bytes don't begin with that many
+    /// rows, or if a group has the name of one before it.
     fn read_groups<'a>(&mut self, many: u16, bytes: &'a [u8]) -> Option<&'a [u8]>
         requires room { length self.old.groups + many ≤ MOST_GROUPS }
         ensures read { IfSome result (λ rest.
@@ -138,8 +138,8 @@ impl<A: Allocator> Groups<A> {
         Some(rest)
     }
 
-    /// Reads so many tasks after those that there are. `None` if the bytes don't begin with them,
-    /// or one of them can't come there.
+    /// Reads as many tasks as the head says. `None` if the bytes don't begin with that many rows,
+    /// or if one of them can't come at its place.
     fn read_tasks<'a>(&mut self, head: &ImageHead, bytes: &'a [u8]) -> Option<&'a [u8]>
         requires room { length self.old.tasks + head.now.tasks ≤ most_tasks self.old.layout }
         ensures read { IfSome result (λ rest.
@@ -166,7 +166,7 @@ impl<A: Allocator> Groups<A> {
         Some(rest)
     }
 
-    /// Returns whether a task can come after those that there are.
+    /// Returns whether this task can come after the existing ones.
     fn can_come(&self, row: &Task) -> bool
         ensures { result ≡ can_come self.now.layout self.now.groups self.now.tasks row.now }
     {
@@ -179,8 +179,8 @@ impl<A: Allocator> Groups<A> {
         self.is_linked(row)
     }
 
-    /// Returns whether a task is a retry of none, or of one that it can be a retry of and that none
-    /// is a retry of yet.
+    /// Returns whether the task isn't a retry, or retries a task that it can retry and that no
+    /// other task retries.
     fn is_linked(&self, row: &Task) -> bool
         ensures { result ≡ is_linked self.now.tasks row.now }
     {
@@ -202,7 +202,7 @@ impl<A: Allocator> Groups<A> {
         push_seats(&mut self.seats);
     }
 
-    /// Appends a task that can come.
+    /// Appends a task, which must be able to come after the existing ones.
     fn take_task(&mut self, row: Task)
         requires come { can_come self.old.layout self.old.groups self.old.tasks row ≡ true }
         requires room { length self.old.tasks < most_tasks self.old.layout }
@@ -234,7 +234,7 @@ impl<A: Allocator> Groups<A> {
         push_task(&mut self.tasks, row);
     }
 
-    /// Appends a task that has ended, which takes no seat.
+    /// Appends a task that has ended, and so doesn't count against the limit.
     fn take_ended(&mut self, row: Task)
         requires ended { is_unfinished row.stage ≡ false }
         requires place { HasPlace self.old row }
@@ -245,8 +245,8 @@ impl<A: Allocator> Groups<A> {
         push_task(&mut self.tasks, row);
     }
 
-    /// Returns whether each group that was waited for is idle, and each has an error exactly when a
-    /// task of it has.
+    /// Returns whether each group that was waited for has no unfinished task, and each group has an
+    /// error exactly if a task of it ended in one.
     fn are_settled(&self) -> bool
         ensures { result ≡ each_passes (is_settled self.now) 0 self.now.groups }
     {
@@ -259,7 +259,7 @@ impl<A: Allocator> Groups<A> {
         true
     }
 
-    /// Returns the same of one group, given whether a task of it has an error.
+    /// Returns the same for one group. `lost` says whether a task of it ended in an error.
     fn is_settled(&self, g: usize, lost: bool) -> bool
         requires known { g < length self.now.groups }
         requires lost { lost ≡ has_task_error self.now g }
@@ -274,7 +274,7 @@ impl<A: Allocator> Groups<A> {
     }
 }
 
-/// Returns whether so many groups and tasks as the head says fit in a store of this layout.
+/// Returns whether as many groups and tasks as the head says fit into a store of this layout.
 fn has_room(layout: Layout, head: &ImageHead) -> bool
     ensures { result ≡ has_work_room layout head.now }
 {

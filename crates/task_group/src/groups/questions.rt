@@ -144,7 +144,7 @@ impl<A: Allocator> Groups<A> {
     }
 }
 
-/// Returns the place of the row of this name.
+/// Returns the place of the row with this name.
 fn place_of(groups: &[Group], name: &[u8]) -> Option<usize>
     ensures { result ≡ position (λ row. bytes_eq name.now row.name) groups.now }
 {
