@@ -1,4 +1,4 @@
--- What is left of a store that is opened, played over, saved and opened again.
+-- What is left of a store that is opened, played over, flushed and opened again.
 use Rattle.std.specs.Prelude.{◌≡◌, ◌⊎◌, ◌<◌, ◌++◌, ℕ, List, [], Result, Ok, Err, Some, false}
 use Rattle.run_model.specs.declared.answers.Reply.{Reply}
 use Rattle.run_model.specs.declared.commands.Step.{Step}
@@ -19,18 +19,18 @@ use Rattle.book_model.specs.Plays.{Playing, Plays, sound, taken}
 use Rattle.book_model.specs.Steps.{PlaysInto}
 use Rattle.book_model.specs.Stores.{Stores, StoresNothingOr, StoresOpened, restarted}
 
--- The disk that an answer gives back, in a book or alone.
+-- The disk that is returned, in a book or next to a fault.
 abbrev pub disk_in : {D X : Type 0} → Result (BookView D) (X × D) → D
 disk_in (Ok b) = b.journal.disk
 disk_in (Err stopped) = stopped.1
 
 -- ---- at the end
 
--- In words of a user: the steps over a store of state p, once it was opened, were answered one
--- after another, as a book may answer them that isn't broken at their end. All events that they
--- led to, in order and none left out, make one state. The store was opened again after a restart
--- of that state. The restart interrupts what was running, and besides changes only the count, and
--- what an interruption does to its group and that group's scope.
+-- In a user's words: a store of state p was opened, and the steps over it were answered one after
+-- another, as by a book that isn't broken after them. All accepted events, in order and without a
+-- gap, lead from the opening to one state. The store was opened again after a restart of that
+-- state. The restart interrupts the tasks that were running. Apart from that it changes only the
+-- count, and what an interruption does to a group and to the scope of the group.
 pub record HasLasted (p : State) (steps : List Step) (before replies : List Reply) (b : Session)
     : Type 0 where
   pub answers : List Reply
@@ -45,34 +45,34 @@ pub record HasLasted (p : State) (steps : List Step) (before replies : List Repl
 
 -- ---- at each moment
 
--- The bytes store what a restart leaves of the state that these events lead to.
+-- The bytes store the restart of the state to which these events lead.
 pub record StoresReopened (start : State) (events : List Event) (bytes : List ℕ) : Type 0 where
   pub last : State
   pub reached : run start events ≡ Some last
   pub stores : Stores bytes (restarted last)
 
--- The bytes store state p; or a state that a restart of it and a prefix of the events, perhaps
--- empty, led to; or what a second restart leaves after all of them.
+-- The bytes store state p; or a state to which a restart of p and a prefix of the events (perhaps
+-- an empty one) lead; or the second restart, after all of them.
 abbrev pub HoldsOne : State → List Event → List ℕ → Type 0
 HoldsOne p events bytes =
     Stores bytes p
     ⊎ HasKept (restarted p) events [] bytes
     ⊎ StoresReopened (restarted p) events bytes
 
--- Whenever a crash comes between two moments, the disk holds one of these, by the events that the
--- steps led to whose replies are at the end of the list.
+-- A crash at any moment between the two leaves a disk that holds one of these states. The events
+-- are those of the steps whose replies come last in the list.
 pub record HasStayed (p : State) (steps : List Step) (before replies : List Reply)
     (old new : DiskState) : Type 0 where
   pub answers : List Reply
   pub appended : replies ≡ before ++ answers
   pub held : LeavesOnly (HoldsOne p (accepted (opened_from p) (taken steps answers))) old new
 
--- The bytes store nothing, or one of these.
+-- The bytes store nothing, or one of these states.
 abbrev pub HoldsOneOrNothing : State → List Event → List ℕ → Type 0
 HoldsOneOrNothing p events bytes = StoresNothingOr p bytes ⊎ HoldsOne p events bytes
 
--- The same of a disk that is formatted first: until the format is done the disk stores nothing, or
--- root alone.
+-- The same for a disk that is formatted first. Until the format is done, the disk stores nothing or
+-- only root.
 pub record HasStayedNew (p : State) (steps : List Step) (before replies : List Reply)
     (old new : DiskState) : Type 0 where
   pub answers : List Reply
@@ -80,22 +80,21 @@ pub record HasStayedNew (p : State) (steps : List Step) (before replies : List R
   pub held : LeavesOnly (HoldsOneOrNothing p (accepted (opened_from p) (taken steps answers))) old
       new
 
--- ---- where it stops
+-- ---- calls that end early
 
--- A device call failed between two moments, or the disk is spent.
+-- A device call failed between the two moments, or the disk is spent.
 abbrev pub DeviceFails : DiskState → DiskState → Type 0
 DeviceFails old new = (old.failures < new.failures) ⊎ (new.clock ≡ last_moment)
 
--- Why such a row of calls stops: memory was refused; the store's numbers are used up; or a device
--- call failed in it: it reports that fault, or, if a step before met the fault, that the book is
--- broken.
+-- Why the calls end early: memory was refused; the store's numbers are used up; or a device call
+-- failed. Then they report that fault, or, if an earlier step met it, that the book is broken.
 abbrev pub StopsFor : DiskState → DiskState → Trouble → Type 0
 StopsFor old new why =
     (why ≡ Faulty Memory)
     ⊎ (why ≡ Faulty NumbersSpent)
     ⊎ (((why ≡ Faulty DiskFailed) ⊎ (why ≡ Refused Broken)) × DeviceFails old new)
 
--- ---- on the way
+-- ---- intermediate states
 
 -- A store of state p was opened over this disk, and the steps were played over the book. No public
 -- contract cites this.

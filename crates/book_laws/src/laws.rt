@@ -1,5 +1,5 @@
-//! Laws about the calls of a book. Each function makes a row of them, and its clauses are the law:
-//! they follow from the clauses of the calls.
+//! Laws of several calls of a book, one after another. Each function makes such calls, and its
+//! clauses are the law. They follow from the clauses of the calls.
 
 ghost use Rattle.std.specs.Prelude.{◌≡◌, ◌+◌, ◌≤◌, length, vec_capacity, vec_len};
 ghost use Rattle.std.specs.Prelude.{IfOk, IfErr, OnErr};
@@ -20,17 +20,17 @@ use run_disk::{MemoryDisk, RunDisk};
 use run_model::{Fault, Layout, Reply, Step, Trouble};
 use std::alloc::Allocator;
 
-/// A store of state p is opened, steps are played over it, their events are flushed, and the store
-/// is opened again from the book's disk.
+/// Opens a store of state p, plays steps over it, flushes their events, and opens the store again
+/// from the book's disk.
 ///
-/// If all this succeeds, the book begins with the state that all accepted events led to, after a
-/// restart: no event is lost, whatever the steps were. And whenever a crash comes since the start,
-/// also inside a call, the disk holds state p, or the state that a restart of p and a prefix of
-/// these events, perhaps empty, led to, or, once it has them all, that state after the second
-/// restart.
+/// If all this succeeds, the book begins with the state to which all accepted events led, after a
+/// restart: no event is lost, whatever the steps were. If a crash comes at any moment since the
+/// start, even during a call, the disk holds one of three states: state p; the state to which a
+/// restart of p and a prefix of these events (perhaps an empty one) led; or, once it has all of
+/// them, that state after the second restart.
 ///
-/// These calls stop if memory is refused, if the store's numbers are used up, or if a device call
-/// failed. They return that fault, or `Broken` if a step met it.
+/// The calls end early if memory is refused, if the store's numbers are used up, or if a device
+/// call failed. They return that fault, or `Broken` if a step met it.
 pub fn use_store<D: RunDisk, A: Allocator + Copy, B: Allocator>(
     alloc: A,
     disk: D,
@@ -61,9 +61,9 @@ pub fn use_store<D: RunDisk, A: Allocator + Copy, B: Allocator>(
     }
 }
 
-/// The same for a disk that is formatted first. If the disk held zeros, it stores nothing or root
-/// alone until the format is done. The calls stop for the same reasons, if the disk has a store's
-/// size.
+/// The same for a disk that is formatted first. If the disk held zeros, it stores nothing or only
+/// root until the format is done. The calls end early for the same reasons, if the disk has the
+/// size of a store.
 pub fn use_new_store<D: RunDisk, A: Allocator + Copy, B: Allocator>(
     alloc: A,
     disk: D,
@@ -112,7 +112,7 @@ pub fn use_new_store_in_memory<A: Allocator + Copy, B: Allocator>(
     }
 }
 
-/// A store is opened, and steps are played over it.
+/// Opens a store, and plays steps over it.
 fn open_and_play<D: RunDisk, A: Allocator + Copy, B: Allocator>(
     alloc: A,
     disk: D,

@@ -1,5 +1,5 @@
-//! Laws of the calls of a book, from their clauses alone: what a row of them leaves, and what a
-//! renewal answers.
+//! Laws of the calls of a book, derived from their clauses only: what several calls, one after
+//! another, leave of a store, and what a renewal returns.
 #![tactic(auto)]
 
 pub mod laws;

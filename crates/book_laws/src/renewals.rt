@@ -1,5 +1,5 @@
-//! Laws of a renewal, from the clause of `book_renewal::renew`: what it answers, by what the
-//! bytes of the old disk store; what it leaves of the old store; and which disk failed.
+//! Laws of a renewal, derived from the clause of `book_renewal::renew`: its result, depending on
+//! what the bytes of the old disk store; what it leaves of the old store; and which disk failed.
 
 ghost use Rattle.std.specs.Prelude.{◌≡◌, ◌⊎◌, ◌<◌, ◌^◌, ℕ, List, MatchResult, Result, false, true};
 ghost use Rattle.run_model.specs.declared.faults.Fault.{Fault as FaultOf};

@@ -1,11 +1,11 @@
--- The machine that a book over a disk is to whoever uses it: the answers to its steps, what a crash
--- leaves of it, and what the next opening finds. The machine doesn't hold why an opening is in
--- vain, nor how many calls of the disk are made.
+-- A book over a disk, as the machine that its user sees: the answers to its steps, what a crash
+-- leaves of it, and what the next opening finds. The machine doesn't show why an opening fails, or
+-- how many calls of the disk are made.
 --
--- Three machines that are not it. One that forgets an acknowledged event has no stop to do so by:
--- `StopsAt` needs `acked` events at least. One that adds a command of its own, or takes one twice,
--- has no move for that: only `took` makes the history longer, by the event of the step that was
--- taken. And one that changes the order has none either: what is left is a prefix of the history.
+-- Three machines are excluded. One that forgets an acknowledged event: `StopsAt` requires that at
+-- least `acked` events are left. One that adds a command of its own, or takes one twice: only
+-- `took` makes the history longer, by the event of the step that was taken. One that changes the
+-- order of events: a crash leaves a prefix of the history.
 use Rattle.std.specs.Prelude.{◌≡◌, ◌⊎◌, ◌∷◌, [], if◌then◌else◌, ℕ, List, length}
 use Rattle.run_model.specs.declared.answers.Reply.{Reply}
 use Rattle.run_model.specs.declared.commands.Step.{Step}
@@ -22,20 +22,20 @@ pub record Running : Type 0 where
   pub book : Playing
   pub acked : ℕ
 
--- The machine is stopped, and a state is stored; or it runs.
+-- The machine is stopped and a state is stored, or the machine runs.
 pub data Machine : Type 0 where
   Stored : State → Machine
   Runs : Running → Machine
 
--- What somebody does with the machine.
+-- What the user of the machine does, or a crash.
 pub data Move : Type 0 where
   -- it is opened
   Open : Move
-  -- it is to be opened, which fails or is cut off
+  -- an opening fails, or a crash comes before its result is used
   OpenInVain : Move
-  -- a step is taken, and this is its reply
+  -- a step is taken, and this is the reply to it
   Take : Step → Reply → Move
-  -- a crash stops it in the midst of these steps, whose replies nobody was told
+  -- a crash comes during these steps, before anybody has seen the replies to them
   Stop : List Step → Move
 
 -- The machine after an opening: in the restart of the stored state, with no event since then.

@@ -1,4 +1,5 @@
--- Many nights of the machine: which state they lead to, by what their replies acknowledged.
+-- Many sessions of the machine: the states to which they lead, depending on what their replies
+-- acknowledged.
 use Rattle.std.specs.Prelude.{◌≡◌, ◌⊎◌, ◌++◌, ◌∷◌, [], ℕ, List, map, Some}
 use Rattle.run_model.specs.declared.answers.Reply.{Reply}
 use Rattle.run_model.specs.declared.commands.Step.{Step}
@@ -12,13 +13,13 @@ use Rattle.book_model.specs.Nights.{opened_from}
 use Rattle.book_model.specs.Plays.{taken}
 use Rattle.book_model.specs.Stores.{Stores, restarted}
 
--- What can be seen of a night: an opening that failed; or the steps that were answered, each with
--- its reply, and the steps in whose middle a crash came.
+-- What can be seen of a session: an opening that failed, or the steps that were answered, each with
+-- its reply, and the steps during which a crash came.
 pub data Night : Type 0 where
   InVain : Night
   Spent : List (Step × Reply) → List Step → Night
 
--- The moves of a night.
+-- The moves of a session.
 abbrev pub moves_of : Night → List Move
 moves_of InVain = OpenInVain ∷ []
 moves_of (Spent calls more) =
@@ -31,7 +32,7 @@ steps_of calls = map (λ call. call.0) calls
 abbrev pub answers_of : List (Step × Reply) → List Reply
 answers_of calls = map (λ call. call.1) calls
 
--- The night leads from state p to state q: by a restart, by the events that its replies
+-- The session leads from state p to state q: by a restart, by the events that its replies
 -- acknowledged, and perhaps by some more of the accepted events, in order and without a gap.
 pub record LeadsOver (p : State) (calls : List (Step × Reply)) (more : List Step) (q : State)
     : Type 0 where
@@ -49,12 +50,12 @@ abbrev pub Leads : State → Night → State → Type 0
 Leads p InVain q = (q ≡ p) ⊎ (q ≡ restarted p)
 Leads p (Spent calls more) q = LeadsOver p calls more q
 
--- These nights, one after another, lead from state p to state q.
+-- These sessions, one after another, lead from state p to state q.
 abbrev pub LeadOver : State → List Night → State → Type 0
 LeadOver p [] q = q ≡ p
 LeadOver p (night ∷ nights) q = (next : State) × Leads p night next × LeadOver next nights q
 
--- The disk stores a state to which these nights lead.
+-- The disk stores a state to which these sessions lead.
 pub record StoresAfterNights (p : State) (nights : List Night) (bytes : List ℕ) : Type 0 where
   pub state : State
   pub stores : Stores bytes state

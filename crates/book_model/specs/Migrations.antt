@@ -1,10 +1,10 @@
--- What a migration answers, and what it leaves of its two disks: a small store is read, and a large
--- one is made of the state that it stores.
+-- What a migration returns, and what it leaves of its two disks. It reads a small store, and makes
+-- a large one from the state in it.
 --
--- Its faults come in this order, and it reports the first whose cause holds: Old(WrongSize), if the
--- old disk doesn't have a small store's size; New(WrongSize), if the new one doesn't have a large
--- store's; Memory; those of a recovery of the old disk, from DiskFailed on, as Old;
--- Old(NumbersSpent), if 2^62 events or more were found; New(DiskFailed).
+-- It reports the first fault that applies, in this order: Old(WrongSize) if the old disk doesn't
+-- have the size of a small store; New(WrongSize) if the new one doesn't have that of a large store;
+-- Memory; the faults of a recovery of the old disk, beginning with DiskFailed, as Old;
+-- Old(NumbersSpent) if its state has 2^62 events or more; New(DiskFailed).
 use Rattle.std.specs.Prelude.{◌≡◌, ◌⊎◌, ◌<◌, ◌≤◌, ◌+◌, ◌^◌, ℕ, List, Result, Ok, Err, MatchResult}
 use Rattle.std.specs.Prelude.{IfOk}
 use Rattle.run_model.specs.declared.faults.Fault.TheVariants.{DiskFailed, Memory, NumbersSpent}
@@ -72,7 +72,7 @@ StopsWriting p given new =
     → LeavesOnly (StoresNothingOr p) given new
 
 -- A store of this state was made, by eight calls, none of which failed. Every crash now leaves a
--- fresh store of it, in generation 0. The disk is at rest if it was so before.
+-- fresh store of it, in generation 0. The disk is at rest if it was at rest before.
 pub record HasWritten (layout : Layout) (p : State) (given new : DiskState) : Type 0 where
   pub made : Made 8 given new
   pub passed : Passed given new

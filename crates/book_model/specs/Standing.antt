@@ -25,14 +25,14 @@ pub record Finds {D : Type 0} (state : D → DiskState) (left : List ℕ → Typ
   pub rest : IsAtRest (state next)
   pub content : left (state next).now
 
--- An opening returns, but a crash at some moment since it began comes first, or no book is wanted
--- any more. The next opening finds what that left.
+-- The opening returns, but its result isn't used: a crash came at some moment since it began, or
+-- the book was dropped. The next opening finds what that left.
 pub record CutsOpening {D : Type 0} (state : D → DiskState) (given next : D) : Type 0 where
   pub result : Result (BookView D) (Fault × D)
   pub opens : Opens state given result
   pub finds : Finds state ((state (disk_after result)).since (state given).clock) next
 
--- These steps are taken, but a crash at some moment since the first one began comes before anybody
+-- These steps are taken, but a crash comes at some moment since the first one began, before anybody
 -- sees the replies. The next opening finds what that left.
 pub record CutsSteps {D : Type 0} (state : D → DiskState) (h : BookView D) (more : List Step)
     (next : D) : Type 0 where

@@ -26,9 +26,9 @@ ghost use Rattle.book_model.specs.Stores.{Stores, StoresPrefix, StoresOpened, re
 
 use run_disk::RunDisk;
 
-/// A book whose images hold the acknowledged events carries on if no call is made, and if events
-/// are added without a device call. If it carries on over each of two runs of calls, one after the
-/// other, it carries on over both together.
+/// A book carries on if no call is made, and if events are added without a device call, provided
+/// that its images hold the acknowledged events. If it carries on over each of two runs of calls,
+/// one after the other, it carries on over both together.
 pub fn a_book_carries_on<D: RunDisk>()
     ensures none { (h : BookView D) → IsDurable D.state h → CarriesOn D.state h h }
     ensures more { (h : BookView D) (s : Session) (events : List Event)

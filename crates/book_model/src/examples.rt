@@ -1,6 +1,6 @@
-//! Worked examples: the replies to the steps of a short night, and what the questions answer after
-//! them; what a store means; and what a book answers. Each example is computed from the definitions
-//! alone, without any of the code that runs a store.
+//! Worked examples: the replies to the steps of a short session, and what the questions answer
+//! after them; what a store means; and what a book answers. Each example is computed from the
+//! definitions only, without any of the code that runs a store.
 //!
 //! Each function has an empty body, and its clauses are the example.
 

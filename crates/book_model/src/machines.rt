@@ -1,4 +1,4 @@
-//! A book over a disk is a machine. These laws say so, and to which state many nights of it lead.
+//! A book over a disk is a machine. These laws say so, and say to which state many sessions lead.
 
 ghost use Rattle.std.specs.Prelude.{◌≡◌, ◌≤◌, ◌++◌, ◌∷◌, List, ℕ, false, length, Some};
 ghost use Rattle.std.specs.List.{flat_map};

@@ -19,13 +19,13 @@ use run_model::Fault;
 /// Says why a migration or a renewal has made no new store.
 #[derive(Clone, Copy, Debug, PartialEq, Eq)]
 pub enum MigrateFault {
-    /// The memory that was needed was refused.
+    /// Memory was refused.
     Memory,
-    /// The old disk: `WrongSize`, if it doesn't have the size that the call takes; else why no
-    /// state was read from it.
+    /// The old disk: `WrongSize` if it doesn't have the size that the call requires; otherwise the
+    /// reason why no state was read from it.
     Old(Fault),
-    /// The new disk: `WrongSize`, if it doesn't have the size that the call takes, or what a
-    /// renewal keeps doesn't fit in it; `DiskFailed`, if a call of it failed.
+    /// The new disk: `WrongSize` if it doesn't have the size that the call requires, or if the part
+    /// that a renewal keeps doesn't fit into it; `DiskFailed` if a call of it failed.
     New(Fault),
 }
 

@@ -51,7 +51,7 @@ pub fn without_faults_a_book_answers_as_its_session()
         → Plays (sound s) steps (replies s steps) (sound (session_after s steps)) }
 {}
 
-/// If no fault comes, two lists that differ only in their saves give the other steps the same
+/// If no fault occurs, two lists that differ only in their saves give the other steps the same
 /// replies, and leave the same session.
 pub fn saves_change_no_other_reply()
     ensures { (s : Session) (end other : Playing) (steps more : List Step)
@@ -63,7 +63,7 @@ pub fn saves_change_no_other_reply()
 {}
 
 /// The accepted events of those steps that weren't answered Broken are allowed one after another.
-/// They alone determine the state and the session after the steps.
+/// The state and the session after the steps depend on them only.
 pub fn accepted_events_make_what_is_left()
     ensures state { (b end : Playing) (steps : List Step) (answers : List Reply)
         → Plays b steps answers end

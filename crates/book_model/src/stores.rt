@@ -44,8 +44,8 @@ pub fn a_store_means_a_state_or_has_one_fault()
 
 /// An opening interrupts the running tasks of the stored state. Apart from that it changes only the
 /// count, and what an interruption does to a group and to the scope of the group. The state is
-/// consistent again, each scope with a hit on its chain is done again, and everything that had
-/// ended has ended as it did.
+/// consistent again, and each scope with a hit on its chain is done again. Every task that had
+/// ended keeps its stage.
 pub fn an_opening_interrupts_what_was_running()
     ensures restart { (bytes : List ℕ) (p : State) → Stores bytes p → IsRestart p (restarted p) }
     ensures rules { (bytes : List ℕ) (p : State) → Stores bytes p → IsConsistent (restarted p) }

@@ -58,7 +58,7 @@ pub fn renew<D: RunDisk, E: RunDisk, A: Allocator + Copy>(
     }
 }
 
-/// Makes a store of what is left of another, on disks of their layouts.
+/// Makes a store from the kept part of another one, on disks of their layouts.
 fn renew_sized<D: RunDisk, E: RunDisk, A: Allocator + Copy>(
     alloc: A,
     old: &mut D,
@@ -80,8 +80,8 @@ fn renew_sized<D: RunDisk, E: RunDisk, A: Allocator + Copy>(
     written
 }
 
-/// Makes a store of what is left of a state. The buffer has room for the journal's head and an
-/// image.
+/// Makes a store from the kept part of a state. The capacity of the buffer is that of the journal's
+/// head and an image.
 fn write_left<E: RunDisk, A: Allocator + Copy>(
     alloc: A,
     new: &mut E,
@@ -111,7 +111,7 @@ fn write_left<E: RunDisk, A: Allocator + Copy>(
     }
 }
 
-/// Makes a store of what is left of a state, which fits in it.
+/// Makes a store from the kept part of a state, which must fit into it.
 fn write_fitting<E: RunDisk, A: Allocator>(
     new: &mut E,
     state: &State<A>,
@@ -132,7 +132,7 @@ fn write_fitting<E: RunDisk, A: Allocator>(
     Journal::format(new, &mut body[..HEAD + count])
 }
 
-/// Writes the image of the renewed state after the place of the journal's head, and returns its
+/// Writes the image of the renewed state after the place for the journal's head, and returns its
 /// length.
 fn fill_renewed<A: Allocator>(
     state: &State<A>,

@@ -4,8 +4,8 @@ use Rattle.run_model.specs.declared.faults.Fault.TheVariants.{Memory}
 use Rattle.book_model.specs.declared.migrations.MigrateFault.{MigrateFault}
 use Rattle.book_model.specs.declared.migrations.MigrateFault.TheVariants as why
 
--- The fault that is reported for one of the old disk's recovery: want of memory is not a fault of
--- the disk.
+-- The fault that a migration reports if the recovery of the old disk has this fault. Refused memory
+-- isn't a fault of the disk.
 abbrev pub of_old : Fault → MigrateFault
 of_old Memory = why.Memory
 of_old fault = why.Old fault

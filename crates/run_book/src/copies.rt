@@ -24,13 +24,13 @@ use std::alloc::Allocator;
 pub struct CopyMemory<A: Allocator> {
     /// A new state of the old store's layout.
     pub state: State<A>,
-    /// Zeros, with room for the greatest image of the new store's layout after the head of the
-    /// journal, which takes [`HEAD`](run_journal::HEAD) bytes.
+    /// Zeros, whose capacity is that of the journal's head, which takes [`HEAD`](run_journal::HEAD)
+    /// bytes, and of the greatest image in the new store's layout.
     pub body: Vec<u8, A>,
 }
 
 /// Takes the memory of a copy from a store of the layout `from` to one of the layout `to`. `Memory`
-/// if it is refused.
+/// if memory is refused.
 pub fn take_copy_memory<A: Allocator + Copy>(
     alloc: A,
     from: Layout,
@@ -50,8 +50,8 @@ pub fn take_copy_memory<A: Allocator + Copy>(
     Ok(CopyMemory { state, body })
 }
 
-/// Returns the state that a store holds, by three reads; nothing is written. It is made in a new
-/// state of the store's layout.
+/// Returns the state that a store holds, by three reads; nothing is written. `state`, a new state
+/// of the store's layout, becomes the result.
 ///
 /// It reports the first of these faults that applies: `Memory`; the other faults of
 /// [`Book::recover`](crate::Book::recover) for a disk that has the size of a store, as `Old`; and
@@ -79,7 +79,7 @@ pub fn read_stored<D: RunDisk, A: Allocator + Copy>(
     Ok(state)
 }
 
-/// The fault that a copy reports for one of the old disk's recovery.
+/// Returns the fault that a copy reports if the recovery of the old disk has this fault.
 fn of_old(fault: Fault) -> MigrateFault
     ensures { result ≡ of_old fault }
 {

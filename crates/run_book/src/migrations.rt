@@ -72,7 +72,8 @@ fn migrate_sized<D: RunDisk, E: RunDisk, A: Allocator + Copy>(
     written
 }
 
-/// Makes a large store of a small state. The buffer has room for the journal's head and an image.
+/// Makes a large store of a small state. The capacity of the buffer is that of the journal's head
+/// and the greatest image.
 fn write_large<E: RunDisk, A: Allocator>(
     new: &mut E,
     state: &State<A>,
@@ -85,7 +86,7 @@ fn write_large<E: RunDisk, A: Allocator>(
     ensures writes { Writes Large (widened state.now) (E.state new.old) result (E.state new.new) }
     ensures fault { IfErr result (λ fault. fault ≡ why.New DiskFailed) }
 {
-    // that the image fits into the buffer
+    // its clause says that the image fits into the buffer
     let _bound = state.image_bound();
     let count = fill(state, body);
     match Journal::format(new, &mut body[..HEAD + count]) {

@@ -1,4 +1,4 @@
--- What a call asks for, before the room in the session's log is checked.
+-- What a call asks for, before it is checked whether the record fits into the session's log.
 use Rattle.std.specs.Prelude.{◌≡◌, ℕ, true, Option, Some, None, Result, Ok, IsTrue}
 use Rattle.std.specs.Option.{option_and_then, ok_or, IfSome}
 use Rattle.run_model.specs.declared.answers.Started.{Started}
@@ -19,7 +19,7 @@ pub record IsAsked (p : State) (call : Command) (event : Event) : Type 0 where
   pub same : event ≡ event_of p call
   pub recorded : IsTrue (is_recorded event)
 
--- The wish makes this kind at this clock, and a record can have it.
+-- The wish becomes this kind at this clock, and a record can have this kind.
 pub record IsWished (clock : ℕ) (wish : Wish) (kind : Kind) : Type 0 where
   pub same : kind ≡ kind_made clock wish
   pub recorded : IsTrue (is_recorded_kind kind)
@@ -37,7 +37,7 @@ IsAllowed p made = IfSome made (λ event. allowed p event ≡ true)
 abbrev pub IsRecorded : Option Event → Type 0
 IsRecorded made = IfSome made (λ event. IsTrue (is_recorded event))
 
--- The answer to a start, apart from the room in the log: the ready task with the lowest number, the
--- number of the event, and whether the task's scope is done.
+-- The answer to a start, if its record fits: the ready task with the lowest number, the number of
+-- the event, and whether the task's scope is done.
 abbrev pub start_asked : State → Result Started Refusal
 start_asked p = ok_or (option_and_then (started_of p) (first_ready p.work)) NothingReady

@@ -1,4 +1,4 @@
--- What a state shows of itself, and of a scope in it.
+-- What a state returns about itself and about one of its scopes.
 use Rattle.std.specs.Borrow.{Bor}
 use Rattle.std.specs.Option.{option_map}
 use Rattle.std.specs.Prelude.{◌+◌, ◌*◌, ◌-◌, ℕ, List, Option, length}
@@ -16,11 +16,11 @@ abbrev pub image_bound : State → ℕ
 image_bound p =
     23 + 192 * (length p.tree.scopes - 1) + 103 * length p.work.groups + 136 * length p.work.tasks
 
--- Why a scope is done, and with which cause, from a view that lends the cause.
+-- The reason and the cause of a scope that is done, from a view that lends the cause.
 abbrev pub ending_of : Reason × Bor (List ℕ) → Reason × List ℕ
 ending_of ending = (ending.0, ending.1.now)
 
--- What a view shows of a scope: why it is done and with which cause, if it is; and its deadline, if
--- it has one.
+-- What a view shows of a scope: the reason and the cause if it is done, and its deadline if it has
+-- one.
 abbrev pub shown_by : LookView → Option (Reason × List ℕ) × Option ℕ
 shown_by view = (option_map ending_of view.done, view.deadline)

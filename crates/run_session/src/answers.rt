@@ -13,8 +13,8 @@ use crate::states::State;
 use run_model::{Answer, Command, Name, Phase, Text};
 use std::alloc::Allocator;
 
-/// Returns the answer to a command that led to this state. A row that it made is the newest of its
-/// kind.
+/// Returns the answer to a command that led to this state. If the command made a row, it is the
+/// last one of its kind.
 pub fn answer<A: Allocator>(state: &State<A>, call: &Command) -> Answer
     ensures { (p : model.State) → IsBehind p state.now call.now
         → result ≡ answer_of p state.now call.now }
@@ -36,7 +36,7 @@ pub fn answer<A: Allocator>(state: &State<A>, call: &Command) -> Answer
     }
 }
 
-/// Returns the number of the newest of so many rows; 0 if there is none.
+/// Returns the number of the last of this many rows; 0 if there is none.
 fn newest(rows: usize) -> u16
     requires { rows ≤ 65536 }
     ensures { result ≡ rows - 1 }

@@ -3,9 +3,9 @@
 //!
 //! A [`State`] joins the tree of scopes, the groups with their tasks, and the count of events. Only
 //! events change it, and it takes each event in the form of its record. So a command that is
-//! accepted now and a record that is read back take the same way. A state answers questions. It
-//! also decides which event a call becomes, or why the call is refused. It knows nothing about a
-//! log.
+//! accepted now and a record that is read back change it by the same code. A state answers
+//! questions. It also decides which event a call becomes, or why the call is refused. It knows
+//! nothing about a log.
 //!
 //! A [`Session`] takes commands, starts and finishes. A call that is refused changes nothing. A
 //! call that is accepted appends its record to the log, and changes the state by its event. So the

@@ -1,4 +1,4 @@
-//! Lent outcomes, and their errors.
+//! Views of outcomes, and the errors in them.
 
 ghost use Rattle.std.specs.Option.{option_copied};
 ghost use Rattle.std.specs.Prelude.{◌≡◌, IfSome, IsTrue};

@@ -1,5 +1,5 @@
-//! A wish is the kind of scope that a caller asks for. It is turned into the kind of scope that it
-//! makes now.
+//! A wish is the kind of scope that a caller asks for. This file computes the kind that it becomes
+//! at the current clock.
 
 ghost use Rattle.std.specs.Option.{option_copied};
 ghost use Rattle.std.specs.Prelude.{◌≡◌, [], ◌∷◌, false, IsTrue};
@@ -13,9 +13,9 @@ ghost use Rattle.run_session.specs.Asked.{IsWished};
 use row_view::KindView;
 use run_model::{GREATEST_MOMENT, Moment, Refusal, Text, Wish};
 
-/// Returns the kind of scope that a wish makes now. A timeout becomes a deadline. If that would be
-/// later than the greatest moment, the result is some deadline that is too late, too, and the
-/// derive is refused; which one it is doesn't matter.
+/// Returns the kind of scope that a wish becomes now. A timeout becomes a deadline. If that would
+/// be later than the greatest moment, the result is some deadline that is too late, too, and the
+/// derive is refused.
 pub fn wished_kind<'a>(clock: Moment, wish: &'a Wish) -> KindView<'a>
     ensures past { is_past_moments (kind_of result) ≡ is_past_moments (kind_made clock wish.now) }
     ensures kind { is_past_moments (kind_of result) ≡ false

@@ -27,7 +27,7 @@ state scopes groups tasks = record {
 abbrev pub live : String → ℕ → Kind → Scope
 live name parent kind = record { name = codes name; parent = parent; kind = kind; hit = None }
 
--- A scope that was cancelled by event 5 at moment 6, with this cause.
+-- A scope that was canceled by event 5 at moment 6, with this cause.
 abbrev pub ended : String → ℕ → Kind → String → Scope
 ended name parent kind cause = record (live name parent kind) {
   hit = Some (record { event = 5; moment = 6; reason = Canceled; cause = codes cause });
@@ -111,7 +111,7 @@ retried_left =
     (task 0 "b" stage.Interrupted None ∷ task 0 "b" stage.Interrupted (Some 0)
     ∷ task 0 "b" stage.Fresh (Some 1) ∷ [])
 
--- ---- a group whose scope was cancelled, and that wasn't waited for
+-- ---- a group whose scope was canceled, and that wasn't waited for
 
 abbrev pub cancelled_group : State
 cancelled_group =

@@ -54,7 +54,7 @@ value_after night s key = value_of (state_of night).tree.scopes s key
 
 -- ---- scopes
 
--- The parent is cancelled, and the child with it.
+-- The parent is canceled, and the child with it.
 abbrev pub parent_cancelled : Night
 parent_cancelled =
     (derive "a" "root" Cause, scope_made 1)
@@ -62,7 +62,7 @@ parent_cancelled =
     ∷ (cancel "a" "disk", done)
     ∷ []
 
--- The child is cancelled, and its parent afterwards.
+-- The child is canceled, and its parent afterwards.
 abbrev pub child_cancelled_first : Night
 child_cancelled_first =
     (derive "p" "root" Cause, scope_made 1)
@@ -71,7 +71,7 @@ child_cancelled_first =
     ∷ (cancel "p" "b", done)
     ∷ []
 
--- A scope that is done is cancelled again.
+-- A scope that is done is canceled again.
 abbrev pub child_cancelled_again : Night
 child_cancelled_again =
     child_cancelled_first ++ (cancel "c" "again", refused refusal.AlreadyDone) ∷ []
@@ -127,7 +127,7 @@ deadline_of_a_done_scope =
     ∷ (advance 60, done)
     ∷ []
 
--- A cancelled deadline, and a detached part with a deadline of its own.
+-- A canceled deadline, and a detached part with a deadline of its own.
 abbrev pub deadlines_round_a_detached_scope : Night
 deadlines_round_a_detached_scope =
     (derive "p" "root" (Deadline 100 (Some (codes "p"))), scope_made 1)
@@ -149,7 +149,7 @@ nested_deadlines =
     ∷ (advance 25, done)
     ∷ []
 
--- A scope is cancelled above a value scope.
+-- A scope is canceled above a value scope.
 abbrev pub value_between : Night
 value_between =
     (derive "p" "root" Cause, scope_made 1)

@@ -52,8 +52,8 @@ pub fn one_more_in_a_small_store_is_refused()
         ≡ refused refusal.AtLimit }
 {}
 
-/// Whether a name exists or is taken is checked before whether there is room. Whether a scope fits
-/// is checked before the moment of a timeout.
+/// Whether a name exists or is taken is checked before whether the new row fits. Whether a scope
+/// fits is checked before the moment of a timeout.
 pub fn names_are_asked_before_room()
     ensures group { reply_of_step (session_in Small 1024 128 0) (group "g" "nobody")
         ≡ refused refusal.NoSuchScope }
@@ -79,7 +79,7 @@ pub fn names_are_asked_before_room()
         ≡ refused refusal.NoSuchGroup }
 {}
 
-/// A full log is checked last.
+/// Whether the log is full is checked last.
 pub fn a_full_log_is_asked_last()
     ensures start { reply_of_step (record (session_in Small 1 3 0) { log = 1048576 }) start
         ≡ refused refusal.NothingReady }

@@ -118,7 +118,7 @@ pub fn groups_count_their_own_tasks()
     }) }
 {}
 
-/// The limit of a group can be taken away again.
+/// The limit of a group can be removed again.
 pub fn a_limit_can_be_taken_away()
     ensures answers { IsAnswered limit_taken_away }
     ensures limit { option_and_then (λ row. row.limit)

@@ -1,4 +1,4 @@
-//! Two nights of the machine that a book is, each ended by a crash.
+//! Two sessions of the machine that a book is, each ended by a crash.
 
 ghost use Rattle.std.specs.Prelude.{◌≡◌, ◌⊎◌, ◌∷◌, []};
 ghost use Rattle.std.specs.List.{flat_map};
@@ -10,7 +10,7 @@ ghost use Rattle.book_model.specs.Examples.TwoNights.{after_first, first_night, 
 ghost use Rattle.book_model.specs.Examples.TwoNights.{store};
 
 /// Three events were acknowledged before the first crash, a fourth was accepted, and a fifth was
-/// asked for. The crash leaves the state after the first three, four or five of them, in their
+/// requested. The crash leaves the state after the first three, four or five of them, in their
 /// order: no acknowledged event is lost, and nothing else is stored.
 pub fn a_stop_leaves_one_of_three_states()
     ensures { (q : State) → GoesOn (Stored store) (moves_of first_night) (Stored q)

@@ -1,4 +1,4 @@
-//! The steps of a night, played over a device that works and over one that fails.
+//! The steps of a session, played over a device that works and over one that fails.
 
 ghost use Rattle.std.specs.Prelude.{◌≡◌, [], None, Some};
 ghost use Rattle.run_model.specs.Session.{accepted, acknowledged};
@@ -29,8 +29,8 @@ pub fn a_broken_book_plays_nothing()
     ensures { Plays (stuck new_store) played refused_all (stuck new_store) }
 {}
 
-/// A checkpoint for which no number is left reports that, and breaks nothing: the flush after it
-/// succeeds.
+/// A checkpoint for which no generation is left reports that, and breaks nothing: the flush after
+/// it succeeds.
 pub fn spent_numbers_break_nothing()
     ensures played { Plays (sound new_store) two_saves numbers_spent (sound after_three) }
     ensures acknowledged { acknowledged new_store two_saves numbers_spent ≡ first_events }

@@ -46,7 +46,7 @@ pub fn a_retry_is_retried_by_its_own_number()
         ≡ map (λ line. line.1) retried_again }
 {}
 
-/// A task that has ended by itself can't be retried, and neither can one that runs.
+/// A task that has succeeded or failed can't be retried, and neither can a running task.
 pub fn only_an_interrupted_task_is_retried()
     ensures running { reply_of_step (two_tasks false Running None 0 0) (retry 0)
         ≡ refused refusal.NotInterrupted }

@@ -8,7 +8,7 @@ ghost use Rattle.run_model.specs.State.{State, formatted};
 ghost use Rattle.book_model.specs.Examples.Nights.{new_store, reopened, state_of, stopped_night};
 ghost use Rattle.book_model.specs.Examples.Runs.{at_seven, at_eight, two_advances};
 
-/// A restart is allowed in every state, and a start only of the task that is ready.
+/// Every state allows a restart. A start is allowed only of the ready task with the lowest number.
 pub fn a_restart_is_always_allowed()
     ensures first { after (formatted Small) event.Restart ≡ Some new_store.state }
     ensures again { after (state_of stopped_night) event.Restart

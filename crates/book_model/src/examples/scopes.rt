@@ -13,7 +13,7 @@ ghost use Rattle.book_model.specs.Examples.Nights.{deadline_of_a_done_scope, nes
 ghost use Rattle.book_model.specs.Examples.Nights.{nested_values, orders_of_refusals};
 ghost use Rattle.book_model.specs.Examples.Nights.{deadlines_round_a_detached_scope, value_between};
 
-/// A cancelled parent ends its child, which has the parent's cause.
+/// A canceled parent ends its child, which has the parent's cause.
 pub fn a_child_has_its_parents_cause()
     ensures answers { IsAnswered parent_cancelled }
     ensures reason { reason_after parent_cancelled 2 ≡ Some Canceled }
@@ -22,14 +22,14 @@ pub fn a_child_has_its_parents_cause()
     ensures count { (state_of parent_cancelled).count ≡ 4 }
 {}
 
-/// A value scope doesn't stop a cancellation.
+/// A cancellation passes through a value scope.
 pub fn a_value_scope_is_done_with_its_parent()
     ensures answers { IsAnswered value_between }
     ensures value { cause_after value_between 2 ≡ Some (codes "stop") }
     ensures below { cause_after value_between 3 ≡ Some (codes "stop") }
 {}
 
-/// A child that was cancelled first keeps its own cause when its parent is cancelled.
+/// A child that was canceled first keeps its own cause when its parent is canceled.
 pub fn a_later_cancel_of_the_parent_changes_no_cause()
     ensures answers { IsAnswered child_cancelled_first }
     ensures child { cause_after child_cancelled_first 2 ≡ Some (codes "a") }
@@ -37,7 +37,7 @@ pub fn a_later_cancel_of_the_parent_changes_no_cause()
     ensures count { (state_of child_cancelled_first).count ≡ 5 }
 {}
 
-/// A scope that is done can't be cancelled again, and stays as it is.
+/// A scope that is done can't be canceled again, and stays as it is.
 pub fn a_second_cancel_is_refused()
     ensures answers { IsAnswered child_cancelled_again }
     ensures same { state_of child_cancelled_again ≡ state_of child_cancelled_first }
@@ -113,7 +113,7 @@ pub fn a_deadline_passes_on_a_done_scope()
     ensures cause { cause_after deadline_of_a_done_scope 2 ≡ Some (codes "stop") }
 {}
 
-/// A deadline scope that was cancelled before its deadline stays cancelled. Deadlines above a
+/// A deadline scope that was canceled before its deadline stays canceled. Deadlines above a
 /// detached scope don't count below it.
 pub fn deadlines_stop_at_a_detached_scope()
     ensures answers { IsAnswered deadlines_round_a_detached_scope }

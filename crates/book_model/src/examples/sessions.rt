@@ -12,7 +12,8 @@ ghost use Rattle.book_model.specs.Examples.Rooms.{start_alone, start_and_finish,
 ghost use Rattle.book_model.specs.Examples.Rooms.{three_saves, all_saved, checkpoint_refused};
 ghost use Rattle.book_model.specs.Examples.Rooms.{device_failed};
 
-/// The record of a start has 5 bytes, and the log keeps 80 bytes free for each task that then runs.
+/// The record of a start has 5 bytes, and the log keeps 80 bytes free for each task that is running
+/// after it.
 pub fn a_start_keeps_room_for_the_finish()
     ensures fits { replies (with_log 1048491 one_ready) start_alone
         ≡ started 4 0 "copy" "a" ∷ [] }

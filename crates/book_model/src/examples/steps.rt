@@ -73,7 +73,7 @@ pub fn a_flush_fails()
         book_after_three → ⊥ }
 {}
 
-/// A crash comes between two calls, or within the second one. The first call acknowledged three
+/// A crash comes between two calls, or during the second one. The first call acknowledged three
 /// events, and the second one accepts two more. The state that is left has four, five or six
 /// events, including the opening.
 pub fn a_stop_comes_between_two_calls()
@@ -95,7 +95,7 @@ pub fn a_disk_of_another_size_is_no_store()
     ensures none { StoresNone [] WrongSize }
 {}
 
-/// If the size is right, a lack of memory is reported before the first call, and a first read that
+/// If the size is right, refused memory is reported before the first call, and a first read that
 /// fails is counted. Before any read, no fault of the bytes can be reported, and a failed device
 /// only if the disk is spent.
 pub fn a_recovery_is_told_by_its_reads()

@@ -13,8 +13,8 @@ use run_model::{Answer, Refusal, Reply, Started, Step, Trouble};
 use std::alloc::Allocator;
 
 impl<D: RunDisk, A: Allocator> Book<D, A> {
-    /// Takes the steps in order, and appends one reply for each of them to `replies`, which has
-    /// room for them. After a failure of the device each step is refused as `Broken`.
+    /// Takes the steps in order, and appends one reply for each of them to `replies`, whose
+    /// capacity must suffice. After a failure of the device each step is refused as `Broken`.
     pub fn play<B: Allocator>(&mut self, steps: &[Step], replies: &mut Vec<Reply, B>)
         requires room { vec_len replies.old + length steps.now ≤ vec_capacity replies.old }
         ensures plays { PlaysInto D.state self.old steps.now replies.old.items

@@ -60,7 +60,7 @@ impl<A: Allocator> State<A> {
         ensures fault { IfErr result (λ fault. fault ≡ BadImage) }
     {
         let Some((head, rest)) = read_head(bytes, self.tree.layout()) else {
-            // by a call: what an exit drops of itself is dear to prove
+            // dropped by a call, because the drop at an exit costs the prover more
             drop(self);
             return Err(Fault::BadImage);
         };
@@ -73,7 +73,7 @@ impl<A: Allocator> State<A> {
         Ok((state, head.version))
     }
 
-    /// Returns the head of the image, which stands before the rows.
+    /// Returns the head of the image, which comes before the rows.
     fn head(&self) -> ImageHead
         ensures head { result ≡ head_of Two self.now }
         ensures clock { self.now.tree.clock ≤ GREATEST_MOMENT }
