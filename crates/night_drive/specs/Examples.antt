@@ -20,9 +20,9 @@ abbrev pub canceled_tapes : Hit
 canceled_tapes =
     record { event = 20; moment = 2000; reason = Canceled; cause = codes "no tapes" }
 
--- In the first night there is a scope of all groups, and one of the disks. Below the scope of the
--- second night lies one with its number, and below that one of the disks and one of the tapes. The
--- disks also have a scope with a deadline.
+-- In the first night there is a scope of all groups, and one of the disks. The second night has a
+-- scope with its number, and below that one of the disks and one of the tapes. The disks also have
+-- a scope with a deadline.
 abbrev pub scopes : List Scope
 scopes =
     root
@@ -60,9 +60,9 @@ task_of group key stage = record {
   retry_of = None;
 }
 
--- In the first night `a` ended well, and `b` failed. In the second one `a` failed twice; `b` was
--- interrupted, and a later task of it was withdrawn; the tapes' `a` was canceled; `c` runs, in the
--- second group of the disks; and a task of `d` was submitted, and not started.
+-- In the first night `a` succeeded, and `b` failed. In the second one `a` failed twice. `b` was
+-- interrupted, and a later task of it was withdrawn. The tapes' `a` was canceled. `c` is running,
+-- in the second group of the disks. A task of `d` was submitted, and not started.
 abbrev pub tasks : List Task
 tasks =
     task_of 0 (codes "a") stage.Success
@@ -90,10 +90,10 @@ first = None
 abbrev pub second : Option (List ℕ)
 second = Some (codes "2")
 
--- What is known of a command, if task n ended at 1000 + n.
+-- The facts about a command, if task n ended at 1000 + n.
 abbrev pub known_in : (night : Option (List ℕ)) → (group key : List ℕ) → Known
 known_in night group key = known_of two_nights (λ n. 1000 + n) night group key
 
--- A command that has come so far, and has failed so often.
+-- A command that is in this phase, and has failed this many times.
 abbrev pub row : Phase → (failures : ℕ) → Known
 row phase failures = record { phase = phase; failures = failures; canceled = false }

@@ -10,14 +10,14 @@ abbrev pub begins : (word prefix : List ℕ) → Bool
 begins word prefix =
     nat_le (length prefix) (length word) && bytes_eq (take (length prefix) word) prefix
 
--- What can follow a group's name: nothing; or two hyphens, and no third one.
+-- What can follow a group's name: nothing, or two hyphens and no third one.
 abbrev pub is_round : List ℕ → Bool
 is_round rest =
     length rest == 0
     || (slice_index rest 0 == 45 && slice_index rest 1 == 45 && not (slice_index rest 2 == 45))
 
--- A name of the store belongs to the plan's group of this name: it is that name, perhaps with a
--- round behind it.
+-- A name in the store belongs to the plan's group of this name: it is that name, perhaps with a
+-- round after it.
 abbrev pub belongs : (group name : List ℕ) → Bool
 belongs group name = begins name group && is_round (drop (length group) name)
 

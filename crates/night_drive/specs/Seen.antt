@@ -1,4 +1,4 @@
--- What the rows of a store say of the commands and the groups of a plan, in one night.
+-- The facts that the rows of a store show about the commands and groups of a plan, in one night.
 use Rattle.std.specs.Prelude.{◌≡◌, ◌<◌, ℕ, ◌&&◌, Bool, false, List, length, Option, Some, None}
 use Rattle.std.specs.Prelude.{slice_get}
 use Rattle.std.specs.Option.{option_map_or}
@@ -22,7 +22,7 @@ use Rattle.night_drive.specs.Tries.{counts, has_failed, phase_by}
 
 -- ---- one command
 
--- Group g of the store is one of this night, and belongs to the plan's group of this name.
+-- Group g of the store belongs to this night, and to the plan's group of this name.
 abbrev pub is_owned : State → (night : Option (List ℕ)) → (group : List ℕ) → ℕ → Bool
 is_owned p night group g =
     option_map_or (λ row. belongs group row.name && is_same (night_of p row.scope) night)
@@ -34,15 +34,14 @@ is_try p night group key n =
     option_map_or (λ task. bytes_eq task.argument key
     && (counts task.stage && is_owned p night group task.group)) (slice_get p.work.tasks n) false
 
--- How far the last try of a command has come, if there is one. It ended at the moment that is said
--- of its number.
+-- How far the last try of a command has come, if there is one. `ended` says when it ended.
 abbrev pub phase_after : State → (ended : ℕ → ℕ) → Option ℕ → Phase
 phase_after p ended None = Fresh
 phase_after p ended (Some n) =
     option_map_or (λ task. phase_by (ended n) task.stage) (slice_get p.work.tasks n) Fresh
 
--- What is known of a command: how far its last try has come, and how many of its tries have failed.
--- No row says that it is canceled: a cancel is the end of a try.
+-- The facts about a command: how far its last try has come, and how many of its tries have failed.
+-- No row says that the command itself is canceled, since a cancel is the end of a try.
 abbrev pub known_of :
     State → (ended : ℕ → ℕ) → (night : Option (List ℕ)) → (group key : List ℕ) → Known
 known_of p ended night group key = record {
@@ -54,8 +53,8 @@ known_of p ended night group key = record {
 
 -- ---- one group
 
--- Scope s is one of this night, and belongs to the plan's group of this name. It is of the kind
--- that has a cause. (Other kinds have the group's deadline, or the words of that.)
+-- Scope s belongs to this night, and to the plan's group of this name. A command may give a cause
+-- to it. (The group's other scopes hold its deadline, or a value.)
 abbrev pub is_scope : State → (night : Option (List ℕ)) → (group : List ℕ) → ℕ → Bool
 is_scope p night group s =
     option_map_or (λ row. takes_cause row.kind
@@ -69,7 +68,7 @@ is_over p night group =
 
 -- ---- a plan
 
--- When task n has ended.
+-- When task n ended.
 abbrev pub moment_of : Ends → ℕ → ℕ
 moment_of ends n =
     option_map_or (λ known. option_map_or (λ moment. moment) known ends.otherwise)
@@ -80,27 +79,27 @@ pub record AreNames (plan : Plan) (names : Names) : Type 0 where
   pub groups : length names.groups.items ≡ length plan.groups.items
   pub keys : length names.keys.items ≡ length plan.commands.items
 
--- Command c of the plan is this one, and has a key, in a group of a name.
+-- Command c of the plan is this one. It has a key, and its group has a name.
 pub record IsCalled (names : Names) (commands : List Command) (c : ℕ) (command : Command)
     (group key : List ℕ) : Type 0 where
   pub is : slice_get commands c ≡ Some command
   pub group_is : slice_get names.groups.items command.group ≡ Some group
   pub key_is : slice_get names.keys.items c ≡ Some key
 
--- Of each command below this number its rows say what is known.
+-- The facts about each command below this number are those that its rows show.
 abbrev pub AreKnownTo : ℕ → State → Ends → Names → List Command → List Known → Type 0
 AreKnownTo most p ends names commands known =
     (c : ℕ) (command : Command) (group key : List ℕ) → c < most
     → IsCalled names commands c command group key
     → slice_get known c ≡ Some (known_of p (moment_of ends) names.night group key)
 
--- Of each of these groups its rows say whether it is done.
+-- Whether each of these groups is done is what its rows show.
 abbrev pub AreOverTo : ℕ → State → Names → List Bool → Type 0
 AreOverTo most p names done =
     (g : ℕ) (group : List ℕ) → g < most → slice_get names.groups.items g ≡ Some group
     → slice_get done g ≡ Some (is_over p names.night group)
 
--- The facts are those that the rows of a state say of a plan in one night.
+-- These are the facts that the rows of a state show about a plan in one night.
 pub record IsSeen (p : State) (ends : Ends) (plan : Plan) (names : Names) (facts : Facts)
     : Type 0 where
   pub sized : AreFacts plan facts

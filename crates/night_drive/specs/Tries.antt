@@ -1,4 +1,4 @@
--- What a task of the store says of the command of which it is a try.
+-- A task of the store is a try of a command: what it shows of the command.
 use Rattle.std.specs.Prelude.{ℕ, not, Bool, true, false, if◌then◌else◌, List, codes}
 use Rattle.std.specs.Str.{bytes_eq}
 use Rattle.run_model.specs.declared.tasks.Stage.{Stage}
@@ -15,13 +15,13 @@ is_withdrawn error = bytes_eq error (codes "withdrawn")
 abbrev pub is_cancel : List ℕ → Bool
 is_cancel error = begins error (codes "canceled: ")
 
--- A task counts as a try if it was started, and not withdrawn.
+-- A task counts as a try if it was started, and wasn't withdrawn.
 abbrev pub counts : Stage → Bool
 counts stage.Fresh = false
 counts (stage.Failure error) = not (is_withdrawn error)
 counts _ = true
 
--- A try has failed: it ended with an error that is no cancel. An interruption is no failure.
+-- A try has failed if it ended with an error that isn't a cancel. An interruption isn't a failure.
 abbrev pub has_failed : Stage → Bool
 has_failed (stage.Failure error) = not (is_cancel error)
 has_failed _ = false

@@ -1,5 +1,5 @@
-//! Worked examples: what the rows of a store say of commands, computed from the definitions alone,
-//! without any of the code.
+//! Worked examples: the facts that the rows of a store show about commands, computed from the
+//! definitions only, without any of the code.
 //!
 //! Each function has an empty body, and its clauses are the example.
 
@@ -9,8 +9,8 @@ ghost use Rattle.night_drive.specs.Examples.{first, known_in, row, second, two_n
 ghost use Rattle.night_drive.specs.Names.{belongs};
 ghost use Rattle.night_drive.specs.Seen.{is_over};
 
-/// The group `disks` is called `disks`, `disks--2` or `disks--2-3` in a store. The name `disks-`
-/// is another group's, and so is `disks---2`, which that one is called in a second night.
+/// In a store the group `disks` is called `disks`, `disks--2` or `disks--2-3`. The name `disks-` is
+/// that of another group, and so is `disks---2`, its name in a second night.
 pub fn a_name_may_have_a_round()
     ensures own { map (belongs (codes "disks")) (codes "disks" ∷ codes "disks--2" ∷ codes "disks--2-3"
         ∷ codes "disk" ∷ codes "disks-" ∷ codes "disks---2" ∷ codes "disks2" ∷ [])
@@ -18,7 +18,7 @@ pub fn a_name_may_have_a_round()
     ensures other { belongs (codes "disks-") (codes "disks---2") ≡ true }
 {}
 
-/// The last try says how far a command has come, and every failure counts. An interruption is no
+/// The last try shows how far a command has come, and every failure counts. An interruption isn't a
 /// failure.
 pub fn the_last_try_counts()
     ensures failed { known_in second (codes "disks") (codes "a") ≡ row (phase.Failed 1004) 2 }
@@ -41,8 +41,8 @@ pub fn a_night_does_not_count_for_another_one()
     ensures later { known_in first (codes "disks") (codes "c") ≡ row phase.Fresh 0 }
 {}
 
-/// A group is done if its last scope in the night is. The scope of a deadline and that of another
-/// night say nothing.
+/// A group is done if its last scope in the night is done. The scope of a deadline and the scopes
+/// of other nights don't count.
 pub fn a_group_is_done_with_its_scope()
     ensures canceled { is_over two_nights second (codes "tapes") ≡ true }
     ensures open { is_over two_nights second (codes "disks") ≡ false }

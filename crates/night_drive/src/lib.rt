@@ -1,11 +1,11 @@
-//! Reads from a store what is known of the commands of a plan.
+//! Reads from a store what has happened to the commands of a plan.
 //!
-//! A driver of nights records each try of a command as a task of a store. After a crash the store
-//! alone says how far a night was. [`seen`](seen::seen) reads the rows of a state, and returns the
-//! facts on which the decisions of `night_plan` rest: how far each command has come, how often it
-//! has failed, and which groups are done. `names` says how commands are named in a store, `tries`
-//! what a task says of its command, and `openings` what an opening changes. `examples` has a store
-//! with the tasks of two nights.
+//! A driver of nights records each try of a command as a task of a store. After a crash only the
+//! store knows how far a night had come. [`seen`](seen::seen) reads the rows of a state, and
+//! returns the facts on which the decisions of `night_plan` rest: how far each command has come,
+//! how often it has failed, and which groups are done. `names` says how commands are named in a
+//! store, `tries` what a task shows of its command, and `openings` what an opening changes.
+//! `examples` has a store with the tasks of two nights.
 #![tactic(auto)]
 
 pub mod ends;

@@ -1,11 +1,11 @@
-//! How the commands of a plan are named in a store.
+//! The names of a plan's commands in a store.
 
 ghost use Rattle.std.specs.Prelude.{◌≡◌, ◌==◌, ◌&&◌, slice_index};
 ghost use Rattle.night_drive.specs.Names.{begins, belongs, is_round};
 
 use run_model::{Name, Text, is_spelled};
 
-/// The names of a plan's groups and commands, and the night of a store that is played.
+/// The names of a plan's groups and commands, and the current night of a store.
 #[derive(Drop)]
 pub struct Names {
     /// The name of each group of the plan.
@@ -17,9 +17,9 @@ pub struct Names {
     pub night: Option<Text>,
 }
 
-/// Whether a group or a scope of the store belongs to the plan's group of this name. In the store
-/// the group `disks` is called `disks`, or with a round behind that, such as `disks--2` or
-/// `disks--2-3`.
+/// Returns whether a group or a scope of the store belongs to the plan's group of this name. In the
+/// store the group `disks` is called `disks`, or `disks` with a round after it, such as `disks--2`
+/// or `disks--2-3`.
 pub fn belongs(group: &Name, name: &Name) -> bool
     ensures { result ≡ belongs group.now name.now }
 {
@@ -27,14 +27,14 @@ pub fn belongs(group: &Name, name: &Name) -> bool
     begins(name, group) && is_round(&name[group.len()..])
 }
 
-/// Whether a word begins with these bytes.
+/// Returns whether a word begins with these bytes.
 pub fn begins(word: &[u8], prefix: &[u8]) -> bool
     ensures { result ≡ begins word.now prefix.now }
 {
     prefix.len() <= word.len() && is_spelled(&word[..prefix.len()], prefix)
 }
 
-/// Whether these bytes can follow a group's name: none; or two hyphens, and no third one.
+/// Returns whether these bytes can follow a group's name: none, or two hyphens and no third one.
 fn is_round(rest: &[u8]) -> bool
     ensures { result ≡ is_round rest.now }
 {
@@ -42,7 +42,7 @@ fn is_round(rest: &[u8]) -> bool
     rest.is_empty() || is_long
 }
 
-/// The byte at this place, or 0 behind the last one.
+/// Returns the byte at this place, or 0 after the last one.
 fn byte_at(bytes: &[u8], at: usize) -> u8
     ensures { result ≡ slice_index bytes.now at }
 {

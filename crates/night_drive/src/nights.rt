@@ -1,4 +1,4 @@
-//! Which groups and scopes of a store belong to a group of the plan, in one night.
+//! The groups and scopes of a store that belong to a group of the plan, in one night.
 
 ghost use Rattle.std.specs.Prelude.{◌≡◌, ◌<◌, IfSome, length};
 ghost use Rattle.run_model.specs.Allowed.{takes_cause};
@@ -13,7 +13,8 @@ use run_model::{Kind, Name, Text, is_spelled};
 use run_session::State;
 use std::alloc::Allocator;
 
-/// Whether a group of the store is one of this night, and belongs to the plan's group of this name.
+/// Returns whether a group of the store belongs to this night, and to the plan's group of this
+/// name.
 pub fn is_owned<A: Allocator>(
     state: &State<A>,
     night: &Option<Text>,
@@ -28,8 +29,8 @@ pub fn is_owned<A: Allocator>(
     }
 }
 
-/// Whether a group of the plan is done in this night: whether the last of its scopes is. The scopes
-/// of earlier rounds say nothing any more.
+/// Returns whether a group of the plan is done in this night: whether the last of its scopes is
+/// done. The scopes of earlier rounds no longer count.
 pub fn is_over<A: Allocator>(state: &State<A>, night: &Option<Text>, group: &Name) -> bool
     ensures { result ≡ is_over state.now night.now group.now }
 {
@@ -39,7 +40,7 @@ pub fn is_over<A: Allocator>(state: &State<A>, night: &Option<Text>, group: &Nam
     }
 }
 
-/// The last scope of a group of the plan in this night.
+/// Returns the last scope of a group of the plan in this night.
 fn last_scope<A: Allocator>(state: &State<A>, night: &Option<Text>, group: &Name) -> Option<u16>
     ensures last { result ≡ last_below (is_scope state.now night.now group.now)
         (length state.now.tree.scopes) }
@@ -54,7 +55,7 @@ fn last_scope<A: Allocator>(state: &State<A>, night: &Option<Text>, group: &Name
     last
 }
 
-/// Whether a scope is one of this night, and belongs to the plan's group of this name.
+/// Returns whether a scope belongs to this night, and to the plan's group of this name.
 fn is_scope<A: Allocator>(state: &State<A>, night: &Option<Text>, group: &Name, number: u16) -> bool
     ensures { result ≡ is_scope state.now night.now group.now number }
 {
@@ -66,14 +67,14 @@ fn is_scope<A: Allocator>(state: &State<A>, night: &Option<Text>, group: &Name, 
     }
 }
 
-/// Whether a scope of this kind can be canceled with a cause.
+/// Returns whether a scope of this kind can be canceled with a cause.
 fn has_cause(kind: &Kind) -> bool
     ensures { result ≡ takes_cause kind.now }
 {
     matches!(kind, Kind::Cause)
 }
 
-/// Whether a scope is done.
+/// Returns whether a scope is done.
 fn is_done<A: Allocator>(state: &State<A>, scope: u16) -> bool
     requires { scope < length state.now.tree.scopes }
     ensures { result ≡ is_done state.now.tree.scopes scope }
@@ -81,14 +82,14 @@ fn is_done<A: Allocator>(state: &State<A>, scope: u16) -> bool
     state.tree().err(scope).is_some()
 }
 
-/// Whether a scope belongs to this night.
+/// Returns whether a scope belongs to this night.
 fn is_tonight<A: Allocator>(state: &State<A>, night: &Option<Text>, scope: u16) -> bool
     ensures { result ≡ is_same (night_of state.now scope) night.now }
 {
     is_same(&state.value(scope, &name_copy(b"night")), night)
 }
 
-/// Whether two nights are the same one.
+/// Returns whether two nights are the same one.
 fn is_same(one: &Option<Text>, other: &Option<Text>) -> bool
     ensures { result ≡ is_same one.now other.now }
 {

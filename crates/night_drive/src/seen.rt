@@ -1,4 +1,4 @@
-//! What a store says of the commands and the groups of a plan, in one night.
+//! The facts in a store about the commands and the groups of a plan, in one night.
 
 ghost use Rattle.std.specs.Prelude.{◌≡◌, ◌&&◌, IfOk, length};
 ghost use Rattle.run_model.specs.Tasks.{has_stage};
@@ -17,9 +17,9 @@ use run_model::{Name, Text, is_spelled};
 use run_session::State;
 use std::alloc::{AllocError, Allocator, Global};
 
-/// Reads from a state what is known of a plan in one night: of each command how far its last try
-/// has come, and how many of its tries have failed; and which groups are done. The pools have the
-/// sizes that the plan says.
+/// Reads from a state the facts about a plan in one night: for each command how far its last try
+/// has come and how many of its tries have failed, and which groups are done. The sizes of the
+/// pools are those of the plan.
 pub fn seen<A: Allocator>(
     alloc: Global,
     state: &State<A>,
@@ -36,7 +36,7 @@ pub fn seen<A: Allocator>(
     Ok(Facts { known, done, sizes })
 }
 
-/// What is known of each command of a plan.
+/// Returns the facts about each command of a plan.
 fn all_known<A: Allocator>(
     alloc: Global,
     state: &State<A>,
@@ -58,7 +58,7 @@ fn all_known<A: Allocator>(
     Ok(known)
 }
 
-/// Which groups of a plan are done.
+/// Returns which groups of a plan are done.
 fn all_over<A: Allocator>(
     alloc: Global,
     state: &State<A>,
@@ -75,7 +75,7 @@ fn all_over<A: Allocator>(
     Ok(done)
 }
 
-/// What is known of the command with this key, in a group of this name and in this night.
+/// Returns the facts about the command with this key, in a group of this name and in this night.
 pub fn known_of<A: Allocator>(
     state: &State<A>,
     ends: &Ends,
@@ -92,7 +92,7 @@ pub fn known_of<A: Allocator>(
     }
 }
 
-/// The last try of a command.
+/// Returns the last try of a command.
 fn last_try<A: Allocator>(
     state: &State<A>,
     night: &Option<Text>,
@@ -111,7 +111,7 @@ fn last_try<A: Allocator>(
     last
 }
 
-/// How many tries of a command have failed.
+/// Returns how many tries of a command have failed.
 fn failures<A: Allocator>(state: &State<A>, night: &Option<Text>, group: &Name, key: &Name) -> u32
     ensures { result ≡ count_below (λ n. is_try state.now night.now group.now key.now n
         && has_stage has_failed state.now.work n) (length state.now.work.tasks) }
@@ -125,7 +125,7 @@ fn failures<A: Allocator>(state: &State<A>, night: &Option<Text>, group: &Name, 
     count
 }
 
-/// Whether a task is a try of this command, and has failed.
+/// Returns whether a task is a try of this command, and has failed.
 fn is_failed_try<A: Allocator>(
     state: &State<A>,
     night: &Option<Text>,
@@ -139,7 +139,7 @@ fn is_failed_try<A: Allocator>(
     is_try(state, night, group, key, n) && is_failure(state, n)
 }
 
-/// Whether a task is a try of this command.
+/// Returns whether a task is a try of this command.
 fn is_try<A: Allocator>(
     state: &State<A>,
     night: &Option<Text>,
@@ -159,7 +159,7 @@ fn is_try<A: Allocator>(
     }
 }
 
-/// Whether a task has failed.
+/// Returns whether a task has failed.
 fn is_failure<A: Allocator>(state: &State<A>, n: u16) -> bool
     ensures { result ≡ has_stage has_failed state.now.work n }
 {
@@ -169,7 +169,7 @@ fn is_failure<A: Allocator>(state: &State<A>, n: u16) -> bool
     }
 }
 
-/// How far the last try of a command has come, if there is one.
+/// Returns how far the last try of a command has come, if there is one.
 fn phase_after<A: Allocator>(state: &State<A>, ends: &Ends, last: Option<u16>) -> Phase
     ensures { result ≡ phase_after state.now (moment_of ends.now) last }
 {

@@ -1,4 +1,4 @@
-//! What a task of the store says of the command of which it is a try.
+//! A task of the store is a try of a command. These functions say what it shows of the command.
 
 ghost use Rattle.std.specs.Prelude.{◌≡◌};
 ghost use Rattle.night_drive.specs.Tries.{counts, has_failed, is_cancel, is_withdrawn, phase_by};
@@ -7,8 +7,8 @@ use crate::names::begins;
 use night_plan::facts::Phase;
 use run_model::{Stage, Text, is_spelled};
 
-/// Whether a task counts as a try of its command: it was started, and it wasn't withdrawn. (A task
-/// is withdrawn if a crash came after it was submitted, and before it was started.)
+/// Returns whether a task counts as a try of its command: it was started, and it wasn't withdrawn.
+/// (A task is withdrawn if a crash came after it was submitted and before it was started.)
 pub fn counts(stage: &Stage) -> bool
     ensures { result ≡ counts stage.now }
 {
@@ -19,7 +19,7 @@ pub fn counts(stage: &Stage) -> bool
     }
 }
 
-/// Whether a try has failed. One that was canceled or interrupted hasn't.
+/// Returns whether a try has failed. A try that was canceled or interrupted hasn't.
 pub fn has_failed(stage: &Stage) -> bool
     ensures { result ≡ has_failed stage.now }
 {
@@ -29,7 +29,7 @@ pub fn has_failed(stage: &Stage) -> bool
     }
 }
 
-/// How far a command has come by its last try, which ended at this moment if it failed.
+/// Returns how far a command has come by its last try. `moment` is when that try failed, if it did.
 pub fn phase_by(moment: u64, stage: &Stage) -> Phase
     ensures { result ≡ phase_by moment stage.now }
 {
@@ -42,7 +42,7 @@ pub fn phase_by(moment: u64, stage: &Stage) -> Phase
     }
 }
 
-/// How far a command has come whose last try ended at this moment with an error.
+/// Returns how far a command has come whose last try ended at this moment with an error.
 fn failed_at(moment: u64, error: &Text) -> Phase
     ensures { result ≡ phase_by moment (Stage.Failure error.now) }
 {
@@ -53,14 +53,14 @@ fn failed_at(moment: u64, error: &Text) -> Phase
     }
 }
 
-/// Whether this is the error of a try that was canceled.
+/// Returns whether this is the error of a try that was canceled.
 fn is_cancel(error: &Text) -> bool
     ensures { result ≡ is_cancel error.now }
 {
     begins(error.as_bytes(), b"canceled: ")
 }
 
-/// Whether this is the error of a task that was withdrawn.
+/// Returns whether this is the error of a task that was withdrawn.
 fn is_withdrawn(error: &Text) -> bool
     ensures { result ≡ is_withdrawn error.now }
 {

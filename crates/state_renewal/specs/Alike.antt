@@ -1,4 +1,4 @@
--- What is asked of two stores, of which one was renewed, and answered alike.
+-- The questions that two stores, one of which was renewed, answer in the same way.
 use Rattle.std.specs.Prelude.{◌≡◌, ℕ, true, List}
 use Rattle.std.specs.Option.{option_map}
 use Rattle.run_model.specs.declared.answers.GroupLook.{GroupLook}
@@ -9,21 +9,22 @@ use Rattle.run_model.specs.State.{State}
 use Rattle.run_model.specs.Tasks.{first_ready}
 use Rattle.state_renewal.specs.Renewed.{new_number, Part}
 
--- What is seen of a group, by its scope's new number.
+-- The answer to a question about a group, with the new number of its scope.
 abbrev pub group_look_anew : Part → GroupLook → GroupLook
 group_look_anew part look = record look { scope = new_number part.scopes look.scope }
 
--- What is seen of a task, by the new numbers of its group and of the task that it is a retry of.
+-- The answer to a question about a task, with the new numbers of its group and of the task that it
+-- retries.
 abbrev pub task_look_anew : Part → TaskLook → TaskLook
 task_look_anew part look = record look {
   group = new_number part.groups look.group;
   retry_of = option_map (new_number part.tasks) look.retry_of;
 }
 
--- State q answers as state p does of all that goes on, each asked by its new number: of a scope
--- its name, whether it is done, why and with which cause, its deadline, and the value of every
--- key; of a group and of a task what is seen of it, by the new numbers; and which task is started
--- next.
+-- State q answers every question about what goes on as state p does, by the new numbers. About a
+-- scope these are its name, whether it is done, why and with which cause, its deadline, and the
+-- value of every key. About a group and a task it is the whole answer. The next task to start is
+-- the same, too.
 pub record GoOnAlike (part : Part) (p q : State) : Type 0 where
   pub scopes : (s : ℕ) → part.scopes s ≡ true
       → look_of q (new_number part.scopes s) ≡ look_of p s

@@ -1,4 +1,4 @@
--- Commands that name what goes on, and the answers to them, by the new numbers.
+-- Commands that refer to what goes on, and the answers to them, by the new numbers.
 use Rattle.std.specs.Prelude.{ℕ, Bool, true, false, List, Result, Ok, Err}
 use Rattle.std.specs.Option.{option_map, option_map_or}
 use Rattle.run_model.specs.declared.answers.Answer.{Answer}
@@ -10,15 +10,15 @@ use Rattle.run_model.specs.declared.refusals.Refusal.{Refusal}
 use Rattle.run_model.specs.State.{State, group_named, scope_named}
 use Rattle.state_renewal.specs.Renewed.{new_number, Part}
 
--- There is a scope of this name, and it goes on.
+-- There is a scope with this name, and it goes on.
 abbrev pub has_scope_on : Part → State → List ℕ → Bool
 has_scope_on part p name = option_map_or part.scopes (scope_named p.tree name) false
 
--- There is a group of this name, and it goes on.
+-- There is a group with this name, and it goes on.
 abbrev pub has_group_on : Part → State → List ℕ → Bool
 has_group_on part p name = option_map_or part.groups (group_named p.work name) false
 
--- The scope, the group or the task that the command names goes on.
+-- The scope, the group or the task to which the command refers goes on.
 abbrev pub calls_part : Part → State → Command → Bool
 calls_part part p (command.Derive name parent wish) = has_scope_on part p parent
 calls_part part p (command.Cancel scope cause) = has_scope_on part p scope
@@ -31,7 +31,7 @@ calls_part part p (command.TryGo group job argument) = has_group_on part p group
 calls_part part p (command.Retry n) = part.tasks n
 calls_part part p (command.Wait group) = has_group_on part p group
 
--- The same command. Only a task is named by its number, and so here by its new one.
+-- The same command, by the new numbers. Only a task is referred to by its number.
 abbrev pub command_anew : Part → Command → Command
 command_anew part (command.Retry n) = command.Retry (new_number part.tasks n)
 command_anew part call = call
@@ -45,13 +45,13 @@ answer_anew part answer.Done = answer.Done
 answer_anew part (answer.Task n phase) = answer.Task (new_number part.tasks n) phase
 answer_anew part (answer.Waited error) = answer.Waited error
 
--- The same start, by the task's new number.
+-- The same start, by the new number of the task.
 abbrev pub started_anew : Part → Started → Started
 started_anew part started = record started {
   info = record started.info { task = new_number part.tasks started.info.task };
 }
 
--- The same reply: the answer has the new numbers, and a refusal stays.
+-- The same reply: an answer by the new numbers, or the same refusal.
 abbrev pub reply_anew : {X : Type 0} → (X → X) → Result X Refusal → Result X Refusal
 reply_anew tell (Ok x) = Ok (tell x)
 reply_anew tell (Err refusal) = Err refusal

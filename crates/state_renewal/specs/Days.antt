@@ -1,4 +1,4 @@
--- The examples: what is done to a store after it was renewed, and what is left of it then.
+-- The examples: what happens to a store after its renewal, and what is left of it then.
 use Rattle.std.specs.Prelude.{List, [], ◌∷◌, Some, None, codes}
 use Rattle.run_model.specs.declared.layouts.Layout.TheVariants.{Small}
 use Rattle.run_model.specs.declared.scopes.Kind.TheVariants as kind
@@ -11,22 +11,22 @@ use Rattle.run_model.specs.Rows.{root}
 use Rattle.run_model.specs.State.{State}
 use Rattle.state_renewal.specs.Examples.{ended, task, unwaited}
 
--- ---- a day after a renewal, in which group 1 goes on, and task 4
+-- ---- a day after a renewal, on which group 1 and task 4 go on
 
--- Task 4 runs, and a restart interrupts it; it is submitted anew, and another task after it. A
--- deadline is set, and passes.
+-- Task 4 is started, and a restart interrupts it. It is retried, and another task is submitted
+-- after it. A deadline is set, and passes.
 abbrev pub day : List Event
 day =
     event.Start 4 ∷ event.Derive (codes "t") 2 (kind.Deadline 9 None) ∷ event.Restart
     ∷ event.Retry 4 ∷ event.Advance 9 ∷ event.Go 1 (codes "copy") (codes "d") ∷ []
 
--- Group 0 went with its scope 1 and its tasks 0 and 2.
+-- The same events by the new numbers: group 0 was dropped, with its scope 1 and its tasks 0 and 2.
 abbrev pub day_anew : List Event
 day_anew =
     event.Start 2 ∷ event.Derive (codes "t") 1 (kind.Deadline 9 None) ∷ event.Restart
     ∷ event.Retry 2 ∷ event.Advance 9 ∷ event.Go 0 (codes "copy") (codes "d") ∷ []
 
--- The deadline is scope 2, and passed with event 14; the new tasks are 3 and 4.
+-- The deadline is that of scope 2, and passed at event 14. The new tasks are 3 and 4.
 abbrev pub day_left : State
 day_left = record {
   count = 15;
@@ -58,9 +58,9 @@ day_left = record {
   };
 }
 
--- ---- a night from the beginning, and a day after it
+-- ---- a first session, and a day after it
 
--- Group 0 is waited for with its one task; a task of group 1 is interrupted, and submitted anew.
+-- Group 0 is waited for after its only task. A task of group 1 is interrupted, and retried.
 abbrev pub first_night : List Event
 first_night =
     event.Group (codes "h") 0 ∷ event.Group (codes "g") 0
@@ -68,7 +68,8 @@ first_night =
     ∷ event.Start 0 ∷ event.Finish 0 outcome.Success ∷ event.Start 1 ∷ event.Restart
     ∷ event.Wait 0 ∷ event.Retry 1 ∷ []
 
--- It is started, and fails; a group is made below the other's scope, and gets a task.
+-- The retry is started, and fails. A group is made below the scope of the other one, and gets a
+-- task.
 abbrev pub second_day : List Event
 second_day =
     event.Start 2 ∷ event.Finish 2 (outcome.Failure (codes "no room")) ∷ event.Wait 1

@@ -1,4 +1,4 @@
--- The examples: states before they are renewed, and what is left of them, row by row.
+-- The examples: states before their renewal, and the rows that are left after it.
 use Prim.Native.String.{String}
 use Rattle.std.specs.Prelude.{ℕ, true, false, List, [], ◌∷◌, Option, Some, None, codes}
 use Rattle.run_model.specs.declared.layouts.Layout.TheVariants.{Small}
@@ -13,9 +13,9 @@ use Rattle.run_model.specs.declared.tasks.Task.{Task}
 use Rattle.run_model.specs.Rows.{root}
 use Rattle.run_model.specs.State.{State}
 
--- ---- rows in short
+-- ---- rows, written briefly
 
--- A small store that has seen nine events, with its clock at 7.
+-- A small store after nine events, with its clock at 7.
 abbrev pub state : List Scope → List Group → List Task → State
 state scopes groups tasks = record {
   count = 9;
@@ -23,7 +23,7 @@ state scopes groups tasks = record {
   work = record { layout = Small; groups = groups; tasks = tasks };
 }
 
--- A scope that nothing hit.
+-- A scope without a hit.
 abbrev pub live : String → ℕ → Kind → Scope
 live name parent kind = record { name = codes name; parent = parent; kind = kind; hit = None }
 
@@ -56,7 +56,7 @@ unwaited name scope (Some error) = record {
 abbrev pub waited : String → ℕ → Group
 waited name scope = record (unwaited name scope None) { waited = true }
 
--- The group, but bare.
+-- The same group, but bare.
 abbrev pub bare : Group → Group
 bare group = record group { bare = true }
 
@@ -70,7 +70,7 @@ task group argument stage retry_of = record {
   retry_of = retry_of;
 }
 
--- ---- a finished night
+-- ---- a finished run
 
 abbrev pub finished_night : State
 finished_night =
@@ -86,13 +86,13 @@ detached_part =
     ∷ ended "a" 0 kind.Cause "stop" ∷ live "b" 3 kind.Cancel
     ∷ live "d" 3 kind.Detached ∷ live "c" 5 kind.Cancel ∷ []) [] []
 
--- Scope y goes, and b, which is done with a; a stays above d.
+-- Scope y is dropped, and so is b, which is done because a is. Scope a stays, since it is above d.
 abbrev pub detached_part_left : State
 detached_part_left =
     state (root ∷ live "z" 0 kind.Cancel ∷ ended "a" 0 kind.Cause "stop" ∷ live "d" 2 kind.Detached
     ∷ live "c" 3 kind.Cancel ∷ []) [] []
 
--- ---- a retry beside a group that goes
+-- ---- a retry next to a group that is dropped
 
 abbrev pub retried : State
 retried =
@@ -103,7 +103,8 @@ retried =
     ∷ task 0 "c" stage.Success None ∷ task 1 "b" stage.Interrupted (Some 1)
     ∷ task 1 "b" stage.Fresh (Some 3) ∷ [])
 
--- Group h goes with tasks 0 and 2; the other tasks come to 0, 1 and 2, and the links with them.
+-- Group h is dropped with tasks 0 and 2. The other tasks get the numbers 0, 1 and 2, and so do the
+-- links to them.
 abbrev pub retried_left : State
 retried_left =
     state (root ∷ ended "g" 0 kind.Group "interrupted" ∷ [])
@@ -120,7 +121,7 @@ cancelled_group =
     (unwaited "g" 2 None ∷ [])
     (task 0 "a" stage.Success None ∷ task 0 "b" stage.Fresh None ∷ [])
 
--- Scope v goes, which is done with a; the rest stays as it was.
+-- Scope v, which is done because a is, is dropped. Everything else stays as it was.
 abbrev pub cancelled_group_left : State
 cancelled_group_left =
     state (root ∷ ended "a" 0 kind.Cause "stop" ∷ live "g" 1 kind.Group ∷ [])
@@ -137,7 +138,8 @@ waited_above =
     (waited "f" 1 ∷ waited "g" 2 ∷ [])
     (task 1 "a" stage.Success None ∷ task 0 "b" stage.Success None ∷ [])
 
--- Group f goes; group g stays with its scope and its task, since d lives below.
+-- Group f is dropped. Group g stays with its scope and its task, since scope d below its scope is
+-- live.
 abbrev pub waited_above_left : State
 waited_above_left =
     state (root ∷ ended "g" 0 kind.Group "context canceled" ∷ live "d" 1 kind.Detached ∷ [])
@@ -153,7 +155,8 @@ bare_groups =
     (bare (waited "f" 1) ∷ bare (unwaited "g" 3 None) ∷ [])
     (task 0 "a" stage.Success None ∷ task 1 "b" stage.Success None ∷ [])
 
--- Group f goes, and its live scope stays; b goes; c stays, which is done, for group g lives in it.
+-- Group f is dropped, and its live scope stays. Scope b is dropped. Scope c is done, but stays,
+-- since it is the scope of group g.
 abbrev pub bare_groups_left : State
 bare_groups_left =
     state (root ∷ live "a" 0 kind.Cancel ∷ ended "c" 0 kind.Cancel "x" ∷ [])

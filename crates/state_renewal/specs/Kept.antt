@@ -1,4 +1,4 @@
--- What stays of what is kept.
+-- What stays the same of kept rows.
 use Rattle.std.specs.Prelude.{◌≡◌, ◌≢◌, ℕ, true, false, List, length, Some, None}
 use Rattle.run_model.specs.declared.groups.Group.{Group}
 use Rattle.run_model.specs.declared.scopes.Scope.{Scope}
@@ -10,7 +10,8 @@ use Rattle.run_model.specs.Tasks.{is_unfinished, phase_of, unfinished_in}
 use Rattle.state_renewal.specs.Renewed.{new_number, keeps_scope, keeps_group, keeps_task}
 use Rattle.state_renewal.specs.Renewed.{scope_told, group_told, task_told, renewed}
 
--- A question on scope m of the new rows has the same answer as one on scope s of the old ones.
+-- A question about scope m of the new rows has the same answer as one about scope s of the old
+-- rows.
 pub record AnswersAlike (old : List Scope) (s : ℕ) (new : List Scope) (m : ℕ) : Type 0 where
   pub done : is_done new m ≡ is_done old s
   pub reason : reason_of new m ≡ reason_of old s
@@ -18,24 +19,24 @@ pub record AnswersAlike (old : List Scope) (s : ℕ) (new : List Scope) (m : ℕ
   pub deadline : deadline_of new m ≡ deadline_of old s
   pub values : (key : List ℕ) → value_of new m key ≡ value_of old s key
 
--- A scope that is kept has its row under its new number, and the same answers as before.
+-- A kept scope has its row under its new number, and the same answers as before.
 pub record ScopeStays (p : State) (s : ℕ) (row : Scope) : Type 0 where
   pub found : HasRow (renewed p).tree.scopes (new_number (keeps_scope p) s) (scope_told p row)
   pub answers : AnswersAlike p.tree.scopes s (renewed p).tree.scopes (new_number (keeps_scope p) s)
 
--- A group that is kept has its row under its new number, and as many unfinished tasks as before.
+-- A kept group has its row under its new number, and as many unfinished tasks as before.
 pub record GroupStays (p : State) (g : ℕ) (row : Group) : Type 0 where
   pub found : HasRow (renewed p).work.groups (new_number (keeps_group p) g) (group_told p row)
   pub unfinished : unfinished_in (new_number (keeps_group p) g) (renewed p).work.tasks
       ≡ unfinished_in g p.work.tasks
 
--- A task that is kept has its row under its new number, and is as far as before.
+-- A kept task has its row under its new number, and the same phase as before.
 pub record TaskStays (p : State) (n : ℕ) (row : Task) : Type 0 where
   pub found : HasRow (renewed p).work.tasks (new_number (keeps_task p) n) (task_told p row)
   pub phase : phase_of (renewed p).work (new_number (keeps_task p) n) ≡ phase_of p.work n
 
--- Whatever isn't finished is kept: a scope that isn't done, a group that wasn't waited for, and a
--- task that hasn't ended.
+-- Whatever isn't finished is kept: each scope that isn't done, each group that wasn't waited for,
+-- and each task that hasn't ended.
 pub record KeepsUnfinished (p : State) : Type 0 where
   pub scopes : (s : ℕ) (row : Scope) → HasRow p.tree.scopes s row → is_done p.tree.scopes s ≡ false
       → keeps_scope p s ≡ true
@@ -44,8 +45,8 @@ pub record KeepsUnfinished (p : State) : Type 0 where
   pub tasks : (n : ℕ) (row : Task) → HasRow p.work.tasks n row → is_unfinished row.stage ≡ true
       → keeps_task p n ≡ true
 
--- The names that are taken are those of what is kept: each is found under its new number, and every
--- other name is free.
+-- The names of the kept rows are taken, each is found under its new number, and every other name is
+-- free.
 pub record AreNamesKept (p : State) : Type 0 where
   pub scopes : (s : ℕ) (row : Scope) → HasRow p.tree.scopes s row → keeps_scope p s ≡ true
       → scope_named (renewed p).tree row.name ≡ Some (new_number (keeps_scope p) s)
@@ -60,7 +61,7 @@ pub record AreNamesKept (p : State) : Type 0 where
       → row.name ≢ name)
       → group_named (renewed p).work name ≡ None
 
--- So much room is taken as there is kept: of so many rows, so many are kept.
+-- The renewed state has as many rows as are kept.
 pub record IsRoomKept (p : State) : Type 0 where
   pub scopes : length (renewed p).tree.scopes
       ≡ new_number (keeps_scope p) (length p.tree.scopes)

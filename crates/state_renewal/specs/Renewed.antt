@@ -1,4 +1,5 @@
--- What is left of a state that is renewed: all that isn't finished, and what that stands on.
+-- The part of a state that a renewal keeps: everything that isn't finished, and everything on which
+-- that depends.
 use Rattle.std.specs.Prelude.{ℕ, zero, suc, ◌==◌, Bool, true, false, not, ◌&&◌, ◌||◌, List, [], ◌∷◌}
 use Rattle.std.specs.Prelude.{length, map, nat_le, slice_get}
 use Rattle.std.specs.List.{list_any, range_with_len}
@@ -12,59 +13,59 @@ use Rattle.run_model.specs.State.{State, TreeState, WorkState}
 use Rattle.run_model.specs.Scopes.{line, is_done}
 use Rattle.model_laws.specs.Hits.{is_on}
 
--- ---- what is kept
+-- ---- the kept rows
 
--- A group that wasn't waited for lives in this scope.
+-- This is the scope of a group that wasn't waited for.
 abbrev pub hosts_unwaited : WorkState → ℕ → Bool
 hosts_unwaited w s = list_any (λ group. not group.waited && group.scope == s) w.groups
 
--- A scope is needed while it isn't done, or while a group lives in it that wasn't waited for.
+-- A scope is needed if it isn't done, or if it is the scope of a group that wasn't waited for.
 abbrev pub is_needed : State → ℕ → Bool
 is_needed p s = not (is_done p.tree.scopes s) || hosts_unwaited p.work s
 
--- The numbers of all scopes, ascending.
+-- The numbers of all scopes, in ascending order.
 abbrev pub scope_numbers : TreeState → List ℕ
 scope_numbers t = range_with_len 0 (length t.scopes)
 
--- A scope is kept if it is needed, or is above one that is.
+-- A scope is kept if it is needed, or is above a needed one.
 abbrev pub keeps_scope : State → ℕ → Bool
 keeps_scope p s =
     list_any (λ t. is_needed p t && is_on s (line p.tree.scopes t)) (scope_numbers p.tree)
 
--- A group is kept unless it was waited for; then it still stays with its own scope, if that does.
+-- A group is kept if it wasn't waited for, or if its own scope is kept.
 abbrev pub keeps_group : State → ℕ → Bool
 keeps_group p g =
     option_map_or (λ group. not group.waited || not group.bare && keeps_scope p group.scope)
     (slice_get p.work.groups g) false
 
--- A task is kept with its group.
+-- A task is kept if its group is.
 abbrev pub keeps_task : State → ℕ → Bool
 keeps_task p n =
     option_map_or (λ task. keeps_group p task.group) (slice_get p.work.tasks n) false
 
 -- ---- new numbers
 
--- One more, if this holds.
+-- One more, if this is true.
 abbrev pub one_more_if : Bool → ℕ → ℕ
 one_more_if true n = suc n
 one_more_if false n = n
 
--- The new number of a row is the number of rows before it that are kept.
+-- The new number of a row is the number of kept rows before it.
 abbrev pub new_number : (ℕ → Bool) → ℕ → ℕ
 new_number keeps zero = zero
 new_number keeps (suc n) = one_more_if (keeps n) (new_number keeps n)
 
--- The row in front, if it is kept.
+-- The row and the others after it, or only the others if the row isn't kept.
 abbrev pub in_front_if : {X : Type 0} → Bool → X → List X → List X
 in_front_if true row rows = row ∷ rows
 in_front_if false row rows = rows
 
--- The rows that are kept, in order.
+-- The kept rows, in order.
 abbrev pub kept : {X : Type 0} → (ℕ → Bool) → List X → List X
 kept keeps [] = []
 kept keeps (row ∷ rows) = in_front_if (keeps zero) row (kept (λ n. keeps (suc n)) rows)
 
--- ---- a state told anew
+-- ---- a state by the new numbers
 
 -- Some scopes, groups and tasks, by number.
 pub record Part : Type 0 where
@@ -72,38 +73,38 @@ pub record Part : Type 0 where
   pub groups : ℕ → Bool
   pub tasks : ℕ → Bool
 
--- A scope is told by its parent's new number; all else of its row is as it was.
+-- A scope with the new number of its parent. The rest of its row stays as it was.
 abbrev pub scope_anew : Part → Scope → Scope
 scope_anew part row = record row { parent = new_number part.scopes row.parent }
 
--- A group is told by its scope's new number; all else of its row is as it was.
+-- A group with the new number of its scope. The rest of its row stays as it was.
 abbrev pub group_anew : Part → Group → Group
 group_anew part row = record row { scope = new_number part.scopes row.scope }
 
--- A task is told by the new numbers of its group and of the task that it is a retry of; all else of
--- its row is as it was.
+-- A task with the new numbers of its group and of the task that it retries. The rest of its row
+-- stays as it was.
 abbrev pub task_anew : Part → Task → Task
 task_anew part row = record row {
   group = new_number part.groups row.group;
   retry_of = option_map (new_number part.tasks) row.retry_of;
 }
 
--- The rows of the part, in order, each told anew.
+-- The rows of the part, in order, each with its new numbers.
 abbrev pub rows_anew : {X : Type 0} → (ℕ → Bool) → (X → X) → List X → List X
 rows_anew keeps tell rows = map tell (kept keeps rows)
 
--- The tree of the scopes of the part.
+-- The tree with the scopes of the part.
 abbrev pub tree_anew : Part → TreeState → TreeState
 tree_anew part t = record t { scopes = rows_anew part.scopes (scope_anew part) t.scopes }
 
--- The work of the groups and the tasks of the part.
+-- The work with the groups and the tasks of the part.
 abbrev pub work_anew : Part → WorkState → WorkState
 work_anew part w = record w {
   groups = rows_anew part.groups (group_anew part) w.groups;
   tasks = rows_anew part.tasks (task_anew part) w.tasks;
 }
 
--- The state of the part. Its count, clock and layout stay.
+-- The state with the rows of the part. Its count, clock and layout stay the same.
 abbrev pub state_anew : Part → State → State
 state_anew part p = record {
   count = p.count;
@@ -113,7 +114,7 @@ state_anew part p = record {
 
 -- ---- a renewed state
 
--- What is kept of a state.
+-- The part of a state that a renewal keeps.
 abbrev pub kept_part : State → Part
 kept_part p = record {
   scopes = keeps_scope p;
@@ -121,19 +122,19 @@ kept_part p = record {
   tasks = keeps_task p;
 }
 
--- A scope that is kept, told anew.
+-- A kept scope, by the new numbers.
 abbrev pub scope_told : State → Scope → Scope
 scope_told p = scope_anew (kept_part p)
 
--- A group that is kept, told anew.
+-- A kept group, by the new numbers.
 abbrev pub group_told : State → Group → Group
 group_told p = group_anew (kept_part p)
 
--- A task that is kept, told anew.
+-- A kept task, by the new numbers.
 abbrev pub task_told : State → Task → Task
 task_told p = task_anew (kept_part p)
 
--- A renewed state has the kept rows, told by their new numbers.
+-- A renewed state has the kept rows, by their new numbers.
 abbrev pub renewed : State → State
 renewed p = state_anew (kept_part p) p
 
@@ -144,7 +145,7 @@ renewed_in layout p = record (renewed p) {
   work = record (renewed p).work { layout = layout };
 }
 
--- The scopes and the tasks of the state fit in a store of this layout. The groups fit in every
+-- The scopes and the tasks of the state fit into a store of this layout. The groups fit into every
 -- layout.
 abbrev pub fits_in : Layout → State → Bool
 fits_in layout p =

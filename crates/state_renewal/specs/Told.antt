@@ -1,4 +1,5 @@
--- Events that name what is of a part alone, told anew; and whether an event has its place.
+-- Events that refer only to a part of a state, and the same events by the new numbers. Also whether
+-- the names and rows of an event are still free.
 use Rattle.std.specs.Prelude.{Bool, true, ◌&&◌, is_none}
 use Rattle.run_model.specs.Event.{Event}
 use Rattle.run_model.specs.Event as event
@@ -8,7 +9,7 @@ use Rattle.run_model.specs.Layouts.{most_scopes, most_tasks}
 use Rattle.run_model.specs.declared.bounds.TheConstants.{MOST_GROUPS}
 use Rattle.state_renewal.specs.Renewed.{Part, new_number}
 
--- The scope, the group or the task that the event names by its number is of the part.
+-- The scope, the group or the task to which the event refers by its number is in the part.
 abbrev pub names_part : Part → Event → Bool
 names_part part (event.Derive name parent kind) = part.scopes parent
 names_part part (event.Cancel s cause) = part.scopes s
@@ -24,7 +25,7 @@ names_part part (event.Finish n outcome) = part.tasks n
 names_part part (event.Wait g) = part.groups g
 names_part part event.Restart = true
 
--- The same event, told by the new numbers.
+-- The same event, by the new numbers.
 abbrev pub event_anew : Part → Event → Event
 event_anew part (event.Derive name parent kind) =
     event.Derive name (new_number part.scopes parent) kind

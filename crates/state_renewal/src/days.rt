@@ -1,4 +1,4 @@
-//! Examples of what goes on after a renewal, computed row by row.
+//! Examples of the time after a renewal, computed row by row.
 
 ghost use Rattle.std.specs.Option.{option_map};
 ghost use Rattle.std.specs.Prelude.{◌≡◌, IsSomeAnd, Ok, Some, codes, false, map, true};
@@ -36,8 +36,8 @@ pub fn a_command_at_the_end_of_that_day()
         ≡ Ok (answer.Task 5 phase.Held) }
 {}
 
-/// A night and a day that meet the premises of the laws. Two of the day's events refer to rows that
-/// are made on that day.
+/// A first session and a day after it that meet the premises of the laws. Two of the day's events
+/// refer to rows that are made on that day.
 pub fn a_night_and_a_day_meet_the_premises()
     ensures { IsSomeAnd (run (formatted Small) first_night) (λ p. IsSomeAnd (run p second_day)
         (λ q. GoesOn p second_day q)) }

@@ -8,7 +8,7 @@ ghost use Rattle.state_renewal.specs.Examples.{detached_part_left, retried, retr
 ghost use Rattle.state_renewal.specs.Examples.{cancelled_group, cancelled_group_left, waited_above};
 ghost use Rattle.state_renewal.specs.Examples.{waited_above_left, bare_groups, bare_groups_left};
 
-/// A finished night is dropped as a whole: its group was waited for, and its scope is done.
+/// A finished run is dropped as a whole: its group was waited for, and its scope is done.
 pub fn a_finished_night_goes_whole()
     ensures { renewed finished_night ≡ state (root ∷ []) [] [] }
 {}

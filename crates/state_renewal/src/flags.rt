@@ -19,7 +19,7 @@ use std::alloc::Allocator;
 use task_group::Groups;
 
 /// Returns a flag for each scope, which says whether it is kept: whether it is needed, or above one
-/// that is. `Memory` if the memory for them is refused.
+/// that is needed. `Memory` if memory is refused.
 pub fn flag_scopes<A: Allocator, B: Allocator>(
     alloc: A,
     tree: &Tree<B>,
@@ -38,8 +38,7 @@ pub fn flag_scopes<A: Allocator, B: Allocator>(
     Ok(flags)
 }
 
-/// Returns a flag for each scope, which says whether it isn't done. `Memory` if the memory for them
-/// is refused.
+/// Returns a flag for each scope, which says whether it is live. `Memory` if memory is refused.
 pub fn flag_live<A: Allocator, B: Allocator>(
     alloc: A,
     tree: &Tree<B>,
@@ -57,7 +56,7 @@ pub fn flag_live<A: Allocator, B: Allocator>(
     Ok(flags)
 }
 
-/// Also flags each scope in which a group lives that wasn't waited for. Takes no memory.
+/// Also flags the scope of each group that wasn't waited for. Takes no memory.
 pub fn flag_hosts<A: Allocator>(groups: &Groups<A>, flags: &mut [bool])
     requires known { (g : ℕ) (row : GroupOf) → HasRow groups.now.groups g row
         → row.scope < length flags.old }
@@ -73,8 +72,8 @@ pub fn flag_hosts<A: Allocator>(groups: &Groups<A>, flags: &mut [bool])
     }
 }
 
-/// Returns a flag for each group, which says whether it stays if these scopes do. `Memory` if the
-/// memory for them is refused.
+/// Returns a flag for each group, which says whether it is kept if these scopes are. `Memory` if
+/// memory is refused.
 pub fn flag_groups<A: Allocator, B: Allocator>(
     alloc: A,
     groups: &Groups<B>,
@@ -95,8 +94,8 @@ pub fn flag_groups<A: Allocator, B: Allocator>(
     Ok(flags)
 }
 
-/// Returns a flag for each task, which says whether its group stays. `Memory` if the memory for
-/// them is refused.
+/// Returns a flag for each task, which says whether its group is kept. `Memory` if memory is
+/// refused.
 pub fn flag_tasks<A: Allocator, B: Allocator>(
     alloc: A,
     groups: &Groups<B>,
@@ -117,7 +116,7 @@ pub fn flag_tasks<A: Allocator, B: Allocator>(
     Ok(flags)
 }
 
-/// Flags, beside the live scopes, the others that are kept.
+/// Flags the kept scopes that aren't live.
 fn flag_rest<A: Allocator>(tree: &Tree<A>, groups: &Groups<A>, flags: &mut [bool])
     requires ordered { AreOrdered tree.now.scopes }
     requires known { (g : ℕ) (row : GroupOf) → HasRow groups.now.groups g row

@@ -10,8 +10,8 @@ ghost use Rattle.row_view.specs.Image.{image};
 ghost use Rattle.row_view.specs.Keeping.{IsImage};
 ghost use Rattle.state_renewal.specs.Renewed.{fits_in, renewed, renewed_in};
 
-/// A renewed state is consistent in each layout into which it fits, and its image doesn't depend on
-/// the layout.
+/// A renewed state is consistent in each layout into which it fits, and its image is the same in
+/// all of them.
 pub fn a_renewed_state_goes_into_each_layout_with_room()
     ensures rules { (layout : Layout) (p : State) → IsConsistent p
         → fits_in layout (renewed p) ≡ true → IsConsistent (renewed_in layout p) }

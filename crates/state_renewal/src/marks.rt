@@ -1,5 +1,5 @@
-//! The [`Marks`] of a renewal: flags, one for each row, which say whether the row is kept, and the
-//! new numbers of the rows by them.
+//! The [`Marks`] of a renewal: a flag for each row, which says whether the row is kept, and the new
+//! numbers of the kept rows.
 
 ghost use Rattle.std.specs.Prelude.{◌≡◌, ◌<◌, ◌≤◌, ◌^◌, ℕ, IfOk, IfErr, Some, length, slice_get};
 ghost use Rattle.run_model.specs.declared.faults.Fault.TheVariants.{Memory};
@@ -11,11 +11,11 @@ use run_model::{Fault, Kind, Scope};
 use std::alloc::{Allocator, Global};
 use std::marker::Model;
 
-/// Which rows of one kind are kept, by a flag for each, and the new number of each.
+/// Which rows of one kind are kept, and the new number of each row.
 #[derive(Drop)]
 pub struct Marks<A: Allocator = Global> {
     flags: Vec<bool, A>,
-    /// The new number of each row, and after them how many are kept.
+    /// The new number of each row, and after them the number of kept rows.
     numbers: Vec<u16, A>,
 }
 
@@ -31,7 +31,7 @@ impl<A: Allocator> Model for Marks<A> {
 }
 
 impl<A: Allocator + Copy> Marks<A> {
-    /// Returns the marks by these flags. `Memory` if the memory for the numbers is refused.
+    /// Returns the marks that these flags give. `Memory` if the memory for the numbers is refused.
     pub fn new(alloc: A, flags: Vec<bool, A>) -> Result<Marks<A>, Fault>
         requires few { length flags.items < 2 ^ 16 }
         ensures flags { IfOk result (λ marks. marks ≡ flags.items) }
@@ -50,7 +50,8 @@ impl<A: Allocator> Marks<A> {
         self.flags.as_slice()
     }
 
-    /// Returns a row's new number: how many before it are kept. After all rows it is how many are.
+    /// Returns the new number of a row: how many earlier rows are kept. After the last row it is
+    /// the number of all kept rows.
     pub fn number(&self, n: u16) -> u16
         requires known { n ≤ length self.now }
         ensures value { result ≡ new_number (is_flagged self.now) n }
@@ -59,8 +60,8 @@ impl<A: Allocator> Marks<A> {
     }
 }
 
-/// Also flags each scope that is above a flagged one. There is a flag for each scope; if those that
-/// are needed are flagged, all that are kept are then. Takes no memory.
+/// Also flags each scope above a flagged one. There is a flag for each scope. If the needed scopes
+/// were flagged, exactly the kept ones are afterwards. Takes no memory.
 pub fn flag_above(scopes: &[Scope], flags: &mut [bool])
     requires ordered { AreOrdered scopes.now }
     requires each { length flags.old ≡ length scopes.now }
@@ -76,8 +77,8 @@ pub fn flag_above(scopes: &[Scope], flags: &mut [bool])
     }
 }
 
-/// Returns the new number of each row, by flags that say which are kept, and after them how many
-/// are kept. `Memory` if the memory for them is refused.
+/// Returns the new number of each row, given flags that say which rows are kept, and after them the
+/// number of kept rows. `Memory` if memory is refused.
 pub fn new_numbers<A: Allocator>(alloc: A, flags: &[bool]) -> Result<Vec<u16, A>, Fault>
     requires few { length flags.now < 2 ^ 16 }
     ensures numbers { IfOk result (λ numbers. (n : ℕ) → n ≤ length flags.now

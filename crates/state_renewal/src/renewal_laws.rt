@@ -1,8 +1,8 @@
-//! Laws: the old store and the renewed one behave and answer alike from then on.
+//! Laws: from then on, the old store and the renewed one behave in the same way.
 //!
 //! `p` is the state that was renewed. `q` is any later state, to which events lead that refer only
-//! to what goes on: what the renewal keeps, and what is made later. The part of `q` that goes on is
-//! the state of the renewed store after the same events, by the new numbers.
+//! to what goes on: the rows that the renewal keeps, and those that are made later. The part of `q`
+//! that goes on is the state of the renewed store after the same events, by the new numbers.
 
 ghost use Rattle.std.specs.Prelude.{◌≡◌, ◌&&◌, ℕ, List, Some, false, map, true};
 ghost use Rattle.run_model.specs.declared.commands.Command.{Command};
@@ -40,9 +40,9 @@ pub fn both_answer_questions_alike()
         → GoOnAlike (going_on p) q (state_anew (going_on p) q) }
 {}
 
-/// A command that refers to what goes on is answered in the same way at each length of the log, or
-/// refused for the same reason, if the names that it gives are free in the old store, and there is
-/// room. The same holds for a start, and for a finish of a task that goes on.
+/// Take a command that refers only to what goes on, gives names that are free in the old store, and
+/// fits there. Both stores answer it in the same way at each length of the log, or refuse it for
+/// the same reason. The same is true of a start, and of a finish of a task that goes on.
 pub fn both_answer_calls_alike()
     ensures commands { (p q : State) (events : List Event) (log : ℕ) (call : Command)
         → GoesOn p events q → calls_part (going_on p) q call ≡ true
@@ -60,15 +60,15 @@ pub fn both_answer_calls_alike()
 
 /// The old store allows an event about what goes on exactly if the renewed one allows it, the names
 /// in the event are free in the old store, and it fits there. So the renewed store allows more only
-/// because names and room are free again.
+/// because the names and the places of dropped rows are free again.
 pub fn only_names_and_room_are_free_again()
     ensures { (p q : State) (events : List Event) (e : Event) → GoesOn p events q
         → names_part (going_on p) e ≡ true → allowed q e
         ≡ (allowed (state_anew (going_on p) q) (event_anew (going_on p) e) && has_place q e) }
 {}
 
-/// Whatever doesn't go on is finished, and stays so: a scope is done, a group was waited for, and a
-/// task has ended.
+/// Whatever doesn't go on is finished, and stays finished: a scope is done, a group was waited for,
+/// and a task has ended.
 pub fn what_does_not_go_on_is_finished()
     ensures scopes { (p q : State) (events : List Event) (s : ℕ) → GoesOn p events q
         → (going_on p).scopes s ≡ false → is_done q.tree.scopes s ≡ true }
@@ -80,8 +80,8 @@ pub fn what_does_not_go_on_is_finished()
         → is_unfinished row.stage ≡ false }
 {}
 
-/// What a renewal keeps doesn't depend on earlier renewals: it keeps the same of a store that was
-/// renewed before and of one that wasn't.
+/// What a renewal keeps doesn't depend on earlier renewals: it keeps the same part of a store,
+/// whether or not the store was renewed before.
 pub fn earlier_renewals_leave_no_trace()
     ensures { (p q : State) (events : List Event) → GoesOn p events q
         → renewed (state_anew (going_on p) q) ≡ renewed q }

@@ -1,5 +1,5 @@
-//! What a renewal keeps: the rules, everything that isn't finished, and the answers about what is
-//! kept.
+//! The promises of a renewal: it keeps the rules and everything that isn't finished, and the kept
+//! rows give the same answers as before.
 
 ghost use Rattle.std.specs.Option.{option_map};
 ghost use Rattle.std.specs.Prelude.{◌≡◌, ℕ, true};
@@ -27,7 +27,7 @@ pub fn nothing_unfinished_goes()
     ensures { (p : State) → IsConsistent p → KeepsUnfinished p }
 {}
 
-/// What is kept stays as it was. For a scope this means whether it is done, its reason, its cause,
+/// Kept rows stay as they were. For a scope this means whether it is done, its reason, its cause,
 /// its deadline and every value, even those from scopes above it. For a group it means its row and
 /// the number of its unfinished tasks, and for a task its row and its phase.
 pub fn what_is_kept_is_as_it_was()
@@ -39,9 +39,9 @@ pub fn what_is_kept_is_as_it_was()
         → keeps_task p n ≡ true → TaskStays p n row }
 {}
 
-/// An event that refers only to what is kept is allowed in the renewed state, by the new numbers,
-/// if it was allowed before. If it wasn't, it is allowed only if it was refused for a taken name or
-/// for lack of room.
+/// An event that refers only to kept rows is allowed in the renewed state, by the new numbers, if
+/// it was allowed before. If it was refused before, the renewed state allows it only if the reason
+/// was a name that was taken or a store that was full.
 pub fn what_is_allowed_stays()
     ensures allowed { (p : State) (event : Event) → IsConsistent p
         → names_part (kept_part p) event ≡ true → allowed p event ≡ true
@@ -52,16 +52,16 @@ pub fn what_is_allowed_stays()
         → allowed p event ≡ true }
 {}
 
-/// The names and the room of dropped rows are free again, and no others. The name of each kept row
-/// is found under its new number, every other name is free, and there are as many rows as were
+/// The names and the places of dropped rows are free again, and no others. The name of each kept
+/// row is found under its new number, every other name is free, and there are as many rows as were
 /// kept.
 pub fn names_and_room_are_free_again()
     ensures names { (p : State) → IsConsistent p → AreNamesKept p }
     ensures room { (p : State) → IsRoomKept p }
 {}
 
-/// The task that is started next is the same as before, under its new number. If there was none,
-/// there is none.
+/// The next task to start is the same as before, under its new number. If no task was ready, none
+/// is.
 pub fn the_next_task_is_the_one_that_was()
     ensures { (p : State) → IsConsistent p → first_ready (renewed p).work
         ≡ option_map (new_number (keeps_task p)) (first_ready p.work) }

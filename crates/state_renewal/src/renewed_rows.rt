@@ -1,8 +1,8 @@
-//! The rows of a renewed state in an image: of the old rows those that are kept, each told by the
-//! new numbers.
+//! The rows of a renewed state in an image: the kept rows of the old state, which name each other
+//! by their new numbers.
 //!
-//! The calls that put them have more than six clauses: the rows, what is kept of them and the bytes
-//! are a caller's, three values of no common type, so what is needed of each is required here.
+//! The calls that write them have more than six clauses, because the caller passes the rows, the
+//! marks of kept rows and the bytes as three values that no type holds together.
 
 ghost use Rattle.std.specs.List.{flat_map, AllByRecursion};
 ghost use Rattle.std.specs.Option.{option_map};
@@ -31,8 +31,8 @@ use run_model::{Group, Scope, Task};
 use std::alloc::Allocator;
 use task_group::Groups;
 
-/// Puts those of these scopes that are flagged at a place, in order, each told by the new number of
-/// its parent, and returns the place after them.
+/// Writes the flagged ones of these scopes at a place, in order, each with the new number of its
+/// parent, and returns the place after them.
 pub fn put_scopes<A: Allocator>(
     rows: &[Scope],
     flags: &[bool],
@@ -64,8 +64,8 @@ pub fn put_scopes<A: Allocator>(
     end
 }
 
-/// Puts those of the groups that are flagged at a place, in order, each told by the new number of
-/// its scope, and returns the place after them.
+/// Writes the flagged groups at a place, in order, each with the new number of its scope, and
+/// returns the place after them.
 pub fn put_groups<A: Allocator, B: Allocator>(
     groups: &Groups<B>,
     flags: &[bool],
@@ -96,8 +96,8 @@ pub fn put_groups<A: Allocator, B: Allocator>(
     end
 }
 
-/// Puts those of the tasks that are flagged at a place, in order, each told by the new numbers of
-/// its group and of the task that it is a retry of. Returns the place after them.
+/// Writes the flagged tasks at a place, in order, each with the new numbers of its group and of the
+/// task that it retries. Returns the place after them.
 pub fn put_tasks<A: Allocator, B: Allocator>(
     groups: &Groups<B>,
     stay: &Marks<A>,
@@ -132,7 +132,7 @@ pub fn put_tasks<A: Allocator, B: Allocator>(
     end
 }
 
-/// Returns the group of this number, which is there.
+/// Returns the group with this number, which must exist.
 pub fn group_at<A: Allocator>(groups: &Groups<A>, g: usize) -> &Group
     requires { g < length groups.now.groups }
     ensures { HasRow groups.now.groups g result.now }
@@ -144,7 +144,7 @@ pub fn group_at<A: Allocator>(groups: &Groups<A>, g: usize) -> &Group
     }
 }
 
-/// Returns the task of this number, which is there.
+/// Returns the task with this number, which must exist.
 pub fn task_at<A: Allocator>(groups: &Groups<A>, n: usize) -> &Task
     requires { n < length groups.now.tasks }
     ensures { HasRow groups.now.tasks n result.now }
@@ -157,7 +157,7 @@ pub fn task_at<A: Allocator>(groups: &Groups<A>, n: usize) -> &Task
     }
 }
 
-/// Returns the row of a scope, told by the new number of its parent.
+/// Returns the row of a scope with the new number of its parent.
 fn scope_anew<'a, A: Allocator>(row: &'a Scope, scopes: &Marks<A>) -> ScopeRow<'a>
     requires below_root { is_root row.now.kind ≡ false }
     requires known { row.now.parent < length scopes.now }
@@ -173,7 +173,7 @@ fn scope_anew<'a, A: Allocator>(row: &'a Scope, scopes: &Marks<A>) -> ScopeRow<'
     }
 }
 
-/// Returns the row of a group, told by the new number of its scope.
+/// Returns the row of a group with the new number of its scope.
 fn group_anew<'a, A: Allocator>(row: &'a Group, scopes: &Marks<A>) -> GroupRow<'a>
     requires known { row.now.scope < length scopes.now }
     ensures value { group_of result ≡ group_by scopes.now row.now }
@@ -190,7 +190,7 @@ fn group_anew<'a, A: Allocator>(row: &'a Group, scopes: &Marks<A>) -> GroupRow<'
     }
 }
 
-/// Returns a task, told by the new numbers of its group and of the task that it is a retry of.
+/// Returns the row of a task with the new numbers of its group and of the task that it retries.
 fn task_anew<'a, A: Allocator>(row: &'a Task, stay: &Marks<A>, tasks: &Marks<A>) -> TaskRow<'a>
     requires known { row.now.group < length stay.now }
     requires link { IfSome row.now.retry_of (λ m. m < length tasks.now) }
@@ -208,7 +208,7 @@ fn task_anew<'a, A: Allocator>(row: &'a Task, stay: &Marks<A>, tasks: &Marks<A>)
     }
 }
 
-/// Returns the new number of the task that one is a retry of.
+/// Returns the new number of the retried task, if there is one.
 fn link_anew<A: Allocator>(link: Option<u16>, tasks: &Marks<A>) -> Option<u16>
     requires link { IfSome link (λ m. m < length tasks.now) }
     requires few { length tasks.now < 65535 }

@@ -1,5 +1,5 @@
-//! A [`Renewal`] of a state knows which of its scopes, groups and tasks go on, and under which new
-//! numbers. It writes the image of them.
+//! A [`Renewal`] of a state says which of its scopes, groups and tasks are kept, and under which
+//! new numbers. It writes the image of the kept part.
 
 ghost use Rattle.std.specs.List.{flat_map, AllByRecursion};
 ghost use Rattle.std.specs.Prelude.{◌≡◌, ◌+◌, ◌*◌, ◌<◌, ◌≤◌, ◌^◌, drop, length, true, IfOk, IfErr};
@@ -24,19 +24,20 @@ use run_model::{Fault, Layout};
 use run_session::State;
 use std::alloc::{Allocator, Global};
 
-/// The part of a state that goes on.
+/// The part of a state that a renewal keeps.
 #[derive(Drop)]
 pub struct Renewal<A: Allocator = Global> {
-    /// Which scopes, and under which numbers.
+    /// Which scopes are kept, and their new numbers.
     pub scopes: Marks<A>,
-    /// Which groups.
+    /// Which groups are kept, and their new numbers.
     pub groups: Marks<A>,
-    /// Which tasks.
+    /// Which tasks are kept, and their new numbers.
     pub tasks: Marks<A>,
 }
 
 impl<B: Allocator + Copy> Renewal<B> {
-    /// What of a state goes on when it is renewed. `Memory` if the memory for that is refused.
+    /// Returns the part of this state that a renewal keeps. `Memory` if the memory for it is
+    /// refused.
     pub fn new<A: Allocator>(alloc: B, state: &State<A>) -> Result<Renewal<B>, Fault>
         ensures marks { IfOk result (λ r. AreMarks state.now r.scopes r.groups r.tasks) }
         ensures fault { IfErr result (λ fault. fault ≡ Memory) }
@@ -55,7 +56,7 @@ impl<B: Allocator + Copy> Renewal<B> {
 }
 
 impl<B: Allocator> Renewal<B> {
-    /// How many scopes go on, root among them.
+    /// Returns the number of kept scopes, including root.
     pub fn scopes_left<A: Allocator>(&self, state: &State<A>) -> u16
         requires marks { AreMarks state.now self.now.scopes self.now.groups self.now.tasks }
         ensures count { result ≡ length (renewed state.now).tree.scopes }
@@ -65,7 +66,7 @@ impl<B: Allocator> Renewal<B> {
         self.scopes.number(state.scope_count() as u16)
     }
 
-    /// How many groups go on.
+    /// Returns the number of kept groups.
     pub fn groups_left<A: Allocator>(&self, state: &State<A>) -> u16
         requires marks { AreMarks state.now self.now.scopes self.now.groups self.now.tasks }
         ensures count { result ≡ length (renewed state.now).work.groups }
@@ -73,7 +74,7 @@ impl<B: Allocator> Renewal<B> {
         self.groups.number(state.group_count() as u16)
     }
 
-    /// How many tasks go on.
+    /// Returns the number of kept tasks.
     pub fn tasks_left<A: Allocator>(&self, state: &State<A>) -> u16
         requires marks { AreMarks state.now self.now.scopes self.now.groups self.now.tasks }
         ensures count { result ≡ length (renewed state.now).work.tasks }
@@ -81,7 +82,7 @@ impl<B: Allocator> Renewal<B> {
         self.tasks.number(state.task_count() as u16)
     }
 
-    /// Returns whether the renewed state fits in a store of this layout.
+    /// Returns whether the renewed state fits into a store of this layout.
     pub fn fits<A: Allocator>(&self, state: &State<A>, layout: Layout) -> bool
         requires marks { AreMarks state.now self.now.scopes self.now.groups self.now.tasks }
         ensures { result ≡ fits_in layout (renewed state.now) }
@@ -90,11 +91,11 @@ impl<B: Allocator> Renewal<B> {
             && self.tasks_left(state) as usize <= layout.most_tasks()
     }
 
-    /// Writes the image of the renewed state at the front of the buffer, for a store of a layout
-    /// in which it fits, and returns its length. Takes no memory.
+    /// Writes the image of the renewed state to the beginning of the buffer, for a store of a
+    /// layout into which it fits, and returns the length of the image. Takes no memory.
     ///
-    /// The state and the layout come from the caller, and so there are two clauses more than those
-    /// of [`State::write_image`].
+    /// The caller passes the state and the layout, so there are two clauses more than those of
+    /// [`State::write_image`].
     pub fn write_image<A: Allocator>(
         &self,
         state: &State<A>,
@@ -117,7 +118,7 @@ impl<B: Allocator> Renewal<B> {
         self.put_renewed_tasks(state, out, end)
     }
 
-    /// What stands in front of the renewed rows.
+    /// Returns the head of the image, which comes before the renewed rows.
     fn renewed_head<A: Allocator>(&self, state: &State<A>) -> ImageHead
         requires marks { AreMarks state.now self.now.scopes self.now.groups self.now.tasks }
         ensures head { result ≡ head_of Two (renewed state.now) }
@@ -133,7 +134,7 @@ impl<B: Allocator> Renewal<B> {
         }
     }
 
-    /// Puts the renewed scopes after root at a place, and returns the place after them.
+    /// Writes the renewed scopes after root at a place, and returns the place after them.
     fn put_renewed_scopes<A: Allocator>(&self, state: &State<A>, out: &mut [u8], at: usize) -> usize
         requires marks { AreMarks state.now self.now.scopes self.now.groups self.now.tasks }
         requires room { at + 192 * length (drop 1 (renewed state.now).tree.scopes)
@@ -152,7 +153,7 @@ impl<B: Allocator> Renewal<B> {
         put_scopes(&rows[1..], &flags[1..], &self.scopes, out, at)
     }
 
-    /// Puts the renewed groups at a place, and returns the place after them.
+    /// Writes the renewed groups at a place, and returns the place after them.
     fn put_renewed_groups<A: Allocator>(&self, state: &State<A>, out: &mut [u8], at: usize) -> usize
         requires marks { AreMarks state.now self.now.scopes self.now.groups self.now.tasks }
         requires room { at + 103 * length (renewed state.now).work.groups ≤ length out.old }
@@ -167,7 +168,7 @@ impl<B: Allocator> Renewal<B> {
         put_groups(state.groups(), self.groups.flags(), &self.scopes, out, at)
     }
 
-    /// Puts the renewed tasks at a place, and returns the place after them.
+    /// Writes the renewed tasks at a place, and returns the place after them.
     fn put_renewed_tasks<A: Allocator>(&self, state: &State<A>, out: &mut [u8], at: usize) -> usize
         requires marks { AreMarks state.now self.now.scopes self.now.groups self.now.tasks }
         requires room { at + 136 * length (renewed state.now).work.tasks ≤ length out.old }
@@ -185,7 +186,7 @@ impl<B: Allocator> Renewal<B> {
     }
 }
 
-/// Returns the marks by these flags, if there are flags.
+/// Returns the marks that these flags give, if there are flags.
 fn marked<A: Allocator + Copy>(
     alloc: A,
     flags: Result<Vec<bool, A>, Fault>,
