@@ -1,4 +1,4 @@
--- The parts of a text that are written and that are still buffered.
+-- How much of a text is written, and how much is still buffered.
 use Rattle.std.specs.Prelude.{◌≡◌, ℕ, List, ◌++◌, Option}
 use Rattle.std.specs.Io.KnownBytes.{Appends}
 

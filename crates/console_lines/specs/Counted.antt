@@ -1,4 +1,4 @@
--- What the table of the jobs holds, and one task more in it.
+-- The table of the jobs, and the table after one more task.
 use Rattle.std.specs.Prelude.{ℕ, ◌+◌, min, if◌then◌else◌, List, [], ◌∷◌, Option, Some, None}
 use Rattle.std.specs.Str.{bytes_eq}
 use Rattle.run_model.specs.declared.tasks.Phase.{Phase}
@@ -7,7 +7,7 @@ use Rattle.console_lines.specs.declared.tallies.TaskCounts.{TaskCounts}
 use Rattle.console_lines.specs.declared.tallies.JobTally.{JobTally}
 use Rattle.console_lines.specs.declared.job_keys.JobKey.{JobKey}
 
--- A job is counted to this number at most.
+-- The greatest count of a job.
 abbrev pub MOST : ℕ
 MOST = 65535
 
@@ -15,7 +15,7 @@ MOST = 65535
 abbrev pub shown : JobKey × TaskCounts → JobTally
 shown entry = record { job = entry.0.name; counts = entry.1 }
 
--- What is counted of a job; none if none of its tasks was counted.
+-- The counts of a job; none if none of its tasks was counted.
 abbrev pub counted_at : List ℕ → List JobTally → Option TaskCounts
 counted_at job [] = None
 counted_at job (tally ∷ tallies) =
@@ -25,11 +25,11 @@ counted_at job (tally ∷ tallies) =
 abbrev pub no_tasks : TaskCounts
 no_tasks = record { total = 0; success = 0; failure = 0; interrupted = 0 }
 
--- A count with one more, if it isn't the greatest yet.
+-- A count plus one, unless it is the greatest already.
 abbrev pub raised : ℕ → ℕ
 raised n = min (n + 1) MOST
 
--- The counts with one task more, which is in this phase.
+-- The counts with one more task, which is in this phase.
 abbrev pub one_more : Phase → TaskCounts → TaskCounts
 one_more phase.Success c = record c { total = raised c.total; success = raised c.success }
 one_more (phase.Failure error) c = record c { total = raised c.total; failure = raised c.failure }
@@ -37,7 +37,7 @@ one_more phase.Interrupted c =
     record c { total = raised c.total; interrupted = raised c.interrupted }
 one_more _ c = record c { total = raised c.total }
 
--- The tallies, with this as what is counted of a job; a new one goes last.
+-- The tallies after the counts of a job were set. A new job goes last.
 abbrev pub with_tally : List ℕ → TaskCounts → List JobTally → List JobTally
 with_tally job counts [] = record { job = job; counts = counts } ∷ []
 with_tally job counts (tally ∷ tallies) =

@@ -4,8 +4,8 @@ use Rattle.std.specs.Prelude.{List, ◌++◌, codes}
 use Rattle.jiff_core.specs.Calendar.{days_in_month, days_in_year}
 use Rattle.jiff_fmt.specs.Text.{pad2, pad4}
 
--- The year of a day that is counted from the first day of a year on, from 0, and the day's place in
--- its own year. No more years are passed than this number.
+-- The year, and the place of the day in its year, for a day that is counted from the first day of
+-- `year` on, beginning with 0. At most this many years are passed.
 unfoldable pub in_year : ℕ → (year day : ℕ) → ℕ × ℕ
 in_year zero year day = (year, day)
 in_year (suc years) year day =
@@ -13,7 +13,7 @@ in_year (suc years) year day =
     then (year, day)
     else in_year years (suc year) (day - days_in_year (pos year))
 
--- So it is of a month.
+-- In the same way the month, and the place of the day in its month.
 unfoldable pub in_month : ℕ → (year month day : ℕ) → ℕ × ℕ
 in_month zero year month day = (month, day)
 in_month (suc months) year month day =
@@ -21,11 +21,11 @@ in_month (suc months) year month day =
     then (month, day)
     else in_month months year (suc month) (day - days_in_month (pos year) month)
 
--- A day as its month and its day there, from 1, as in `-02-29`.
+-- A month and a day of it, counted from 1, as in `-02-29`.
 abbrev pub day_text : ℕ × ℕ → List ℕ
 day_text day = codes "-" ++ (pad2 day.0 ++ (codes "-" ++ pad2 (day.1 + 1)))
 
--- A day as its date, as in `2024-02-29`, by its year and its place there.
+-- The date of a day, given by its year and its place in the year, as in `2024-02-29`.
 abbrev pub date_text : ℕ × ℕ → List ℕ
 date_text day = pad4 day.0 ++ day_text (in_month 12 day.0 1 day.1)
 

@@ -16,7 +16,7 @@ stop_text InputTooLong = codes "input too long"
 stop_text Memory = codes "fault 1 Memory"
 stop_text (Store why) = trouble_text why
 
--- The fault of a run for a fault of its store: lack of memory is one of its own.
+-- The fault of a run if its store has this fault. Refused memory is a fault of its own.
 abbrev pub stopped : Fault → RunFault
 stopped of_store.Memory = Memory
 stopped why = Store (Faulty why)

@@ -1,4 +1,4 @@
--- What is asked of groups: the forms of their lines, by the words after the first.
+-- The requests about groups: the forms of their lines, after the first word.
 use Rattle.std.specs.Prelude.{ℕ, nat_le, if◌then◌else◌, List, [], ◌∷◌, codes, Option, Some, None}
 use Rattle.std.specs.Option.{option_map, option_and_then}
 use Rattle.std.specs.Str.{bytes_eq}
@@ -11,11 +11,11 @@ use Rattle.console_lines.specs.Checked.{asks, checked, of_one, of_two, of_three}
 use Rattle.console_lines.specs.TaskLines.{task_line_of}
 use Rattle.console_lines.specs.Words.{only_word}
 
--- A limit of so many tasks, up to the greatest.
+-- A limit of this many tasks, up to the greatest limit.
 abbrev pub limit_at : ℕ → Option (Option ℕ)
 limit_at most = if nat_le most GREATEST_LIMIT then Some (Some most) else None
 
--- The limit that a word writes: a number up to the greatest limit, or `none`.
+-- The limit that a word stands for: a number up to the greatest limit, or `none`.
 abbrev pub limit_of : List ℕ → Option (Option ℕ)
 limit_of word =
     if bytes_eq word (codes "none") then Some None
@@ -28,7 +28,8 @@ limit_line (group ∷ words) =
     (option_and_then limit_of (only_word words))
 limit_line _ = None
 
--- What a line asks of groups, by its first word; else it asks something of tasks.
+-- The request of a line, by its first word. If the word isn't one about groups, the line is read as
+-- one about tasks.
 abbrev pub group_line_of : List ℕ → List (List ℕ) → Option LineRequest
 group_line_of first words =
     if bytes_eq first (codes "group") then

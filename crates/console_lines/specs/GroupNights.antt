@@ -1,10 +1,10 @@
--- The examples with groups and tasks: what a person types into a newly opened store, line by line
--- with what is printed.
+-- The examples with groups and tasks: the lines that a user types into a newly opened store, each
+-- with what is printed for it.
 use Rattle.std.specs.Prelude.{ℕ, List, [], ◌∷◌, ◌++◌, codes}
 use Rattle.console_lines.specs.Nights.{Night, shown}
 
--- Of a group of limit 2, two tasks are ready, and the third is held until one of them has finished.
--- A try is refused if its task would be held.
+-- In a group with a limit of 2, two tasks are ready, and the third is held until one of them has
+-- finished. A try is refused if its task would be held.
 abbrev pub limit_of_two : Night
 limit_of_two =
     ("group g root", "group 0 scope 1")
@@ -31,7 +31,7 @@ limit_of_none =
     ∷ ("wait g", "refused 16 Unfinished 1")
     ∷ []
 
--- The first error is the group's, and the cause of its scope; a wait returns it each time.
+-- The first error is that of the group, and the cause of its scope. Each wait returns it.
 abbrev pub two_errors : Night
 two_errors =
     ("group g root", "group 0 scope 1")
@@ -59,7 +59,7 @@ two_waits =
     ∷ ("scope root", "live; deadline none")
     ∷ []
 
--- What the state refuses of groups and tasks, and a limit of another form.
+-- Refusals by the state about groups and tasks, and a limit of another form.
 abbrev pub refused_groups : Night
 refused_groups =
     ("group g root", "group 0 scope 1")
@@ -85,7 +85,7 @@ two_jobs =
     ∷ ("finish 1 ok", "ok")
     ∷ []
 
--- What a tally prints of them: a line for each job, in the order of their first tasks.
+-- The tally of these tasks: a line for each job, in the order of their first tasks.
 abbrev pub two_tallies : List ℕ
 two_tallies =
     shown (codes "tally spin total 2; success 0; failure 1; interrupted 0")
@@ -95,7 +95,7 @@ two_tallies =
 abbrev pub no_jobs : Night
 no_jobs = ("tally", "") ∷ ("group g root", "group 0 scope 1") ∷ ("tally", "") ∷ []
 
--- A task that wasn't interrupted has no retry, and only a running one is finished.
+-- A task that wasn't interrupted can't be retried, and only a running one can be finished.
 abbrev pub refused_tasks : Night
 refused_tasks =
     ("bare g root", "group 0")
@@ -114,7 +114,7 @@ refused_tasks =
     ∷ ("result h", "refused 2 NoSuchGroup")
     ∷ []
 
--- Lines of groups and tasks of another form.
+-- Lines about groups and tasks that have another form.
 abbrev pub bad_group_lines : Night
 bad_group_lines =
     ("group g", "bad line")
@@ -139,8 +139,8 @@ bad_group_lines =
     ∷ ("tally all", "bad line")
     ∷ []
 
--- Words that are not names come first, then errors that are not texts, and then numbers that no
--- task has. Zeros may stand before a number.
+-- Words that aren't names are refused first, then errors that aren't texts, and then numbers that
+-- no task has. A number may have leading zeros.
 abbrev pub bad_group_words : Night
 bad_group_words =
     ("group  root", "refused 5 BadName")

@@ -1,4 +1,4 @@
--- What a line asks for.
+-- The request in a line.
 use Rattle.std.specs.Prelude.{ℕ, nat_lt, not, if◌then◌else◌, List, [], ◌∷◌, length, codes}
 use Rattle.std.specs.Prelude.{Option, Some, None, Result, Ok, Err, unwrap_or}
 use Rattle.std.specs.List.{list_all}
@@ -21,25 +21,25 @@ use Rattle.console_lines.specs.Checked.{texts_in_wish}
 use Rattle.console_lines.specs.GroupLines.{group_line_of}
 use Rattle.console_lines.specs.Words.{words_of, rest_of, only_word}
 
--- ---- what is asked of scopes
+-- ---- requests about scopes
 
--- A line of an advance to a moment that was read, or that is out of range.
+-- The request to advance the clock to a moment, which was read or is out of range.
 abbrev pub asks_advance : Result ℕ Refusal → LineRequest
 asks_advance (Ok moment) = asks (command.Advance moment)
 asks_advance (Err why) = asked.Refused why
 
--- A line of a cancel, with this cause.
+-- The request to cancel a scope, with this cause.
 abbrev pub asks_cancel : List ℕ → Option (List ℕ) → LineRequest
 asks_cancel scope cause =
     checked (scope ∷ []) (option_to_list cause) (asks (command.Cancel scope cause))
 
--- A wish as it stands in a line: one that can be asked for, or one with this cause that is refused
--- after it, since its moment is out of range.
+-- A wish in a line. Either it can be given, or its moment is out of range. Then it is refused, but
+-- only after this cause was checked.
 pub data Wished : Type 0 where
   wished : Wish → Wished
   refused_after : Option (List ℕ) → Refusal → Wished
 
--- A line of a derive with such a wish.
+-- The request to derive a scope with such a wish.
 abbrev pub asks_derive : List ℕ → List ℕ → Wished → LineRequest
 asks_derive name parent (wished wish) =
     checked (name ∷ parent ∷ names_in_wish wish) (texts_in_wish wish)
@@ -47,9 +47,9 @@ asks_derive name parent (wished wish) =
 asks_derive name parent (refused_after cause why) =
     checked (name ∷ parent ∷ []) (option_to_list cause) (asked.Refused why)
 
--- ---- the forms of their lines, by the words after the first
+-- ---- the forms of their lines, after the first word
 
--- A wish that no word may follow.
+-- A wish after which no word may follow.
 abbrev pub alone : Wish → List (List ℕ) → Option Wished
 alone wish [] = Some (wished wish)
 alone wish _ = None
@@ -101,8 +101,7 @@ cancel_line _ = None
 abbrev pub advance_line : List (List ℕ) → Option LineRequest
 advance_line words = option_map asks_advance (option_and_then moment_of (only_word words))
 
--- What the words of a line ask for, by the first of them: something of scopes, of groups, of
--- tasks or of the store.
+-- The request in these words, by the first of them: about scopes, groups, tasks or the store.
 abbrev pub asked_by : List (List ℕ) → Option LineRequest
 asked_by (first ∷ words) =
     if bytes_eq first (codes "derive") then derive_line words
@@ -113,7 +112,7 @@ asked_by (first ∷ words) =
     else group_line_of first words
 asked_by [] = None
 
--- What a line asks for: an empty line asks for nothing, and one that is too long or of another form
+-- The request in a line. An empty line has no request. A line that is too long or of another form
 -- is a bad line.
 abbrev pub request_of : List ℕ → LineRequest
 request_of line =
@@ -121,25 +120,25 @@ request_of line =
     else if nat_lt 0 (length line) then unwrap_or (asked_by (words_of line)) asked.BadLine
     else asked.Nothing
 
--- ---- a wish by itself, for private functions: no public contract cites what follows
+-- ---- a wish, checked before the names: no public contract cites what follows
 
--- The refusal of the first of these tests that fails, else what comes after them.
+-- The refusal of the first test that fails, or else the result after the tests.
 abbrev pub judged_by : List (List ℕ) → List (List ℕ) → Result Wish Refusal → Result Wish Refusal
 judged_by names texts wish =
     if not (list_all is_name names) then Err refusal.BadName
     else if not (list_all is_text texts) then Err refusal.BadText
     else wish
 
--- What a wish is refused by itself, whatever the derive's names are.
+-- The wish, or the refusal of it, whatever the names of the derive are.
 abbrev pub judged : Wished → Result Wish Refusal
 judged (wished wish) = judged_by (names_in_wish wish) (texts_in_wish wish) (Ok wish)
 judged (refused_after cause why) = judged_by [] (option_to_list cause) (Err why)
 
--- A derive of a wish that was judged, if its names are names.
+-- The request to derive a scope with a wish that was checked, if the names of the derive are names.
 abbrev pub derived : List ℕ → List ℕ → Result Wish Refusal → LineRequest
 derived name parent (Ok wish) = asks (command.Derive name parent wish)
 derived name parent (Err why) = asked.Refused why
 
--- A line of a derive with a wish that was judged: its names are checked first.
+-- The request to derive a scope with a wish that was checked. Its names are checked first.
 abbrev pub asks_judged : List ℕ → List ℕ → Result Wish Refusal → LineRequest
 asks_judged name parent wish = checked (name ∷ parent ∷ []) [] (derived name parent wish)

@@ -1,13 +1,13 @@
 -- The lines of an input, split at each LF.
 use Rattle.std.specs.Prelude.{ℕ, List, [], ◌∷◌, ◌++◌, ◌==◌, if◌then◌else◌}
 
--- The lines that an LF ends, if `begun` comes before the bytes.
+-- The lines that an LF ends, if the bytes come after `begun`.
 abbrev pub whole_lines : List ℕ → List ℕ → List (List ℕ)
 whole_lines begun [] = []
 whole_lines begun (b ∷ bytes) =
     if b == 10 then begun ∷ whole_lines [] bytes else whole_lines (begun ++ b ∷ []) bytes
 
--- The bytes after the last LF, if `begun` comes before the bytes.
+-- The bytes after the last LF, if the bytes come after `begun`.
 abbrev pub open_line : List ℕ → List ℕ → List ℕ
 open_line begun [] = begun
 open_line begun (b ∷ bytes) =

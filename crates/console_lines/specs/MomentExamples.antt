@@ -1,4 +1,4 @@
--- The examples: words, and the moments that they write.
+-- The examples: words, and the moments for which they stand.
 use Prim.Native.String.{String}
 use Rattle.std.specs.Prelude.{◌≡◌, ℕ, codes, Some, None, Ok, Err}
 use Rattle.run_model.specs.declared.refusals.Refusal.TheVariants.{MomentOutOfRange}

@@ -58,8 +58,8 @@ date_time_of word =
     else if not (is_in 1969 9987 (take 4 word)) then Some (Err refusal.MomentOutOfRange)
     else option_map moment_at (instant_of word)
 
--- The moment that a word stands for. A number is its seconds. Any other word has to be a date and
--- time.
+-- The moment that a word stands for. A number is a number of seconds. Any other word has to be a
+-- date and time.
 abbrev pub moment_of : List ℕ → Option (Result ℕ Refusal)
 moment_of word =
     option_map_or (λ seconds. Some (moment_at (pos seconds))) (number_of word) (date_time_of word)

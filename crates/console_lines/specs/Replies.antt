@@ -1,4 +1,4 @@
--- What a reply prints.
+-- The text of a reply.
 use Rattle.std.specs.Prelude.{ℕ, Bool, if◌then◌else◌, List, [], ◌∷◌, ◌++◌, codes, Option, Some}
 use Rattle.std.specs.Prelude.{None}
 use Rattle.std.specs.Fmt.{decimal}
@@ -18,7 +18,7 @@ use Rattle.console_lines.specs.declared.line_replies.LineReply.{LineReply}
 use Rattle.console_lines.specs.declared.line_replies.LineReply.TheVariants as reply
 use Rattle.console_lines.specs.declared.tallies.JobTally.{JobTally}
 
--- The word of a phase. That of a task that has failed is `error`, whatever its error is.
+-- The keyword of a phase. That of a task that has failed is `error`, whatever its error is.
 abbrev pub phase_word : Phase → List ℕ
 phase_word phase.Held = codes "held"
 phase_word phase.Ready = codes "ready"
@@ -56,11 +56,11 @@ abbrev pub deadline_text : Option ℕ → List ℕ
 deadline_text None = codes "none"
 deadline_text (Some moment) = decimal moment
 
--- Why a scope is done, and with which cause.
+-- The reason and the cause of a scope that is done.
 abbrev pub ending_text : Reason → List ℕ → List ℕ
 ending_text reason cause = codes "; err " ++ reason_text reason ++ (codes "; cause " ++ cause)
 
--- A scope that is live or done, its deadline, and why it is done.
+-- Whether a scope is live or done, its deadline, and the reason and the cause if it is done.
 abbrev pub scope_text : Option (Reason × List ℕ) → Option ℕ → List ℕ
 scope_text None deadline = codes "live; deadline " ++ deadline_text deadline
 scope_text (Some ending) deadline =
@@ -127,7 +127,7 @@ reply_text (reply.Failed why) = trouble_text why
 abbrev pub reply_line : LineReply → List ℕ
 reply_line reply = reply_text reply ++ 10 ∷ []
 
--- Some replies, one line after the other.
+-- The lines of several replies, one after another.
 abbrev pub reply_lines : List LineReply → List ℕ
 reply_lines [] = []
 reply_lines (reply ∷ replies) = reply_line reply ++ reply_lines replies

@@ -1,7 +1,7 @@
--- A line that asks how a scope is.
+-- A line that asks for the state of a scope.
 use Rattle.std.specs.Prelude.{ℕ, if◌then◌else◌, List, take, drop, codes, Option, Some, None}
 use Rattle.std.specs.Str.{bytes_eq}
 
--- What stands after `scope ` at the front of a line, if it begins so.
+-- What comes after `scope ` at the beginning of a line, if the line begins so.
 abbrev pub scope_word : List ℕ → Option (List ℕ)
 scope_word line = if bytes_eq (take 6 line) (codes "scope ") then Some (drop 6 line) else None

@@ -1,4 +1,4 @@
--- What is replied to the lines of an input, from a session on.
+-- The replies to the lines of an input, beginning in a session.
 use Rattle.std.specs.Prelude.{ℕ, List, [], ◌∷◌, ◌++◌, map, Option, Some, None}
 use Rattle.std.specs.Option.{option_map_or, option_and_then}
 use Rattle.std.specs.List.{cons_option}
@@ -27,8 +27,8 @@ scope_reply p name =
     (option_and_then (λ s. look_of p s) (scope_named p.tree name))
     (printed.Refused refusal.NoSuchScope)
 
--- The reply about a value: what the scope holds under a key. If there is no such scope, that is
--- refused first, and then a key under which nothing is held.
+-- The reply about a value: what the scope holds under a key. The refusal for a missing scope comes
+-- before that for a key under which nothing is held.
 abbrev pub value_reply : State → List ℕ → List ℕ → LineReply
 value_reply p name key =
     option_map_or
@@ -49,8 +49,8 @@ group_reply p name =
     (option_and_then (λ g. group_look_of p g) (group_named p.work name))
     (printed.Refused refusal.NoSuchGroup)
 
--- The replies to a request. The reply to a step is the session's answer to it. An empty line has
--- none, and a tally has one for each job.
+-- The replies to a request. The reply to a step is the session's answer to it. An empty line has no
+-- reply, and a tally has one for each job.
 abbrev pub replies_to : Session → LineRequest → List LineReply
 replies_to s asked.Nothing = []
 replies_to s asked.BadLine = printed.BadLine ∷ []
@@ -62,7 +62,7 @@ replies_to s (asked.Task n) = task_reply s.state n ∷ []
 replies_to s (asked.Result group) = group_reply s.state group ∷ []
 replies_to s asked.Tally = map printed.Tally (tallies_of s.state.work.tasks)
 
--- The step that is asked for, if one is.
+-- The step in a request, if there is one.
 abbrev pub step_of : LineRequest → Option Step
 step_of (asked.Step x) = Some x
 step_of _ = None
@@ -86,7 +86,7 @@ abbrev pub after_lines : Session → List (List ℕ) → Session
 after_lines s [] = s
 after_lines s (line ∷ lines) = after_lines (after_line s line) lines
 
--- The steps for which these lines ask, in their order.
+-- The steps in these lines, in order.
 abbrev pub steps_of : List (List ℕ) → List Step
 steps_of [] = []
 steps_of (line ∷ lines) = cons_option (step_of (request_of line)) (steps_of lines)
@@ -96,10 +96,10 @@ abbrev pub replies : Session → List (List ℕ) → List ℕ
 replies s [] = []
 replies s (line ∷ lines) = reply s line ++ replies (after_line s line) lines
 
--- The last line that is written holds the number of all events.
+-- The last line that is written, which holds the number of all events.
 unfoldable pub closing : Session → List ℕ
 closing s = reply_line (printed.Step (answered.Acked s.state.count))
 
--- Everything that is written for a whole input: the replies to its lines, and the closing line.
+-- Everything that is written for a whole input: the replies to its lines, and the last line.
 abbrev pub script : Session → List ℕ → List ℕ
 script s bytes = replies s (lines_of bytes) ++ closing (after_lines s (lines_of bytes))

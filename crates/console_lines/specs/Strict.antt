@@ -23,7 +23,7 @@ rejection_of (printed.Refused why) = Some (rejection.Refused why)
 rejection_of (printed.Step (answered.Refused why)) = Some (rejection.Refused why)
 rejection_of _ = None
 
--- The first rejection among some replies.
+-- The first rejection in these replies.
 abbrev pub rejection_among : List LineReply → Option Rejection
 rejection_among [] = None
 rejection_among (reply ∷ replies) = option_or (rejection_of reply) (rejection_among replies)
@@ -35,7 +35,7 @@ ends_in_return line =
     nat_le (length line) LONGEST_LINE && (slice_index line (length line - 1) == 13)
 
 -- Why a line is rejected, given the rejection in its replies. A bad line that ends with a carriage
--- return is rejected as that.
+-- return is reported as such.
 abbrev pub rejection_by : Option Rejection → List ℕ → Option Rejection
 rejection_by None line = None
 rejection_by (Some rejection.BadLine) line =
@@ -69,8 +69,8 @@ strict_lines s (line ∷ lines) =
 abbrev pub strict_lines_of : Session → List ℕ → List (List ℕ)
 strict_lines_of s bytes = strict_lines s (lines_of bytes)
 
--- Everything that is written for an input in a strict run: the replies to these lines, and the
--- closing line.
+-- Everything that is written for an input in a strict run: the replies to these lines, and the last
+-- line.
 abbrev pub strict_script : Session → List ℕ → List ℕ
 strict_script s bytes =
     replies s (strict_lines_of s bytes) ++ closing (after_lines s (strict_lines_of s bytes))

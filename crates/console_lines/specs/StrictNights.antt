@@ -8,14 +8,15 @@ use Rattle.console_lines.specs.declared.rejections.Rejection.{Rejection}
 use Rattle.console_lines.specs.Nights.{Night, shown, replied, typed}
 use Rattle.console_lines.specs.Strict.{rejection_in, strict_script}
 
--- The lines are replied to as expected, this is the closing line, and none of them is rejected.
+-- The lines get the expected replies, this is the last line that is written, and no line is
+-- rejected.
 abbrev pub IsWhole : Night → String → Type 0
 IsWhole night last =
     (strict_script (opened Small) (typed night) ≡ replied night ++ shown (codes last))
     × (rejection_in (opened Small) (typed night) ≡ None)
 
--- The lines are replied to as expected, this is the closing line, and the line of this number
--- is rejected, for this reason.
+-- The lines get the expected replies, this is the last line that is written, and the line with this
+-- number is rejected for this reason.
 abbrev pub EndsAt : Night → String → ℕ → Rejection → Type 0
 EndsAt night last number why =
     (strict_script (opened Small) (typed night) ≡ replied night ++ shown (codes last))

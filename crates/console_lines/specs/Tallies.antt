@@ -18,11 +18,11 @@ abbrev pub is_failure : Stage → Bool
 is_failure (stage.Failure error) = true
 is_failure _ = false
 
--- How many of these tasks belong to the job, and have such a stage.
+-- How many of these tasks belong to the job, and are at such a stage.
 abbrev pub tasks_at : (Stage → Bool) → List ℕ → List Task → ℕ
 tasks_at test job tasks = count_by (λ task. bytes_eq job task.job && test task.stage) tasks
 
--- How many of these tasks belong to the job, in all and by how they have ended.
+-- How many of these tasks belong to the job, and how many of those have ended in each way.
 abbrev pub counts_of : List Task → List ℕ → TaskCounts
 counts_of tasks job = record {
   total = tasks_at (λ stage. true) job tasks;
@@ -31,12 +31,12 @@ counts_of tasks job = record {
   interrupted = tasks_at is_interrupted job tasks;
 }
 
--- The jobs of these tasks, each once, in the order of their first tasks: the first task's job comes
--- first, and after it those of the other tasks but this one.
+-- The jobs of these tasks, each once, in the order of their first tasks: first the job of the first
+-- task, and then the other jobs.
 abbrev pub jobs_of : List Task → List (List ℕ)
 jobs_of [] = []
 jobs_of (task ∷ tasks) = task.job ∷ filter (λ job. not (bytes_eq task.job job)) (jobs_of tasks)
 
--- What is counted for each job.
+-- The counts of each job.
 abbrev pub tallies_of : List Task → List JobTally
 tallies_of tasks = map (λ job. record { job = job; counts = counts_of tasks job }) (jobs_of tasks)

@@ -1,4 +1,4 @@
--- What is asked of tasks and of the store: the forms of their lines, by the words after the first.
+-- The requests about tasks and the store: the forms of their lines, after the first word.
 use Rattle.std.specs.Prelude.{ℕ, if◌then◌else◌, List, [], ◌∷◌, codes, Option, Some, None}
 use Rattle.std.specs.Option.{option_map, option_and_then}
 use Rattle.std.specs.Str.{bytes_eq}
@@ -14,16 +14,16 @@ use Rattle.console_lines.specs.declared.line_requests.LineRequest.TheVariants as
 use Rattle.console_lines.specs.Checked.{asks, checked}
 use Rattle.console_lines.specs.Words.{rest_of, only_word}
 
--- What is asked of the task of a number: no task has one of more than two bytes.
+-- The request about the task with this number. No task has a number of more than two bytes.
 abbrev pub asks_task : (ℕ → LineRequest) → ℕ → LineRequest
 asks_task asks number =
     if is_row_number number then asks number else asked.Refused refusal.NoSuchTask
 
--- A line of a retry.
+-- The request to retry a task.
 abbrev pub asks_retry : ℕ → LineRequest
 asks_retry number = asks_task (λ n. asks (command.Retry n)) number
 
--- A line of the question how far a task is.
+-- The request for the phase of a task.
 abbrev pub asks_phase : ℕ → LineRequest
 asks_phase number = asks_task asked.Task number
 
@@ -32,23 +32,23 @@ abbrev pub texts_in_outcome : Outcome → List (List ℕ)
 texts_in_outcome outcome.Success = []
 texts_in_outcome (outcome.Failure error) = error ∷ []
 
--- A line of a finish, whose error may be any bytes: a number that no task has is refused after it.
+-- The request to finish a task. The error may be any bytes, and is checked before the number.
 abbrev pub asks_finish : ℕ → Outcome → LineRequest
 asks_finish number outcome =
     checked [] (texts_in_outcome outcome)
     (asks_task (λ n. asked.Step (step.Finish n outcome)) number)
 
--- A line that no word may follow.
+-- The request of a line in which no other word may follow.
 abbrev pub asks_alone : LineRequest → List (List ℕ) → Option LineRequest
 asks_alone asks [] = Some asks
 asks_alone asks _ = None
 
--- What a line of one number asks for.
+-- The request of a line with one number.
 abbrev pub asks_number : (ℕ → LineRequest) → List (List ℕ) → Option LineRequest
 asks_number asks words = option_map asks (option_and_then number_of (only_word words))
 
--- How the task of a number ends: ok, which no word may follow, or error TEXT, whose text may be any
--- bytes.
+-- The outcome of the task with this number: `ok`, after which no word may follow, or `error TEXT`,
+-- whose text may be any bytes.
 abbrev pub outcome_line : ℕ → List (List ℕ) → Option LineRequest
 outcome_line number (first ∷ words) =
     if bytes_eq first (codes "ok") then asks_alone (asks_finish number outcome.Success) words
@@ -62,7 +62,7 @@ abbrev pub finish_line : List (List ℕ) → Option LineRequest
 finish_line (number ∷ words) = option_and_then (λ n. outcome_line n words) (number_of number)
 finish_line _ = None
 
--- What a line asks of tasks or of the store, by its first word. No other word begins a line.
+-- The request of a line about tasks or the store, by its first word. No other word begins a line.
 abbrev pub task_line_of : List ℕ → List (List ℕ) → Option LineRequest
 task_line_of first words =
     if bytes_eq first (codes "start") then asks_alone (asked.Step step.Start) words

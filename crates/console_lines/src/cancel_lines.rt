@@ -14,8 +14,8 @@ use crate::lines::LONGEST_LINE;
 use crate::words::next_word;
 use run_model::{Command, Name, Refusal, Step};
 
-/// Returns the words of a line that cancels a scope, and `None` for any other line. The words are
-/// the one in the place of the scope's name, and the cause, if there is one.
+/// Returns the words of a line that cancels a scope; `None` for any other line. The words are the
+/// one in the place of the scope's name and the cause, if there is one.
 pub fn cancel_words(line: &[u8]) -> Option<(&[u8], Option<&[u8]>)>
     ensures words { option_map (λ words. (words.0.now, lent words.1)) result
         ≡ cancel_words line.now }

@@ -11,7 +11,8 @@ use crate::task_lines::read_task_line;
 use crate::words::{last_word, next_word};
 use run_model::{Command, Limit, Name, Refusal, Step, is_spelled};
 
-/// What a line with this first word asks of groups or, else, of tasks or of the store.
+/// Returns the request of a line with this first word. If the word isn't one about groups, the line
+/// is read as one about tasks or the store.
 pub(crate) fn read_group_line(word: &[u8], left: Option<&[u8]>) -> Option<LineRequest>
     ensures { result ≡ group_line_of word.now (words_in (lent left.entry)) }
 {
@@ -34,7 +35,7 @@ pub(crate) fn read_group_line(word: &[u8], left: Option<&[u8]>) -> Option<LineRe
     }
 }
 
-/// `group NAME PARENT`, and `bare NAME SCOPE` if it is `bare`.
+/// `group NAME PARENT`, or `bare NAME SCOPE` if `bare` is set.
 fn read_group(bare: bool, left: Option<&[u8]>) -> Option<LineRequest>
     ensures { result ≡ of_two (λ name scope. asks (if bare then Command.Bare name scope
         else Command.Group name scope)) (words_in (lent left.entry)) }
@@ -59,7 +60,7 @@ fn read_limit(left: Option<&[u8]>) -> Option<LineRequest>
     }
 }
 
-/// `go GROUP JOB ARG`, and `try GROUP JOB ARG` if it is `tried`.
+/// `go GROUP JOB ARG`, or `try GROUP JOB ARG` if `tried` is set.
 fn read_go(tried: bool, left: Option<&[u8]>) -> Option<LineRequest>
     ensures { result ≡ of_three (λ group job argument. asks (if tried
         then Command.TryGo group job argument else Command.Go group job argument))
@@ -94,7 +95,7 @@ fn read_result(left: Option<&[u8]>) -> Option<LineRequest>
     }
 }
 
-/// A group is made in this scope; if it is `bare`, without one of its own.
+/// The request to make a group below this scope or, if `bare` is set, one whose tasks belong to it.
 fn group(bare: bool, name: Name, scope: Name) -> LineRequest
     ensures { result ≡ asks (if bare then Command.Bare name scope else Command.Group name scope) }
 {
@@ -106,7 +107,7 @@ fn group(bare: bool, name: Name, scope: Name) -> LineRequest
     }))
 }
 
-/// A task is submitted to a group; if it is `tried`, only if the limit admits it now.
+/// The request to submit a task to a group; if `tried` is set, only if the limit admits it now.
 fn go(tried: bool, group: Name, job: Name, argument: Name) -> LineRequest
     ensures { result ≡ asks (if tried
         then Command.TryGo group job argument else Command.Go group job argument) }
@@ -126,7 +127,7 @@ fn go(tried: bool, group: Name, job: Name, argument: Name) -> LineRequest
     }
 }
 
-/// The limit that a word writes: a number of at most 64, or `none`.
+/// Returns the limit that a word stands for: a number of at most 64, or `none`.
 fn limit_of(word: &[u8]) -> Option<Limit>
     ensures { result ≡ limit_of word.now }
 {

@@ -1,8 +1,8 @@
 //! Examples of the definition with groups and tasks: what a newly opened store prints for the lines
-//! of a night.
+//! of a session.
 //!
-//! Each function has an empty body, and its clauses are the example: they are computed from the
-//! definition alone, without any of the code that reads a line or prints a reply.
+//! Each function has an empty body, and its clauses are the example. They are computed from the
+//! definition only, without any of the code that reads a line or prints a reply.
 #![tactic(auto, unfolding(crate::proofs::OnLiterals::nights_on_literals))]
 
 ghost use Rattle.std.specs.Prelude.{◌≡◌, ◌++◌, codes};
@@ -68,8 +68,8 @@ pub fn tasks_are_refused_in_order()
     ensures { IsPrinted refused_tasks "acked 5" }
 {}
 
-/// A line is bad if a word is unknown, missing or left over, or if a number or a limit has another
-/// form.
+/// A line is bad if a word is unknown or missing, if there is one word too many, or if a number or
+/// a limit has another form.
 pub fn group_lines_of_another_form_are_bad_lines()
     ensures { IsPrinted bad_group_lines "acked 1" }
 {}

@@ -18,8 +18,8 @@ use std::alloc::{AllocError, Allocator};
 use std::hash::{BuildHasherDefault, FoldHasher};
 use std::marker::Model;
 
-/// The tallies of some tasks, one for each job, in the order of the jobs' first tasks. They take
-/// memory for each job.
+/// The tallies of tasks, one for each job, in the order of the jobs' first tasks. They take memory
+/// for each job.
 #[derive(Drop)]
 pub struct Tallies<A: Allocator> {
     jobs: IndexMap<JobKey, TaskCounts, BuildHasherDefault<FoldHasher>, A>,
@@ -45,8 +45,8 @@ impl<A: Allocator + Copy> Tallies<A> {
         }
     }
 
-    /// Counts one more task, of this job and in this phase. A count stays at 65,535. The call fails
-    /// only if memory is refused, and only for a job of which no task was counted yet; then nothing
+    /// Counts one more task, which has this job and is in this phase. A count stays at 65,535. An
+    /// error means that memory was refused for a job of which no task was counted yet; then nothing
     /// is counted.
     pub fn add(&mut self, job: &Name, phase: &Phase) -> Result<(), AllocError>
         ensures added { (tasks : List Task) (task : Task) (admitted : Bool)
@@ -65,8 +65,8 @@ impl<A: Allocator + Copy> Tallies<A> {
         self.put(job, counts)
     }
 
-    /// Returns the lines that a tally of the tasks prints, each with its LF. The call fails only if
-    /// memory is refused, and only if a task was counted.
+    /// Returns the lines that a tally of the tasks prints, each with its LF. An error means that
+    /// memory was refused, which is possible only if a task was counted.
     pub fn to_lines<B: Allocator + Copy>(&self, alloc: B) -> Result<String<B>, AllocError>
         ensures lines { IfOk result (λ lines.
             string_bytes lines ≡ reply_lines (map printed.Tally self.now)) }
@@ -80,7 +80,7 @@ impl<A: Allocator + Copy> Tallies<A> {
         Ok(lines)
     }
 
-    /// What was counted of a job so far.
+    /// Returns the counts of a job so far.
     fn counted(&self, job: &JobKey) -> TaskCounts
         ensures { result ≡ unwrap_or (counted_at job.now.name self.now) no_tasks }
     {
@@ -90,7 +90,7 @@ impl<A: Allocator + Copy> Tallies<A> {
         }
     }
 
-    /// Sets what is counted of a job. If the memory for a new one is refused, nothing changes.
+    /// Sets the counts of a job. If the memory for a new job is refused, nothing changes.
     #[tactic(auto, using(crate::proofs::Tallying::put_in))]
     fn put(&mut self, job: JobKey, counts: TaskCounts) -> Result<(), AllocError>
         ensures put { OnOk result (self.new ≡ with_tally job.name counts self.old) }
@@ -101,14 +101,14 @@ impl<A: Allocator + Copy> Tallies<A> {
         Ok(())
     }
 
-    /// How many jobs there are.
+    /// Returns the number of jobs.
     fn len(&self) -> usize
         ensures { result ≡ length self.now }
     {
         self.jobs.len()
     }
 
-    /// The tally at this place.
+    /// Returns the tally at this place.
     fn tally(&self, i: usize) -> JobTally
         requires { i < length self.now }
         ensures { slice_get self.now i ≡ Some result }
@@ -129,7 +129,7 @@ const NO_TASKS: TaskCounts = TaskCounts {
     interrupted: 0,
 };
 
-/// The counts with one task more.
+/// Returns the counts with one more task.
 fn with_task(counts: TaskCounts, phase: &Phase) -> TaskCounts
     ensures { result ≡ one_more phase.now counts }
 {

@@ -1,15 +1,15 @@
-//! A [`LineRequest`] is the request in a line, read from its bytes alone.
+//! A [`LineRequest`] is the request in a line, read from the bytes of the line only.
 
 use run_model::{Name, Refusal, Step};
 
-/// The request in a line. No state has been asked yet.
+/// The request in a line, which no state has answered yet.
 #[derive(Drop)]
 pub enum LineRequest {
     /// Nothing: the line is empty, and has no reply.
     Nothing,
     /// It isn't a line of the console.
     BadLine,
-    /// It is refused whatever the state is.
+    /// Every state refuses it, with this refusal.
     Refused(Refusal),
     /// It asks the session to take a step.
     Step(Step),

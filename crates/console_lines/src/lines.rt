@@ -1,5 +1,5 @@
-//! A line of the console consists of words, the first of which says what kind of request it is.
-//! This file also has the requests about scopes.
+//! A line of the console consists of words. The first word says which kind of request the line is.
+//! This file also reads the requests about scopes.
 
 ghost use Rattle.std.specs.Prelude.{◌≡◌};
 ghost use Rattle.console_lines.specs.LineRequests.{advance_line, asked_by, request_of, asks_judged};
@@ -34,7 +34,7 @@ pub fn read_line(line: &[u8]) -> LineRequest
     read_words(Some(line)).unwrap_or(LineRequest::BadLine)
 }
 
-/// What the words of a line ask for, and `None` if they are of no form.
+/// Returns the request that these words make; `None` if they have no known form.
 fn read_words(line: Option<&[u8]>) -> Option<LineRequest>
     ensures { result ≡ asked_by (words_in (lent line.entry)) }
 {

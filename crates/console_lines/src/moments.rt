@@ -18,7 +18,7 @@ use jiff::Timestamp;
 use run_model::{Moment, Refusal};
 use std::str;
 
-/// How many bytes of a date and time stand before its offset.
+/// The number of bytes in a date and time before its offset.
 const LOCAL_LEN: usize = 19;
 
 /// Returns the moment that a word stands for; `MomentOutOfRange` if it is before 0 or later than
@@ -35,7 +35,7 @@ pub fn read_moment(word: &[u8]) -> Option<Result<Moment, Refusal>>
     }
 }
 
-/// The moment of a word that is not a number.
+/// Returns the moment of a word that isn't a number.
 #[tactic(auto, unfolding(crate::specs::Moments::date_time_of))]
 fn read_date_time(word: &[u8]) -> Option<Result<Moment, Refusal>>
     ensures { result ≡ date_time_of word.now }
@@ -92,7 +92,8 @@ fn is_offset(bytes: &[u8]) -> bool
     is_in(0, 23, &bytes[1..3]) && is_in(0, 59, &bytes[4..6])
 }
 
-/// The seconds since 1970-01-01T00:00:00Z, as `jiff` reads them, and `None` if it refuses.
+/// Returns the seconds since 1970-01-01T00:00:00Z, as `jiff` reads them; `None` if it refuses the
+/// word.
 fn read_instant(word: &[u8]) -> Option<i64>
     requires { IsTrue (is_date_time word.now) }
     ensures { result ≡ instant_of word.now }
@@ -106,7 +107,8 @@ fn read_instant(word: &[u8]) -> Option<i64>
     }
 }
 
-/// The moment of so many seconds, and `MomentOutOfRange` before 0 and past the greatest moment.
+/// Returns the moment at this many seconds; `MomentOutOfRange` before 0 and after the greatest
+/// moment.
 #[tactic(auto, unfolding(crate::specs::Moments::moment_at))]
 fn moment_at(seconds: i64) -> Result<Moment, Refusal>
     ensures { result ≡ moment_at seconds }

@@ -1,4 +1,4 @@
-//! A number in a line has 1 to 12 digits, and may begin with zeros.
+//! A number in a line has 1 to 12 digits, and may have leading zeros.
 
 ghost use Rattle.std.specs.Char.{is_ascii_digit};
 ghost use Rattle.std.specs.List.{list_all};
@@ -36,7 +36,7 @@ fn are_digits(word: &[u8]) -> bool
     word.iter().all(|b| b.is_ascii_digit())
 }
 
-/// The number that these digits write.
+/// Returns the number with these digits.
 fn value_of(digits: &[u8]) -> u64
     requires digits { IsTrue (list_all is_ascii_digit digits.now) }
     requires few { length digits.now ≤ LONGEST_NUMBER }

@@ -20,7 +20,7 @@ const CAPACITY: usize = 8192;
 /// Bytes that aren't written yet.
 pub type OutputBuffer = ArrayVec<u8, CAPACITY>;
 
-/// Makes room for another reply: if it might not fit, all buffered bytes are written.
+/// Ensures that another reply fits: if it might not, all buffered bytes are written.
 pub fn make_room<W: Write>(buffer: &mut OutputBuffer, output: &mut W) -> Result<(), RunFault>
     ensures buffered { OnOk result (Buffered [] buffer.old.items buffer.new.items
         (W.contents output.old) (W.contents output.new)) }

@@ -14,7 +14,7 @@ use std::fmt;
 pub enum Rejection {
     /// It has no form that the console knows.
     BadLine,
-    /// Like `BadLine`, and the line ends with a carriage return.
+    /// It is a bad line, and ends with a carriage return.
     CarriageReturn,
     /// It was refused.
     Refused(Refusal),
@@ -35,7 +35,7 @@ impl Rejection {
     }
 
     /// Returns why a line is rejected, given the rejection in its reply. A bad line that ends with
-    /// a carriage return is reported as that.
+    /// a carriage return is reported as such.
     pub fn by(why: Option<Rejection>, line: &[u8]) -> Option<Rejection>
         ensures { result ≡ rejection_by why line.now }
     {

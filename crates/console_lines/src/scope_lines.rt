@@ -8,7 +8,7 @@ ghost use Rattle.console_lines.specs.Words.{lent};
 use run_model::is_spelled;
 
 /// Returns what comes after `scope ` at the beginning of a line; `None` if the line begins
-/// otherwise. If the result is a name, the line asks for the state of the scope with this name.
+/// differently. If the result is a name, the line asks for the state of the scope with this name.
 pub fn scope_word(line: &[u8]) -> Option<&[u8]>
     ensures { lent result ≡ scope_word line.now }
 {

@@ -22,7 +22,7 @@ use crate::line_requests::LineRequest;
 use crate::rejections::RejectedLine;
 use run_model::{Refusal, Wish};
 
-/// An input is split at each LF, just as std splits a list.
+/// An input is split at each LF, just as the standard library splits a slice.
 pub fn an_input_is_split_at_each_line_feed()
     ensures { (bytes : List ℕ) → lines_of bytes ≡ slice_split (λ b. b == 10) bytes }
 {}
@@ -32,8 +32,8 @@ pub fn the_rest_of_a_line_has_all_its_bytes()
     ensures { (line : List ℕ) → rest_of (words_of line) ≡ Some line }
 {}
 
-/// The text of a value, and the cause of a deadline or a timeout, have all bytes after the word
-/// before.
+/// The text of a value, and the cause of a deadline or a timeout, consist of all bytes after the
+/// word before them.
 pub fn a_text_has_all_bytes_after_the_word_before()
     ensures value { (key text : List ℕ)
         → wish_of (codes "value") (key ∷ words_of text) ≡ Some (wished (Wish.Value key text)) }
@@ -66,7 +66,7 @@ pub fn replies_dont_wait_for_what_follows()
         → IsFront (replies s (whole_lines [] first)) (script s (first ++ more)) }
 {}
 
-/// Lines leave the same session as the steps that they ask for, one after another.
+/// Lines leave the same session as the steps in them, one after another.
 pub fn lines_leave_what_their_steps_leave()
     ensures { (s : Session) (lines : List (List ℕ))
         → after_lines s lines ≡ session_after s (steps_of lines) }

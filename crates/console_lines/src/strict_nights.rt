@@ -14,12 +14,12 @@ ghost use Rattle.console_lines.specs.StrictNights.{question_is_refused, third_is
 use crate::rejections::Rejection;
 use run_model::Refusal;
 
-/// After a line that is refused, nothing is run.
+/// After a refused line, no line is run.
 pub fn a_strict_run_ends_after_a_refusal()
     ensures { EndsAt third_is_refused "acked 3" 3 (Rejection.Refused Refusal.AlreadyDone) }
 {}
 
-/// After a bad line, nothing is run.
+/// After a bad line, no line is run.
 pub fn a_strict_run_ends_after_a_bad_line()
     ensures { EndsAt first_is_bad "acked 1" 1 Rejection.BadLine }
 {}
@@ -29,12 +29,12 @@ pub fn a_strict_run_runs_all_lines_if_none_is_rejected()
     ensures { IsWhole none_is_rejected "acked 3" }
 {}
 
-/// A question can be refused, too, and an empty line counts.
+/// A question can be refused, too, and empty lines count.
 pub fn a_refused_question_is_rejected()
     ensures { EndsAt question_is_refused "acked 1" 4 (Rejection.Refused Refusal.NoSuchScope) }
 {}
 
-/// An input without lines has none that is rejected.
+/// An input without lines has no rejected line.
 pub fn an_empty_input_has_no_rejected_line()
     ensures printed { strict_script (opened Small) [] ≡ codes "acked 1\n" }
     ensures rejection { rejection_in (opened Small) [] ≡ None }

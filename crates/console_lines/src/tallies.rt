@@ -21,7 +21,7 @@ pub struct JobTally {
 }
 
 impl JobTally {
-    /// Returns the line of this tally, with its LF. It fails only if memory is refused.
+    /// Returns the line of this tally, with its LF. An error means that memory was refused.
     pub fn to_line<A: Allocator>(&self, alloc: A) -> Result<String<A>, AllocError>
         ensures { IfOk result (λ line. string_bytes line ≡ reply_line (printed.Tally self.now)) }
     {

@@ -13,7 +13,8 @@ use crate::numbers::read_number;
 use crate::words::{last_word, next_word};
 use run_model::{Command, Outcome, Refusal, Step, Text, is_spelled};
 
-/// What a line with this first word asks of tasks or of the store. No other word begins a line.
+/// Returns the request of a line with this first word, about tasks or the store. No other word
+/// begins a line.
 pub(crate) fn read_task_line(word: &[u8], left: Option<&[u8]>) -> Option<LineRequest>
     ensures { result ≡ task_line_of word.now (words_in (lent left.entry)) }
 {
@@ -36,7 +37,7 @@ pub(crate) fn read_task_line(word: &[u8], left: Option<&[u8]>) -> Option<LineReq
     }
 }
 
-/// What a line asks for that no word may follow.
+/// Returns the request of a line in which no other word may follow.
 fn read_alone(asked: LineRequest, left: Option<&[u8]>) -> Option<LineRequest>
     ensures { result ≡ asks_alone asked (words_in (lent left.entry)) }
 {
@@ -89,7 +90,7 @@ fn read_task(left: Option<&[u8]>) -> Option<LineRequest>
     }
 }
 
-/// A task ends with this error, whose text is looked at before the number.
+/// The request to end a task with this error. The text is checked before the number.
 fn fail(number: u64, error: &[u8]) -> LineRequest
     ensures { result ≡ asks_finish number (Outcome.Failure error.now) }
 {

@@ -16,7 +16,7 @@ use crate::numbers::read_number;
 use crate::words::next_word;
 use run_model::{Moment, Name, Refusal, Text, Wish, is_spelled};
 
-/// The wish of this kind with what is left after it.
+/// Returns the wish of this kind, with the words after the kind.
 pub(crate) fn read_wish(kind: &[u8], left: Option<&[u8]>) -> Option<Result<Wish, Refusal>>
     ensures { result ≡ option_map judged (wish_of kind.now (words_in (lent left.entry))) }
 {
@@ -37,7 +37,7 @@ pub(crate) fn read_wish(kind: &[u8], left: Option<&[u8]>) -> Option<Result<Wish,
     }
 }
 
-/// A wish after which nothing may be left.
+/// Returns a wish after which no word may follow.
 fn read_alone(wish: Wish, left: Option<&[u8]>) -> Option<Result<Wish, Refusal>>
     requires names { names_in_wish wish ≡ [] }
     requires texts { texts_in_wish wish ≡ [] }

@@ -5,7 +5,7 @@
 ghost use Rattle.std.specs.Prelude.{◌≡◌, [], ◌∷◌, MatchOption};
 ghost use Rattle.console_lines.specs.Words.{words_in, only_word, lent};
 
-/// The next word and what is left after it, and `None` if no word is left.
+/// Returns the next word and what comes after it; `None` if no word is left.
 pub(crate) fn next_word(left: Option<&[u8]>) -> Option<(&[u8], Option<&[u8]>)>
     ensures { MatchOption result (words_in (lent left.entry) ≡ [])
         (λ next. words_in (lent left.entry)
@@ -18,7 +18,7 @@ pub(crate) fn next_word(left: Option<&[u8]>) -> Option<(&[u8], Option<&[u8]>)>
     }
 }
 
-/// The last word, and `None` if another is left after it or none is.
+/// Returns the only word that is left; `None` if there is none, or another one after it.
 pub(crate) fn last_word(left: Option<&[u8]>) -> Option<&[u8]>
     ensures { lent result ≡ only_word (words_in (lent left.entry)) }
 {

@@ -1,4 +1,4 @@
--- What an audit reports of the notes of a night.
+-- The result of an audit of the notes.
 use Rattle.std.specs.Prelude.{◌≡◌, ◌⊎◌, ◌<◌, ◌+◌, ◌++◌, ◌||◌, ℕ, Bool, true, false, not, List, []}
 use Rattle.std.specs.Prelude.{length, take, slice_get, slice_index_or, Option, Some, MatchOption}
 use Rattle.std.specs.List.{list_all, list_any}

@@ -1,5 +1,5 @@
--- The course of a task: the calls of a worker, in order, with the answer to each; and the calls
--- that the flusher makes beside it.
+-- The course of a task: the calls of a worker, in order, with the answer to each. Also the calls
+-- that the flusher makes at the same time.
 use Rattle.std.specs.Prelude.{ℕ, zero, suc, ◌<◌, ◌≤◌, ◌≡◌, ◌⊎◌, Bool, true, false, codes}
 use Rattle.std.specs.Prelude.{List, [], ◌∷◌, ◌++◌, All, length, Result, Ok, Err, Option, None}
 use Rattle.std.specs.Prelude.{Some, IfOk, slice_get, slice_set, ⊤}
@@ -18,58 +18,59 @@ use Rattle.run_crew.specs.declared.notes.Note.{Note}
 pub data Call : Type 0 where
   -- under the lock, a task is started
   Start : Result Started Refusal → Call
-  -- a wait until all events up to this one are durable, which returns how many are
+  -- a wait until all events up to this one are durable, which returns the number of durable events
   Save : ℕ → Result ℕ Trouble → Call
-  -- the job of this place is asked whether it handles this name
+  -- the job at this place is asked whether it handles this name
   Handles : ℕ → List ℕ → Bool → Call
   -- the gate is asked whether this turn of this task may be made
   Gate : ℕ → ℕ → Bool → Call
-  -- under the lock, it is asked whether the scope of this task is done
+  -- under the lock, the question whether the scope of this task is done
   Scope : ℕ → Bool → Call
-  -- the job of this place makes the turn of this number, and is told whether the scope is done
+  -- the job at this place makes the turn with this number, and learns whether the scope is done
   Make : ℕ → TaskInfo → ℕ → Bool → Turn → Call
   -- under the lock, this task is finished
   Finish : ℕ → Outcome → Result ℕ Refusal → Call
-  -- the gate is told that this task was finished
+  -- the gate is informed that this task was finished
   Tell : ℕ → Call
   -- the bell is rung for this event
   Ring : ℕ → Call
-  -- a wait until the bell has rung for a later event than this, which returns that event, or
+  -- a wait until the bell was rung for a later event than this, which returns that event, or
   -- nothing if the bell is closed
   Wait : ℕ → Option ℕ → Call
 
--- ---- what was called between two moments
+-- ---- the calls between two moments
 
--- These calls, one after the other, lead from one state to another by what a call may do.
+-- These calls, one after another, lead from one state to another, each by a step that it may take.
 abbrev pub Path : {A : Type 0} → (A → Call → A → Type 0) → A → List Call → A → Type 0
 Path step from [] to = from ≡ to
 Path step from (call ∷ calls) to = (mid : _) × step from call mid × Path step mid calls to
 
--- Between two states calls were made of which this holds.
+-- The calls that lead from one state to another have this property.
 abbrev pub Went
     : {A : Type 0} → (A → Call → A → Type 0) → (List Call → Type 0) → A → A → Type 0
 Went step Holds from to = (calls : List Call) × Holds calls × Path step from calls to
 
 -- ---- the turns
 
--- How many turns a task has at most.
+-- The greatest number of turns of a task.
 abbrev pub most_turns : ℕ
 most_turns = 1000
 
--- A round: the gate lets the turn pass, then the scope is asked, and then the turn is made and told
--- of it.
+-- A round: the gate lets the turn pass, then the scope is queried, and then the turn is made with
+-- the answer.
 abbrev pub round : TaskInfo → ℕ → ℕ → Bool → Turn → List Call
 round info job number done answer =
     Gate info.task number true ∷ Scope info.task done ∷ Make job info number done answer ∷ []
 
--- These are the rounds before this number, and in each the job wants another turn.
+-- These are the rounds before the turn with this number, and in each of them the job wants another
+-- turn.
 abbrev pub AreRounds : TaskInfo → ℕ → ℕ → List Call → Type 0
 AreRounds info job zero calls = calls ≡ []
 AreRounds info job (suc number) calls =
     (before : List Call) × (done : Bool) × AreRounds info job number before
     × (calls ≡ before ++ round info job number done turn.More)
 
--- How the turns of a task end at this number, and how the task ends by it: the gate doesn't let the
+-- The turns of a task end at this number, and the task with this outcome: the gate doesn't let the
 -- turn pass, or the turn is the job's last one.
 abbrev pub EndsAt : TaskInfo → ℕ → ℕ → List Call → Outcome → Type 0
 EndsAt info job number calls how =
@@ -79,8 +80,8 @@ EndsAt info job number calls how =
     ⊎ ((done : Bool) × (error : List ℕ) × (calls ≡ round info job number done (turn.Failed error))
     × (how ≡ outcome.Failure error))
 
--- The turns of a task by this job, and how it ends by them: at a turn that the gate doesn't let
--- pass or that is the job's last one, and else after the greatest number of them.
+-- The turns of a task by this job, and the outcome: they end at a turn that the gate doesn't let
+-- pass, at the job's last turn, or after the greatest number of turns.
 abbrev pub AreTurns : TaskInfo → ℕ → List Call → Outcome → Type 0
 AreTurns info job calls how =
     (AreRounds info job most_turns calls × (how ≡ outcome.Failure (codes "turn limit")))
@@ -90,20 +91,21 @@ AreTurns info job calls how =
 
 -- ---- the course
 
--- The jobs before this place are asked, in their order, and none handles the name.
+-- The jobs before this place are asked in order, and none of them handles the name.
 abbrev pub declined : List ℕ → ℕ → List Call
 declined name zero = []
 declined name (suc place) = declined name place ++ Handles place name false ∷ []
 
--- How a task is run by so many jobs, and how it ends: by the first that handles its name.
+-- The run of a task by this many jobs, and its outcome: the first job that handles its name runs
+-- it.
 abbrev pub IsRun : ℕ → TaskInfo → List Call → Outcome → Type 0
 IsRun jobs info calls how =
     ((calls ≡ declined info.job jobs) × (how ≡ outcome.Failure (codes "no such job")))
     ⊎ ((job : ℕ) × (turns : List Call) × (job < jobs) × AreTurns info job turns how
     × (calls ≡ declined info.job job ++ Handles job info.job true ∷ turns))
 
--- A start, the answer that it is among so many durable events, the run of its task, and what comes
--- after.
+-- A start, the answer that this many events are durable (the start is one of them), the run of the
+-- task, and the calls after it.
 abbrev pub task_calls : Started → ℕ → List Call → List Call → List Call
 task_calls started durable run calls =
     Start (Ok started) ∷ Save started.event (Ok durable) ∷ (run ++ calls)
@@ -119,7 +121,7 @@ IsBegun None calls =
     ⊎ ((started : Started) × (trouble : Trouble)
     × (calls ≡ Start (Ok started) ∷ Save started.event (Err trouble) ∷ []))
 
--- The whole course of a task, by so many jobs, and the note of its finish.
+-- The complete course of a task, by this many jobs, and the note of its finish.
 abbrev pub IsCourse : ℕ → List Call → Note → Type 0
 IsCourse jobs calls note =
     (started : Started) × (durable : ℕ) × (run : List Call) × (started.event ≤ durable)
@@ -127,7 +129,8 @@ IsCourse jobs calls note =
     × (calls ≡ task_calls started durable run
     (Finish note.task note.outcome (Ok note.event) ∷ Tell note.task ∷ Ring note.event ∷ []))
 
--- A course that ends where its start isn't done or isn't durable, or its finish isn't done.
+-- A course that ends early, because its start is refused or isn't durable, or because its finish is
+-- refused.
 abbrev pub IsCutShort : ℕ → List Call → Type 0
 IsCutShort jobs calls =
     IsBegun None calls
@@ -136,15 +139,15 @@ IsCutShort jobs calls =
     × (calls ≡ task_calls started durable run
     (Finish started.info.task how (Err why) ∷ [])))
 
--- What a worker with these notes calls last: nothing if the notes are full, or else a course that
--- is cut short.
+-- The last calls of a worker with these notes: none if the notes are full, and otherwise a course
+-- that ends early.
 abbrev pub EndsShift : ℕ → List Note → List Call → Type 0
 EndsShift jobs notes calls =
     ((length notes ≡ MOST_TASKS) × (calls ≡ []))
     ⊎ ((length notes < MOST_TASKS) × IsCutShort jobs calls)
 
--- What a worker calls for its next task, and what it notes: a whole course and its note, or the
--- end.
+-- The calls of a worker for its next task, and the notes after it: a complete course and its note,
+-- or the end.
 abbrev pub TakesTask : ℕ → Bool → List Note → List Note → List Call → Type 0
 TakesTask jobs true notes after calls =
     (note : Note) × IsCourse jobs calls note × (after ≡ notes ++ note ∷ [])
@@ -152,14 +155,14 @@ TakesTask jobs false notes after calls = (after ≡ notes) × EndsShift jobs not
 
 -- ---- the shift
 
--- A whole course for each of these notes, one after the other.
+-- A complete course for each of these notes, one after another.
 abbrev pub AreCourses : ℕ → List Note → List Call → Type 0
 AreCourses jobs [] calls = calls ≡ []
 AreCourses jobs (note ∷ notes) calls =
     (course : List Call) × (rest : List Call) × IsCourse jobs course note
     × AreCourses jobs notes rest × (calls ≡ course ++ rest)
 
--- All that a worker calls which leaves these notes.
+-- All calls of a worker that leaves these notes.
 abbrev pub IsShift : ℕ → List Note → List Call → Type 0
 IsShift jobs notes calls =
     (courses : List Call) × (last : List Call) × AreCourses jobs notes courses
@@ -167,9 +170,9 @@ IsShift jobs notes calls =
 
 -- ---- the flusher
 
--- So many rounds of the flusher, the last of which heard of this event: each waits until the bell
--- has rung for a later event than the round before heard of, and then until that is among the
--- durable events, or a flush is refused.
+-- This many rounds of the flusher, the last of which is for this event. Each round waits until the
+-- bell was rung for a later event than that of the round before, and then until this event is
+-- durable or a flush is refused.
 abbrev pub AreSaves : ℕ → ℕ → List Call → Type 0
 AreSaves zero heard calls = (heard ≡ 0) × (calls ≡ [])
 AreSaves (suc rounds) heard calls =
@@ -177,30 +180,31 @@ AreSaves (suc rounds) heard calls =
     × (was < heard) × IfOk r (λ durable. heard ≤ durable)
     × (calls ≡ before ++ Wait was (Some heard) ∷ Save heard r ∷ [])
 
--- All that the flusher calls: rounds, until the bell is closed.
+-- All calls of the flusher: rounds, until the bell is closed.
 abbrev pub IsFlusherRun : List Call → Type 0
 IsFlusherRun calls =
     (rounds : ℕ) × (heard : ℕ) × (before : List Call) × AreSaves rounds heard before
     × (calls ≡ before ++ Wait heard None ∷ [])
 
--- ---- what the others answered
+-- ---- the answers of the lock and the gate
 
--- The answer to a wait for durable events: some value of the type under the lock holds so many, or
--- a flush of some such value was refused. It need not be the value that the lock held just then.
+-- The answer to a wait for durable events: some value of the type under the lock has this many
+-- durable events, or refused a flush. It may be another value than the one that the lock held at
+-- that moment.
 abbrev pub IsTold
     : {T : Type 0} → (T → ℕ → Type 0) → (T → Result ℕ Trouble → T → Type 0) → Result ℕ Trouble
     → Type 0
 IsTold holds flushes (Ok durable) = (d : _) × holds d durable
 IsTold holds flushes (Err why) = (d : _) × (e : _) × flushes d (Err why) e
 
--- A call of the gate was answered by this one, by what it lets pass and what it was told.
+-- The gate may give this answer to a call of it, or was informed of this.
 abbrev pub IsGates : (ℕ → ℕ → Bool → Type 0) → (ℕ → Type 0) → Call → Type 0
 IsGates lets told (Gate task turn answer) = lets task turn answer
 IsGates lets told (Tell task) = told task
 IsGates lets told _ = ⊤
 
--- The call was answered by the one that it is of: by some value of the type under the lock, through
--- what that starts, holds, flushes, tells and finishes, or by the gate.
+-- The one that was called may give this answer: some value of the type under the lock, according to
+-- what a start, a flush, a finish and its questions may return, or the gate.
 abbrev pub IsAnswered
     : {T : Type 0} → (T → Result Started Refusal → T → Type 0) → (T → ℕ → Type 0)
     → (T → Result ℕ Trouble → T → Type 0) → (T → ℕ → Bool → Type 0)
@@ -215,16 +219,16 @@ IsAnswered starts holds flushes tells finishes lets told (Finish task how r) =
     (d : _) × (e : _) × finishes d task how r e
 IsAnswered starts holds flushes tells finishes lets told call = IsGates lets told call
 
--- These notes are of a shift with some number of jobs, each call of which was answered so.
+-- These are the notes of a shift with some number of jobs, each of whose calls has such an answer.
 abbrev pub IsSomeShift : (Call → Type 0) → List Note → Type 0
 IsSomeShift Answered notes =
     (jobs : ℕ) × (calls : List Call) × IsShift jobs notes calls × All Answered calls
 
--- ---- what the jobs answered
+-- ---- the answers of the jobs
 
--- What a call leaves of the jobs of a worker, if they may answer so about a name, and their turns
--- may return and leave this: the job that is asked stays the same, and the one that makes a turn is
--- what its turn leaves. No other call and no other job changes anything.
+-- What a call leaves of a worker's jobs, given what they may answer about a name, and what their
+-- turns may return and leave. A job that is asked stays the same, and a job that makes a turn
+-- becomes what the turn leaves. Other calls change no job, and other jobs stay the same.
 abbrev pub StepsJobs
     : {J : Type 0} → (J → List ℕ → Bool → Type 0) → (J → TaskInfo → ℕ → Bool → Turn → J → Type 0)
     → List J → Call → List J → Type 0
@@ -235,14 +239,15 @@ StepsJobs answers turns jobs (Make place info number done answer) left =
     × turns job info number done answer after × (left ≡ slice_set jobs place after)
 StepsJobs answers turns jobs call left = left ≡ jobs
 
--- A call was answered so, and the jobs answered and changed as they may.
+-- A call has such an answer, and the jobs answer and change as they may.
 abbrev pub StepsShift
     : {J : Type 0} → (Call → Type 0) → (J → List ℕ → Bool → Type 0)
     → (J → TaskInfo → ℕ → Bool → Turn → J → Type 0) → List J → Call → List J → Type 0
 StepsShift Answered answers turns jobs call left =
     Answered call × StepsJobs answers turns jobs call left
 
--- These notes are of a shift that began with these jobs, and each of its calls was answered so.
+-- These are the notes of a shift that began with these jobs, each of whose calls has such an
+-- answer.
 abbrev pub IsOfShift
     : {J : Type 0} → (Call → Type 0) → (J → List ℕ → Bool → Type 0)
     → (J → TaskInfo → ℕ → Bool → Turn → J → Type 0) → List J → List Note → Type 0

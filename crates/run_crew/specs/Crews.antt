@@ -41,29 +41,31 @@ abbrev pub numbers_line : List ℕ → ℕ → List ℕ → ℕ → List ℕ
 numbers_line before one between other =
     before ++ decimal one ++ (between ++ decimal other) ++ codes "\n"
 
--- What is printed of an audit: how many starts and finishes there are, or the first difference.
+-- The line of an audit: the numbers of starts and finishes, or the first difference.
 abbrev pub audit_line : Result ⊤ Strayed → (starts finishes : ℕ) → List ℕ
 audit_line (Ok done) starts finishes =
     numbers_line (codes "audit ok; starts ") starts (codes "; finishes ") finishes
 audit_line (Err strayed) starts finishes =
     numbers_line (codes "audit strayed; worker ") strayed.worker (codes "; note ") strayed.note
 
--- What is printed after it: how many events are durable, if the last flush was done.
+-- The line after it: the number of durable events, if the last flush succeeded.
 abbrev pub flush_line : Result ℕ Trouble → List ℕ
 flush_line (Ok count) = reply_line (printed.Step (answered.Acked count))
 flush_line (Err why) = []
 
--- A flush is refused only by a book that a failed device call broke before.
+-- The trouble of a flush for a caller who saw no earlier one: a book is broken only if a device
+-- call failed.
 abbrev pub of_device : Trouble → Trouble
 of_device (Refused why) = Faulty DiskFailed
 of_device (Faulty why) = Faulty why
 
--- What is returned if all was printed: whether the audit is Ok, or the fault of the last flush.
+-- The result if everything was printed: whether the audit found no difference, or the fault of the
+-- last flush.
 abbrev pub result_of : Result ⊤ Strayed → Result ℕ Trouble → Result Bool RunFault
 result_of audited (Ok count) = Ok (is_ok audited)
 result_of audited (Err why) = Err (Store (of_device why))
 
--- The audit and the last flush were printed whole; or the writer failed, and a part was printed.
+-- The audit and the last flush were printed in full, or the writer failed after a prefix.
 abbrev pub IsReported : Result ⊤ Strayed → (starts finishes : ℕ) → Result ℕ Trouble
     → Result Bool RunFault → (w0 w1 : Option (List ℕ)) → Type 0
 IsReported audited starts finishes flushed answer w0 w1 =
@@ -71,16 +73,17 @@ IsReported audited starts finishes flushed answer w0 w1 =
     ((answer ≡ result_of audited flushed) × Appends w0 w1 text)
     ⊎ ((answer ≡ Err Output) × WritesPart w0 w1 text)
 
--- ---- what the night leaves
+-- ---- what a run leaves
 
--- This disk is that of a book that carries on from what is known of it.
+-- This disk is that of a book that carries on from what is known about it.
 pub record WasLeft {D : Type 0} (state : D → DiskState) (known : Known) (left : D) : Type 0 where
   pub book : BookView D
   pub carries : Carries known state book
   pub disk : book.journal.disk ≡ left
 
--- So many workers left a desk, whose book was flushed then, and a list of notes each, by calls that
--- the gate answered so. The book carries on from what is known of it, and this disk is its own.
+-- This many workers left a desk and a list of notes each, and the gate gave such answers to their
+-- calls. Then the desk's book was flushed. The book carries on from what is known about it, and
+-- this is its disk.
 pub record IsWorked {D : Type 0} (state : D → DiskState) (known : Known) (ByGate : Call → Type 0)
     (workers : ℕ)
     (audited : Result ⊤ Strayed) (starts finishes : ℕ) (flushed : Result ℕ Trouble)
@@ -109,33 +112,33 @@ pub record IsWorked {D : Type 0} (state : D → DiskState) (known : Known) (ByGa
     pub each_was_started : finishes ≤ starts
     pub one_more_at_most : starts ≤ finishes + workers
 
--- What is promised of a disk that is honest and at rest, by the state that it stores.
+-- A promise about a disk that is honest and at rest, and about the state that it stores.
 abbrev pub Promises : DiskState → (State → Type 0) → Type 0
 Promises s says = s.honest → IsAtRest s → (p : State) → Stores s.now p → says p
 
--- The bytes store this state, or one that a prefix of these events leads to after a restart.
+-- The bytes store this state, or the state after its restart and a prefix of these events.
 abbrev pub StoresNight : State → List Event → List ℕ → Type 0
 StoresNight p work bytes = Stores bytes p ⊎ StoresPrefix (restarted p) work 0 bytes
 
--- Starts and finishes alone were made after a restart, and a crash at any moment from `old` on
--- leaves the state that was stored, or one that a prefix of them leads to.
+-- After a restart, only starts and finishes were made. A crash at any moment since `old` leaves the
+-- state that was stored, or the state after the restart and a prefix of them.
 pub record KeepsNight (p : State) (work : List Event) (old new : DiskState) : Type 0 where
   pub only : list_all is_work work ≡ true
   pub any_moment : LeavesOnly (StoresNight p work) old new
 
--- So many events are acknowledged: they are all, and whatever a crash leaves stores the state that
--- they lead to.
+-- This many events are acknowledged, which are all of them. Every crash leaves the state to which
+-- they lead.
 pub record AcksNight (p : State) (work : List Event) (n : ℕ) (s : DiskState) : Type 0 where
   pub state : State
   pub reached : run (restarted p) work ≡ Some state
   pub counted : n ≡ state.count
   pub stores : (x : List ℕ) → s.images x → Stores x state
 
--- A night over a disk, which is handed back: how it ended, what was printed, and what a crash
--- leaves of the disk at any moment since the call's start, if the disk was honest and at rest.
--- Either no book was opened, the fault gives the reason, and nothing was printed. Or a book was
--- opened: then memory or a thread was wanting, and nothing was printed, or the workers worked, and
--- what they left was printed.
+-- A run over a disk, which is returned: the result, what was printed, and what a crash leaves of
+-- the disk at any moment since the call began, if the disk was honest and at rest. There are three
+-- cases. No book was opened: the fault gives the reason, and nothing was printed. A book was
+-- opened, but memory or a thread was refused: nothing was printed. Or the workers ran, and the
+-- report about what they left was printed.
 abbrev pub CrewEnds : {D : Type 0} → (D → DiskState) → (ByGate : Call → Type 0) → (given : D)
     → (workers : ℕ) → Result Bool RunFault → (left : D) → (w0 w1 : Option (List ℕ)) → Type 0
 CrewEnds {D = D} state ByGate given workers answer left w0 w1 =

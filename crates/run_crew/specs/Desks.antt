@@ -14,11 +14,11 @@ pub record DeskView (D : Type 0) : Type 0 where
 
 -- ---- totals
 
--- How many of these events are starts.
+-- The number of starts in these events.
 abbrev pub starts_of : List Event → ℕ
 starts_of events = count_by is_start events
 
--- How many of these events are finishes.
+-- The number of finishes in these events.
 abbrev pub finishes_of : List Event → ℕ
 finishes_of events = count_by is_finish events
 

@@ -1,4 +1,4 @@
--- What a night over a lock answers.
+-- The result of a run under a lock.
 use Rattle.std.specs.Prelude.{◌≡◌, ◌≤◌, ℕ, Bool, Result}
 use Rattle.run_model.specs.declared.answers.Reply.TheVariants as answered
 use Rattle.run_model.specs.declared.commands.Step.TheVariants as step
@@ -12,8 +12,8 @@ use Rattle.run_crew.specs.Openings.{Carries, Known}
 use Rattle.run_crew.specs.Seats.{SeatView}
 use Rattle.run_crew.specs.Steps.{TakesStep}
 
--- The call was answered by some desk under the lock, or by a gate that may answer this, and was
--- told this.
+-- Some desk under the lock gave this answer, or a gate that may give it, or the gate was informed
+-- of this.
 abbrev pub OfDesk : {D : Type 0} → (D → DiskState) → (ℕ → ℕ → Bool → Type 0) → (ℕ → Type 0)
     → Call → Type 0
 OfDesk {D} state lets told call = IsAnswered {T = DeskView D}
@@ -24,8 +24,8 @@ OfDesk {D} state lets told call = IsAnswered {T = DeskView D}
     (λ d task how r e. TakesStep state d (step.Finish task how) (replied answered.Finished r) e)
     lets told call
 
--- The answer of a flush of some book that carries on from what is known of the opening, and whose
--- history has each start and finish that the seat has counted.
+-- The result of a flush of some book that carries on from the facts known at the opening. Its
+-- history contains each start and finish that the seat has counted.
 pub record FlushesNight {D : Type 0} (state : D → DiskState) (known : Known) (seat : SeatView)
     (answer : Result ℕ Trouble) : Type 0
   where

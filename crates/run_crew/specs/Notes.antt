@@ -1,4 +1,4 @@
--- The notes of workers: which are the same, and the finishes that they should be of.
+-- The notes of workers: when two are the same, and the finishes to which they should belong.
 use Rattle.std.specs.Prelude.{ℕ, ◌+◌, ◌==◌, nat_lt, Bool, true, false, ◌&&◌, if◌then◌else◌}
 use Rattle.std.specs.Prelude.{List, [], ◌∷◌, ◌++◌, length, sum_by}
 use Rattle.std.specs.List.{flat_map, list_any}
@@ -11,11 +11,11 @@ use Rattle.run_crew.specs.declared.notes.Note.{Note}
 
 -- ---- notes
 
--- How many notes there are.
+-- The number of notes.
 abbrev pub noted : List (List Note) → ℕ
 noted lists = sum_by (λ notes. length notes) lists
 
--- The notes of all workers, one list after the other.
+-- The notes of all workers, one list after another.
 abbrev pub all_notes : List (List Note) → List Note
 all_notes lists = flat_map (λ notes. notes) lists
 
@@ -32,7 +32,7 @@ is_same note other =
     (note.event == other.event) && (note.task == other.task)
     && is_same_outcome note.outcome other.outcome
 
--- The note is among these.
+-- The note is one of these.
 abbrev pub has : List Note → Note → Bool
 has notes note = list_any (λ other. is_same note other) notes
 

@@ -1,4 +1,4 @@
--- What a book was when a desk was made over it, and how it carries on from there.
+-- The facts about a book when a desk was made over it, and how the book carries on from there.
 use Rattle.std.specs.Prelude.{◌≡◌, ◌≤◌, ◌-◌, ◌++◌, ℕ, Bool, true, false, List, ⊤}
 use Rattle.std.specs.List.{list_all}
 use Rattle.run_model.specs.Event.{Event}
@@ -9,8 +9,9 @@ use Rattle.run_disk.specs.Runs.{LeavesOnly, Passed}
 use Rattle.book_model.specs.Books.{BookView}
 use Rattle.book_model.specs.Stores.{StoresPrefix}
 
--- What a book held at one moment, and the states of its disk at that moment and when it was passed
--- to the opening. Also whether commands may come after that moment, besides starts and finishes.
+-- What a book held at one moment, and the states of its disk at that moment and when the disk was
+-- passed to the opening. Also whether commands may come after that moment, not only starts and
+-- finishes.
 pub record Opened : Type 1 where
   pub session : Session
   pub durable : ℕ
@@ -18,12 +19,12 @@ pub record Opened : Type 1 where
   pub origin : DiskState
   pub commands : Bool
 
--- What is known about the book of a desk: nothing, or what it was when the desk was made.
+-- What is known about the book of a desk: nothing, or what it held when the desk was made.
 pub data Known : Type 1 where
   Unsaid : Known
   From : Opened → Known
 
--- What a book is now, if only starts and finishes may come.
+-- What a book holds now, if only starts and finishes may come after this moment.
 abbrev pub opened_of : {D : Type 0} → (D → DiskState) → BookView D → Opened
 opened_of state h = record {
   session = h.session;
@@ -44,8 +45,8 @@ is_work (event.Start task) = true
 is_work (event.Finish task outcome) = true
 is_work _ = false
 
--- A book carries on from what it was at that moment. Its opening stays the same, no acknowledged
--- event is lost, and events are only added: starts and finishes, unless commands may come, too.
+-- A book carries on from what it held at that moment. Its opening stays the same, no acknowledged
+-- event is lost, and events are only added: starts and finishes, and commands if they may come.
 -- Suppose that the disk is honest, and was at rest when the book was opened. Then a crash at any
 -- moment since leaves a state to which a prefix of the events leads, and the prefix contains every
 -- event that was acknowledged at that moment.
@@ -63,7 +64,7 @@ pub record CarriesFrom {D : Type 0} (from : Opened) (state : D → DiskState) (h
       (StoresPrefix from.session.start h.session.history (from.durable - from.session.start.count))
       from.disk (state h.journal.disk)
 
--- A book carries on from what is known of it.
+-- A book carries on from what is known about it.
 abbrev pub Carries : {D : Type 0} → Known → (D → DiskState) → BookView D → Type 0
 Carries Unsaid state h = ⊤
 Carries (From from) state h = CarriesFrom from state h

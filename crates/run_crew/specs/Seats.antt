@@ -30,7 +30,7 @@ joined seat other = record {
   finishes = seat.finishes + other.finishes;
 }
 
--- After a night of this many workers, which have noted this many finishes, the seat has its parts
+-- After a run of this many workers, whose notes hold this many finishes, the seat has its parts
 -- again. It has counted those finishes, and as many starts, or at most one more for each worker.
 pub record CountsNight (workers noted : ℕ) (seat after : SeatView) : Type 0 where
   pub start_parts : after.start_parts ≡ seat.start_parts
@@ -51,9 +51,9 @@ GivesParts parts seat after =
 abbrev pub CountsSame : SeatView → SeatView → Type 0
 CountsSame seat after = (after.starts ≡ seat.starts) × (after.finishes ≡ seat.finishes)
 
--- This many shifts, which have noted this many finishes, were joined into the seat. For each of
+-- This many shifts, whose notes hold this many finishes, were joined into the seat. For each of
 -- them it has one more part of each share. It has counted those finishes, and as many starts, or at
--- most one more for each.
+-- most one more for each shift.
 pub record JoinsShifts (shifts noted : ℕ) (seat after : SeatView) : Type 0 where
   pub start_parts : after.start_parts ≡ seat.start_parts + shifts
   pub finish_parts : after.finish_parts ≡ seat.finish_parts + shifts

@@ -16,9 +16,9 @@ use Rattle.run_crew.specs.Desks.{DeskView}
 
 module _ {J : Type 0} (answers : J → List ℕ → Bool → Type 0)
     (turns : J → TaskInfo → ℕ → Bool → Turn → J → Type 0) (Answered : Call → Type 0) where
-  -- So many turns of a task, from the first on, were made by this job. Before each of them the gate
-  -- let it pass, the job was told what was answered of the scope, and it wanted another turn. They
-  -- left this job.
+  -- This job made the first n turns of a task. Before each of them the gate let it pass, and the
+  -- job learned the answer about the scope. After each of them the job wanted another turn. The
+  -- turns left this job.
   abbrev pub Turned : TaskInfo → ℕ → J → J → Type 0
   Turned info zero job left = left ≡ job
   Turned info (suc number) job left =
@@ -26,8 +26,8 @@ module _ {J : Type 0} (answers : J → List ℕ → Bool → Type 0)
       × Answered (call.Gate info.task number true) × Answered (call.Scope info.task done)
       × turns mid info number done turn.More left
 
-  -- How a task ends at the turn of this number: the gate didn't let it pass, or the job ended the
-  -- task.
+  -- The outcome of a task at the turn with this number: the gate didn't let the turn pass, or the
+  -- job ended the task.
   abbrev pub EndsTurn : TaskInfo → ℕ → J → J → Outcome → Type 0
   EndsTurn info number job left how =
       (Answered (call.Gate info.task number false) × (left ≡ job)
@@ -38,15 +38,16 @@ module _ {J : Type 0} (answers : J → List ℕ → Bool → Type 0)
       ⊎ ((error : List ℕ) × turns job info number done (turn.Failed error) left
       × (how ≡ outcome.Failure error))))
 
-  -- How a task ends by the turns of this job: at one of them, or because they are too many.
+  -- The outcome of a task by the turns of this job: it ended at one of them, or reached the turn
+  -- limit.
   abbrev pub EndsBy : TaskInfo → J → J → Outcome → Type 0
   EndsBy info job left how =
       (Turned info most_turns job left × (how ≡ outcome.Failure (codes "turn limit")))
       ⊎ ((number : ℕ) × (mid : J) × (number < most_turns) × Turned info number job mid
       × EndsTurn info number mid left how)
 
-  -- How a task ends by these jobs: by the turns of the first that handles its name, or because none
-  -- does.
+  -- The outcome of a task by these jobs: by the turns of the first that handles its name, or
+  -- because no job does.
   abbrev pub EndsAmong : TaskInfo → List J → List J → Outcome → Type 0
   EndsAmong info jobs left how =
       (((place : ℕ) (job : J) → slice_get jobs place ≡ Some job → answers job info.job false)
@@ -57,8 +58,8 @@ module _ {J : Type 0} (answers : J → List ℕ → Bool → Type 0)
       × answers job info.job true × EndsBy info job after how
       × (left ≡ slice_set jobs place after))
 
-  -- A task was started, and its start is one of so many durable events. Then it ended by these jobs
-  -- as the note says, and was finished so.
+  -- A task was started, and its start was one of this many durable events. Then these jobs ran it,
+  -- and it was finished with the outcome in the note.
   pub record IsDone (note : Note) (jobs left : List J) : Type 0 where
     pub started : Started
     pub durable : ℕ
@@ -69,7 +70,7 @@ module _ {J : Type 0} (answers : J → List ℕ → Bool → Type 0)
     pub ends : EndsAmong started.info jobs left note.outcome
     pub finish : Answered (call.Finish note.task note.outcome (Ok note.event))
 
-  -- Each of these tasks ended by these jobs, one after the other.
+  -- Each of these tasks was run by these jobs, one after another.
   abbrev pub AreDone : List Note → List J → Type 0
   AreDone [] jobs = ⊤
   AreDone (note ∷ notes) jobs =
@@ -77,7 +78,7 @@ module _ {J : Type 0} (answers : J → List ℕ → Bool → Type 0)
 
 -- ---- starts before turns
 
--- Among these calls the task with this info was started, and its start was one of so many durable
+-- In these calls the task with this info was started, and then its start was one of the durable
 -- events.
 pub record IsStarted (calls : List Call) (info : TaskInfo) : Type 0 where
   pub early : List Call
@@ -89,14 +90,14 @@ pub record IsStarted (calls : List Call) (info : TaskInfo) : Type 0 where
   pub same : info ≡ started.info
   pub counted : started.event ≤ durable
 
--- Before each turn among these calls, the start of its task was durable.
+-- In these calls, the start of a task was durable before each turn of it.
 abbrev pub TurnsFollow : List Call → Type 0
 TurnsFollow calls =
     (early late : List Call) (place : ℕ) (info : TaskInfo) (number : ℕ) (done : Bool)
     (answer : Turn) → calls ≡ early ++ call.Make place info number done answer ∷ late
     → IsStarted early info
 
--- The note is of a task whose start some desk counted among its durable events.
+-- Some desk counted the start of the task in this note among its durable events.
 pub record WasDurable {D : Type 0} (state : D → DiskState) (note : Note) : Type 0 where
   pub started : Started
   pub desk : DeskView D

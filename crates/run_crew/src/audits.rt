@@ -1,5 +1,5 @@
-//! The audit of a night compares the notes of its workers with the finishes in the history, and
-//! looks for tasks that are left.
+//! The audit of a run compares the notes of its workers with the finishes in the history, and
+//! searches for tasks that are left.
 
 ghost use Rattle.std.specs.Prelude.{◌≡◌, ◌++◌, ◌||◌, MatchOption, MatchResult, OnOk};
 ghost use Rattle.std.specs.List.Sorted.{IsPermutation};
@@ -63,7 +63,7 @@ pub fn audit<D: RunDisk, S: Ledger, F: Ledger, O: Opening>(
     }
 }
 
-/// The first stray note, by worker and then by place.
+/// Returns the place of the first stray note, by worker and then by place.
 fn first_stray(made: &Finishes<'_>, lists: &[WorkerNotes]) -> Option<Strayed>
     ensures { MatchOption result (NoStray made.now lists.now)
         (λ strayed. IsFirstStray made.now lists.now strayed) }
@@ -77,7 +77,7 @@ fn first_stray(made: &Finishes<'_>, lists: &[WorkerNotes]) -> Option<Strayed>
     None
 }
 
-/// The place of the first stray one of these notes, after the lists before them.
+/// Returns the place of the first stray note in this list, which comes after the lists `before`.
 fn first_stray_in(made: &Finishes<'_>, before: &[WorkerNotes], notes: &[Note]) -> Option<usize>
     ensures { FirstStrayIn made.now (all_notes before.now) notes.now result }
 {
@@ -89,7 +89,7 @@ fn first_stray_in(made: &Finishes<'_>, before: &[WorkerNotes], notes: &[Note]) -
     None
 }
 
-/// Returns whether a note after these is of no finish that was made, or repeats one of them.
+/// Returns whether a note belongs to no finish that was made, or repeats an earlier note.
 fn is_stray(made: &Finishes<'_>, before: &[WorkerNotes], earlier: &[Note], note: &Note) -> bool
     ensures { result ≡ is_stray made.now (all_notes before.now ++ earlier.now) note.now }
 {
@@ -105,14 +105,14 @@ fn is_any_of(one: bool, two: bool, three: bool) -> bool
     one || two || three
 }
 
-/// Returns whether these workers together noted this.
+/// Returns whether one of these workers has made this note.
 fn have_noted(lists: &[WorkerNotes], note: &Note) -> bool
     ensures { result ≡ has (all_notes lists.now) note.now }
 {
     have_note(lists, note)
 }
 
-/// The ready or running task with the least number.
+/// Returns the lowest number of a task that is ready or running.
 fn first_left(state: &State) -> Option<u16>
     ensures { MatchOption result (NoneLeft state.now.work)
         (λ task. IsFirstLeft state.now.work task) }

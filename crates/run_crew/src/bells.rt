@@ -4,7 +4,7 @@ ghost use Rattle.std.specs.Prelude.{◌<◌, IfSome};
 
 use std::sync::{Condvar, Mutex, Wait};
 
-/// The last event that the bell rang for, and whether it is closed.
+/// The last event for which the bell was rung, and whether it is closed.
 #[derive(Drop)]
 struct Marks {
     event: u64,
@@ -45,8 +45,8 @@ impl Bell {
         self.moved.notify_all();
     }
 
-    /// Waits until the bell has rung for a later event than `heard`, and returns that event; `None`
-    /// if the bell is closed. The bell forgets nothing, so a ring is heard whenever it comes.
+    /// Waits until the bell was rung for a later event than `heard`, and returns that event; `None`
+    /// if the bell is closed. The bell remembers each ring, so no ring is missed.
     pub fn wait<R: Wait>(&self, rt: &R, heard: u64) -> Option<u64>
         ensures later { IfSome result (λ event. heard < event) }
     {

@@ -16,7 +16,7 @@ use run_model::{Outcome, Started, TaskInfo, Text};
 use std::sync::Wait;
 use std::sync::ledger::Ledger;
 
-/// How many turns a task has.
+/// The greatest number of turns of a task.
 const MOST_TURNS: u32 = 1_000;
 
 /// Takes tasks until one of them isn't finished and noted, for example because no task is ready.
@@ -42,8 +42,8 @@ pub fn take_tasks<S: Ledger, F: Ledger, W: WorkerCalls<S, F>, R: Wait>(
     unreachable!()
 }
 
-/// Starts a task, makes its turns, finishes it, and notes that. Returns whether it got that far. It
-/// doesn't if the notes are full, or if the start, its flush or the finish fails.
+/// Starts a task, makes its turns, finishes it, and notes that. Returns whether all of this was
+/// done. It isn't if the notes are full, or if the start, its flush or the finish fails.
 pub fn take_task<S: Ledger, F: Ledger, W: WorkerCalls<S, F>>(
     worker: &mut W,
     seat: &mut Seat<S, F>,
@@ -76,7 +76,7 @@ pub fn take_task<S: Ledger, F: Ledger, W: WorkerCalls<S, F>>(
     true
 }
 
-/// Starts the ready task with the least number, and makes the start durable before the first turn.
+/// Starts the ready task with the lowest number, and makes the start durable before the first turn.
 /// `None` if one of the two fails.
 fn start<S: Ledger, F: Ledger, W: WorkerCalls<S, F>>(
     worker: &mut W,
@@ -97,8 +97,8 @@ fn start<S: Ledger, F: Ledger, W: WorkerCalls<S, F>>(
     }
 }
 
-/// Runs a task by the first job that handles its name, and returns how it ends. Without such a job
-/// it ends as the failure `no such job`.
+/// Runs a task by the first job that handles its name, and returns its outcome. If there is no such
+/// job, the outcome is the failure `no such job`.
 fn run<S: Ledger, F: Ledger, W: WorkerCalls<S, F>>(worker: &mut W, info: &TaskInfo) -> Outcome
     ensures jobs { W.jobs worker.new ≡ W.jobs worker.old }
     ensures calls { Went W.step (λ calls. IsRun (W.jobs worker.old) info.now calls result)
@@ -112,7 +112,7 @@ fn run<S: Ledger, F: Ledger, W: WorkerCalls<S, F>>(worker: &mut W, info: &TaskIn
     failure(b"no such job")
 }
 
-/// Runs a task by this job, and returns how it ends. Before each turn the gate is asked, and then
+/// Runs a task by this job, and returns its outcome. Before each turn it asks the gate, and then
 /// whether the task's scope is done.
 fn make_turns<S: Ledger, F: Ledger, W: WorkerCalls<S, F>>(
     worker: &mut W,
@@ -138,7 +138,7 @@ fn make_turns<S: Ledger, F: Ledger, W: WorkerCalls<S, F>>(
     failure(b"turn limit")
 }
 
-/// A failure with this error.
+/// Returns a failure with this error.
 fn failure(error: &[u8]) -> Outcome
     requires text { IsText error.now }
     ensures { result ≡ outcome.Failure error.now }

@@ -1,4 +1,4 @@
-//! A crew: worker threads run the ready tasks of a store, and the audit of their work is printed.
+//! A crew: worker threads run the ready tasks of a store, and an audit of their work is printed.
 
 ghost use Rattle.std.specs.Prelude.{◌≡◌, ◌+◌, ◌++◌, ◌<◌, ◌≤◌, length, vec_len, MatchResult};
 ghost use Rattle.arrayvec.specs.ArrayVec.{array_vec_len};
@@ -29,15 +29,16 @@ use std::thread::Threads;
 /// Opens the store on a disk, and runs its ready tasks with one thread for each list of jobs, as
 /// [`run_night`](crate::run_night) does. Then it prints the audit: `audit ok; starts S; finishes F`
 /// with the numbers of starts and finishes since the opening, or `audit strayed; worker W; note K`.
-/// Last it prints `acked N`, where N counts all events; they are durable by then. Returns whether
-/// the audit is Ok.
+/// Last it prints `acked N`, where N is the number of all events, which are durable by then.
+/// Returns whether the audit found no difference.
 ///
 /// The fault is `Memory` if memory or the start of a thread was refused, and `Store` if the opening
 /// failed; nothing is printed then. If the last flush fails, only the line of the audit is printed,
 /// and the fault is `Store`: `DiskFailed`, also if the book broke earlier. The fault is `Output` if
 /// not everything could be printed.
 ///
-/// The disk is dropped. [`crew_over`] hands it back, so its contract also says what is left on it.
+/// The disk is dropped. [`crew_over`] returns it, so its contract also says what is left on the
+/// disk.
 pub fn crew<D: RunDisk + Drop + Send, G: Gate + Sync, R: Threads + Wait + Sync, W: Write>(
     rt: &R,
     alloc: Global,
@@ -53,7 +54,7 @@ pub fn crew<D: RunDisk + Drop + Send, G: Gate + Sync, R: Threads + Wait + Sync, 
     done
 }
 
-/// Does what [`crew`] does, and hands the disk back. Whatever it returns, a crash at any moment
+/// Does the same as [`crew`], and returns the disk. Whatever the result is, a crash at any moment
 /// since the call began leaves the state that was stored, or the state after a restart and a prefix
 /// of the crew's starts and finishes. After `acked N` was printed, a crash leaves all N events.
 pub fn crew_over<D: RunDisk + Drop + Send, G: Gate + Sync, R: Threads + Wait + Sync, W: Write>(
@@ -85,7 +86,7 @@ pub fn crew_over<D: RunDisk + Drop + Send, G: Gate + Sync, R: Threads + Wait + S
     }
 }
 
-/// The outcome of a crew, as it is printed.
+/// The result of a crew, which is printed.
 #[derive(Clone, Copy)]
 struct CrewReport {
     audited: Result<(), Strayed>,
@@ -94,8 +95,8 @@ struct CrewReport {
     flushed: Result<u64, Trouble>,
 }
 
-/// Runs the crew over a book that was just opened, for any two ledgers, and for whatever is known
-/// of the book. The disk is handed back.
+/// Runs the crew over a book that was just opened, for any two ledgers, and for any facts that are
+/// known about the book. Returns the disk.
 fn work<
     D: RunDisk + Drop + Send,
     S: Ledger + Send + Sync,
@@ -156,7 +157,7 @@ fn print_report<W: Write>(report: &CrewReport, output: &mut W) -> Result<bool, R
     result_of(report)
 }
 
-/// The result, if everything was printed.
+/// Returns the result of a crew whose report was printed in full.
 fn result_of(report: &CrewReport) -> Result<bool, RunFault>
     ensures { result ≡ result_of report.now.audited report.now.flushed }
 {
@@ -166,8 +167,8 @@ fn result_of(report: &CrewReport) -> Result<bool, RunFault>
     }
 }
 
-/// The trouble of a flush as a caller sees it who saw no earlier one: a book that is broken had a
-/// device failure.
+/// Returns the trouble of a flush for a caller who hasn't seen earlier troubles: `Broken` is
+/// reported as the device failure that broke the book.
 fn of_device(trouble: Trouble) -> Trouble
     ensures { result ≡ of_device trouble }
 {
@@ -213,7 +214,7 @@ fn append_audit(report: &CrewReport, buffer: &mut OutputBuffer)
     }
 }
 
-/// A line of two numbers, each after its words.
+/// Appends a line of two numbers, each after its words.
 fn append_numbers(buffer: &mut OutputBuffer, before: &[u8], one: u64, between: &[u8], other: u64)
     requires room { array_vec_len buffer.old + 128 ≤ 8192 }
     requires few { length before.now + length between.now ≤ 40 }

@@ -27,12 +27,12 @@ use std::marker::{Model, PhantomData};
 use std::sync::ledger::{Blank, Book as Total, Ledger};
 
 /// A book, the number of its events when the desk was made, and the totals of the starts and the
-/// finishes in its history. It is the value of the one lock that all workers share, so each call of
-/// it is one step of the book.
+/// finishes in its history. All workers share it under one lock, so each call of it is one step of
+/// the book.
 ///
-/// The type of the opening stands for what is known of the book when the desk is made. From there
-/// the book carries on, whichever threads hold the lock: [`Desk::book`] ensures that. A desk that
-/// names no opening may be of any book.
+/// The type of the opening stands for the facts about the book when the desk was made. From there
+/// the book carries on, whichever threads hold the lock: [`Desk::book`] ensures that. A desk
+/// without a named opening may be over any book.
 #[derive(Drop)]
 pub struct Desk<D: RunDisk, S: Ledger, F: Ledger, O: Opening = AnyBook> {
     book: Book<D>,
@@ -149,7 +149,7 @@ impl<D: RunDisk, S: Ledger, F: Ledger, O: Opening> Desk<D, S, F, O> {
         self.book.flush()
     }
 
-    /// Flushes, as [`Desk::flush`] does. The history that is flushed has each start and finish that
+    /// Flushes, as [`Desk::flush`] does. The flushed history contains each start and finish that
     /// the seat has counted.
     pub(crate) fn flush_as(&mut self, seat: &mut Seat<S, F>) -> Result<u64, Trouble>
         ensures flushes { FlushesNight D.state O.opening seat.old result }
@@ -188,9 +188,9 @@ impl<D: RunDisk, S: Ledger, F: Ledger, O: Opening> Desk<D, S, F, O> {
         (counts.starts, counts.finishes)
     }
 
-    /// Returns the book, for reading. Whenever the lock is free, its state is the one to which its
-    /// history leads, whatever a crash leaves contains the acknowledged events, and the book
-    /// carries on from what is known of the opening.
+    /// Returns the book, for reading. Whenever the lock is free, the book's state is the one to
+    /// which its history leads, every crash leaves the acknowledged events, and the book carries on
+    /// from the facts known at the opening.
     pub fn book(&self) -> &Book<D>
         ensures book { result.now ≡ self.now.book }
         ensures replays { Replays self.now.book.session }
@@ -202,7 +202,7 @@ impl<D: RunDisk, S: Ledger, F: Ledger, O: Opening> Desk<D, S, F, O> {
         &self.book
     }
 
-    /// Returns how many events there were when the desk was made.
+    /// Returns the number of events when the desk was made.
     pub fn since(&self) -> u64
         ensures { result ≡ self.now.since }
     {
@@ -237,7 +237,7 @@ impl<D: RunDisk, S: Ledger, F: Ledger, O: Opening> Desk<D, S, F, O> {
 }
 
 impl<D: RunDisk, S: Ledger, F: Ledger, O: Obeys> Desk<D, S, F, O> {
-    /// Obeys a command, as [`Book::command`] does.
+    /// Carries out a command, as [`Book::command`] does.
     pub fn command(&mut self, call: &Command) -> Result<Answer, Refusal>
         ensures reply { result ≡ unless_broken self.old.book
             (reply self.old.book.session.state self.old.book.session.log call.now) }

@@ -17,21 +17,21 @@ pub trait FlusherCalls {
     /// the state after it.
     ghost step: { Self → Call → Self → Type 0 };
 
-    /// Waits until the bell has rung for a later event than `heard`, and returns that event; `None`
+    /// Waits until the bell was rung for a later event than `heard`, and returns that event; `None`
     /// if the bell is closed.
     fn wait(&mut self, heard: u64) -> Option<u64>
         ensures step { step self.old (call.Wait heard result) self.new }
         ensures later { IfSome result (λ event. heard < event) };
 
-    /// Waits until all events up to this one are durable, whichever thread flushes, and returns how
-    /// many events are.
+    /// Waits until all events up to this one are durable, whichever thread flushes, and returns the
+    /// number of durable events.
     fn save(&mut self, event: u64) -> Result<u64, Trouble>
         ensures step { step self.old (call.Save event result) self.new }
         ensures reached { IfOk result (λ durable. event ≤ durable) };
 }
 
-/// Makes each event durable for which the bell rings, until the bell is closed. A refused flush
-/// doesn't end it.
+/// Makes each event durable for which the bell is rung, until the bell is closed. It continues
+/// after a refused flush.
 pub fn save_rings<W: FlusherCalls, R: Wait>(rt: &R, flusher: &mut W)
     ensures calls { Went W.step IsFlusherRun flusher.old flusher.new }
 {

@@ -17,26 +17,26 @@ pub enum Turn {
     Failed(Text),
 }
 
-/// What a worker can run for a task. Each worker has a list of jobs of its own; the first that
+/// What a worker can run for a task. Each worker has a list of jobs of its own. The first job that
 /// handles a task's job name runs the task.
 pub trait Job: Drop {
-    /// What it may answer about a job name.
+    /// What the job may answer about a job name.
     ghost answers: { Self → List ℕ → Bool → Type 0 } = { λ _ _ _. ⊤ };
 
     /// What a turn may return, and what it may leave of the job.
     ghost turns: { Self → TaskInfo → ℕ → Bool → Turn → Self → Type 0 } = { λ _ _ _ _ _ _. ⊤ };
 
-    /// Returns whether this job handles tasks of this job name.
+    /// Returns whether this job handles tasks with this job name.
     fn handles(&self, job: &Name) -> bool
         ensures { answers self.now job.now result };
 
-    /// Makes a turn of a task; the first is turn 0. `done` says whether the task's scope is done:
-    /// the job may then end the task or go on. No lock is held during the turn.
+    /// Makes one turn of a task. Turns are counted from 0. `done` says whether the task's scope is
+    /// done; the job may then end the task or go on. No lock is held during the turn.
     fn turn(&mut self, info: &TaskInfo, turn: u32, done: bool) -> Turn
         ensures { turns self.old info.now turn done result self.new };
 }
 
-/// A box of a job is a job: what it answers and leaves is what the job in it answers and leaves.
+/// A box of a job is a job: it answers, and it leaves, what the job in it does.
 impl Job for Box<dyn Job + Send> {
     ghost answers = { λ b name answer. (Job-box b).answers b.value name answer };
 
@@ -52,20 +52,21 @@ impl Job for Box<dyn Job + Send> {
     }
 }
 
-/// Whether turns may be made. All workers share it, and call it without holding a lock.
+/// Decides whether turns may be made. All workers share the gate, and call it without holding a
+/// lock.
 pub trait Gate {
     /// What the gate may answer for a turn of a task.
     ghost lets: { Self → ℕ → ℕ → Bool → Type 0 } = { λ _ _ _ _. ⊤ };
 
-    /// That the gate was told that a task was finished.
+    /// The gate was informed that this task was finished.
     ghost told: { Self → ℕ → Type 0 } = { λ _ _. ⊤ };
 
-    /// Returns whether a worker may make this turn of a task. If it may not, the task ends as the
+    /// Returns whether a worker may make this turn of a task. If not, the task ends with the
     /// failure `gate`.
     fn before(&self, task: u16, turn: u32) -> bool
         ensures { lets self.now task turn result };
 
-    /// Tells the gate that a task was finished.
+    /// Informs the gate that a task was finished.
     fn finished(&self, task: u16)
         ensures { told self.now task };
 }

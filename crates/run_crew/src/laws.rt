@@ -1,4 +1,5 @@
-//! What follows from the contract of [`run_night`](crate::run_night) for the notes of each worker.
+//! Laws about the notes of each worker, which follow from the contract of
+//! [`run_night`](crate::run_night).
 
 ghost use Rattle.std.specs.Prelude.{ℕ, All, List};
 ghost use Rattle.run_crew.specs.Courses.{Call, IsOfShift, IsShift};
@@ -9,18 +10,18 @@ ghost use Rattle.run_crew.specs.declared.notes.Note.{Note};
 use crate::jobs::{Gate, Job};
 use run_disk::RunDisk;
 
-/// Each task that a worker has noted was started, and then ran by the first of the worker's jobs
-/// that handles its name. The outcome in the note is the answer of the job's last turn, or the
-/// failure `gate`, `turn limit` or `no such job`. Every turn was made once, by the job that the
-/// turn before it left.
+/// Each task in a worker's notes was started, and then run by the first of the worker's jobs that
+/// handles its name. The outcome in the note is the answer of the job's last turn, or the failure
+/// `gate`, `turn limit` or `no such job`. Every turn was made once, by the job as the turn before
+/// had left it.
 pub fn notes_are_what_the_jobs_answered<D: RunDisk, G: Gate, J: Job>()
     ensures { (gate : G) (jobs : List J) (notes : List Note)
         → IsOfShift (OfDesk D.state (G.lets gate) (G.told gate)) J.answers J.turns jobs notes
         → AreDone J.answers J.turns (OfDesk D.state (G.lets gate) (G.told gate)) notes jobs }
 {}
 
-/// A worker makes no turn of a task before it has learned that the task's start is durable. Some
-/// desk then counted the start among its durable events.
+/// A worker makes no turn of a task before it has learned that the task's start is durable. By then
+/// some desk has counted the start among its durable events.
 pub fn each_start_is_durable_before_its_turns<D: RunDisk, G: Gate, J: Job>()
     ensures order { (jobs : ℕ) (notes : List Note) (calls : List Call) → IsShift jobs notes calls
         → TurnsFollow calls }

@@ -1,4 +1,4 @@
-//! A night over a desk: one worker for each list of jobs, and one more thread that flushes.
+//! A run over a desk: one worker for each list of jobs, and one more thread that flushes.
 
 ghost use Rattle.std.specs.Prelude.{◌≡◌, ◌⊎◌, ◌<◌, ◌≤◌, [], All, map, vec_len, vec_capacity};
 ghost use Rattle.std.specs.Prelude.{IfOk, IfErr, OnOk};
@@ -30,13 +30,13 @@ use std::thread;
 use std::thread::{PromisedHandle, Scope, Threads};
 
 /// Runs the ready tasks of the book under the lock, by one thread for each list of jobs, and then
-/// flushes. The seat needs one part for each list, and one more for the thread that makes finishes
-/// durable. Returns the notes of the workers, in the order of the lists, and the result of the last
-/// flush.
+/// flushes. The seat must have one part for each list, and one more for the thread that makes
+/// finishes durable. Returns the notes of the workers, in the order of the lists, and the result of
+/// the last flush.
 ///
 /// Each worker repeats these steps: it starts the ready task with the lowest number, makes the
 /// start durable, makes the turns by the first of its jobs that handles the task, finishes the
-/// task, and notes that. It ends when no task is ready, when a start, a flush of a start or a
+/// task, and notes the finish. It ends when no task is ready, when a start, a flush of a start or a
 /// finish is refused, or when its notes are full. One more thread makes the finishes durable. A
 /// flush includes everything that is under way, so starts share flushes. No lock is held while a
 /// job or the gate runs.
@@ -75,7 +75,7 @@ pub fn run_night<
     Ok((lists?, last))
 }
 
-/// Does what [`run_night`] does, but for the last flush.
+/// Does the same as [`run_night`], without the last flush.
 pub fn run_shifts<
     T: CountedPlace<S, F> + Send,
     S: Ledger + Send + Sync,
@@ -117,7 +117,7 @@ pub fn run_shifts<
     Ok(notes)
 }
 
-/// What each worker begins with: its list of jobs, and one part of the seat.
+/// Returns what each worker begins with: its list of jobs, and one part of the seat.
 fn workers_of<S: Ledger, F: Ledger, J: Job>(
     alloc: Global,
     seat: &mut Seat<S, F>,
@@ -141,8 +141,8 @@ fn workers_of<S: Ledger, F: Ledger, J: Job>(
     Ok(workers)
 }
 
-/// What the workers leave, each in a thread of its own, beside a thread that flushes. All room is
-/// made before the first thread, and every thread is joined.
+/// Returns what the workers leave. Each runs in a thread of its own, next to a thread that flushes.
+/// All memory is taken before the first thread is started, and every thread is joined.
 fn shifts_of<
     T: CountedPlace<S, F> + Send,
     S: Ledger + Send + Sync,
@@ -252,7 +252,7 @@ fn start_each<
     }
 }
 
-/// What the threads leave, if each of so many has left something.
+/// Returns what the threads leave, if each of this many has left something.
 fn joined<S: Ledger, F: Ledger, T: CountedPlace<S, F>, G: Gate, J: Job, R: Threads>(
     rt: &R,
     gate: &G,
@@ -279,7 +279,7 @@ fn joined<S: Ledger, F: Ledger, T: CountedPlace<S, F>, G: Gate, J: Job, R: Threa
     Ok(shifts)
 }
 
-/// Makes durable whatever the bell rings for, until it is closed.
+/// Makes each event durable for which the bell is rung, until the bell is closed.
 fn save_at<T: Place, R: Wait>(rt: &R, shared: &Mutex<T>, arrivals: &Arrivals, bell: &Bell) {
     let mut flusher = ThreadFlusher {
         rt,
@@ -290,7 +290,8 @@ fn save_at<T: Place, R: Wait>(rt: &R, shared: &Mutex<T>, arrivals: &Arrivals, be
     save_rings(rt, &mut flusher);
 }
 
-/// Takes the parts back, and puts the notes of the shifts into a list that has room for them.
+/// Takes the parts back, and moves the notes of the shifts into a list, which must have the
+/// capacity.
 fn gather<S: Ledger, F: Ledger>(
     seat: &mut Seat<S, F>,
     shifts: Vec<WorkerEnd<S, F>>,

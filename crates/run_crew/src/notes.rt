@@ -21,7 +21,7 @@ pub struct Note {
     pub outcome: Outcome,
 }
 
-/// The notes of one worker, in the order of its finishes. There is room for exactly 8,192.
+/// The notes of one worker, in the order of its finishes. Exactly 8,192 of them fit.
 #[derive(Drop)]
 pub struct WorkerNotes {
     notes: Vec<Note>,
@@ -41,7 +41,7 @@ impl Model for WorkerNotes {
 }
 
 impl WorkerNotes {
-    /// Returns an empty list with room for 8,192 notes. `Memory` if it is refused.
+    /// Returns an empty list with a capacity of 8,192 notes. `Memory` if memory is refused.
     pub fn with_room(alloc: Global) -> Result<WorkerNotes, Fault>
         ensures empty { IfOk result (λ notes. notes ≡ []) }
         ensures fault { IfErr result (λ fault. fault ≡ Memory) }
@@ -60,7 +60,7 @@ impl WorkerNotes {
         self.notes.push_reserved(note);
     }
 
-    /// Returns whether there is no room for another note.
+    /// Returns whether no further note fits.
     pub fn is_full(&self) -> bool
         ensures full { result ≡ (length self.now == MOST_TASKS) }
         ensures most { length self.now ≤ MOST_TASKS }

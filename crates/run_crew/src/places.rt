@@ -13,16 +13,16 @@ use std::sync::ledger::Ledger;
 
 /// The calls that aren't counted in a seat.
 pub trait Place {
-    /// That this many events are durable.
+    /// This many events are durable.
     ghost holds: { Self → ℕ → Type 0 };
 
     /// What a flush may return and leave.
     ghost flushes: { Self → Result ℕ Trouble → Self → Type 0 };
 
-    /// What it may answer about the scope of a task.
+    /// What the place may answer about the scope of a task.
     ghost tells: { Self → ℕ → Bool → Type 0 };
 
-    /// Returns how many events are durable.
+    /// Returns the number of durable events.
     fn durable(&self) -> u64
         ensures { holds self.now result };
 

@@ -6,7 +6,7 @@ ghost use Rattle.run_crew.specs.Seats.{CountsSame, GivesParts, SeatView, joined,
 use std::marker::Model;
 use std::sync::ledger::{Ledger, Share};
 
-/// A share of the total of starts, and a share of the total of finishes. It takes no bytes. A seat
+/// A share of the total of starts, and a share of the total of finishes. It takes no memory. A seat
 /// with every part has counted all starts and finishes.
 ///
 /// Only a total can add to a share. To split or merge shares moves parts and amounts, and neither

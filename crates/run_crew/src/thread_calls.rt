@@ -14,8 +14,8 @@ use run_model::{Name, Outcome, Refusal, Started, TaskInfo, Trouble};
 use std::sync::ledger::Ledger;
 use std::sync::{Mutex, Wait};
 
-/// Each call goes to the value under the lock, which is released after it; to the gate, which stays
-/// the same; to one of the worker's own jobs; or to the bell.
+/// The calls of a worker in a thread. Each goes to the value under the lock, which is released
+/// after it, to the gate, which stays the same, to one of the worker's own jobs, or to the bell.
 #[derive(Drop)]
 pub struct ThreadCalls<'a, T, G, R, J> {
     pub rt: &'a R,

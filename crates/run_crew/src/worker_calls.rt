@@ -11,16 +11,16 @@ use run_model::{Name, Outcome, Refusal, Started, TaskInfo, Trouble};
 use std::sync::ledger::Ledger;
 
 /// The calls of a worker. Each implementation defines what a call may do. The contract of a worker
-/// holds for all of them. So it states which calls the worker makes, and in which order.
+/// holds for all of them, so it states which calls the worker makes, and in which order.
 pub trait WorkerCalls<S: Ledger, F: Ledger> {
     /// What a call may do, as a relation between the state before it, the call with its answer, and
     /// the state after it.
     ghost step: { Self → Call → Self → Type 0 };
 
-    /// How many jobs there are.
+    /// The number of jobs.
     ghost jobs: { Self → ℕ };
 
-    /// Returns how many jobs there are.
+    /// Returns the number of jobs.
     fn jobs(&self) -> usize
         ensures { result ≡ jobs self.now };
 
@@ -32,14 +32,14 @@ pub trait WorkerCalls<S: Ledger, F: Ledger> {
         ensures seat { MatchResult result (λ _. seat.new ≡ one_start seat.old)
             (λ _. seat.new ≡ seat.old) };
 
-    /// Waits until all events up to this one are durable, whichever thread flushes, and returns how
-    /// many events are.
+    /// Waits until all events up to this one are durable, whichever thread flushes, and returns the
+    /// number of durable events.
     fn save(&mut self, event: u64) -> Result<u64, Trouble>
         ensures step { step self.old (call.Save event result) self.new }
         ensures reached { IfOk result (λ durable. event ≤ durable) }
         ensures jobs { jobs self.new ≡ jobs self.old };
 
-    /// Asks the job of this place whether it handles this name.
+    /// Asks the job at this place whether it handles this name.
     fn handles(&mut self, job: usize, name: &Name) -> bool
         requires place { job < jobs self.old }
         ensures step { step self.old (call.Handles job name.now result) self.new }
@@ -55,7 +55,7 @@ pub trait WorkerCalls<S: Ledger, F: Ledger> {
         ensures step { step self.old (call.Scope task result) self.new }
         ensures jobs { jobs self.new ≡ jobs self.old };
 
-    /// Lets the job of this place make a turn of a task.
+    /// Lets the job at this place make a turn of a task.
     fn turn(&mut self, job: usize, info: &TaskInfo, turn: u32, done: bool) -> Turn
         requires place { job < jobs self.old }
         ensures step { step self.old (call.Make job info.now turn done result) self.new }

@@ -32,8 +32,8 @@ pub struct WorkerStart<S: Ledger, F: Ledger, J> {
     ghost no_notes: { length notes ≡ 0 },
 }
 
-/// What a worker leaves: its part of each share, with a finish for each note, and at most one start
-/// more.
+/// What a worker leaves: its part of each share, with one finish for each note, and as many starts
+/// or one more.
 #[derive(Drop)]
 pub struct WorkerEnd<S: Ledger, F: Ledger> {
     pub seat: Seat<S, F>,
@@ -46,7 +46,7 @@ pub struct WorkerEnd<S: Ledger, F: Ledger> {
 }
 
 /// Promises that a worker leaves the notes of a shift with these jobs, at this gate and at a lock
-/// with a value of this type.
+/// over a value of this type.
 #[derive(Drop)]
 pub struct ShiftOf<'a, T, G, J> {
     pub gate: &'a G,
@@ -61,7 +61,7 @@ impl<'a, S: Ledger, F: Ledger, T: CountedPlace<S, F>, G: Gate, J: Job> Promise<W
 }
 
 impl<S: Ledger, F: Ledger, J: Job> WorkerStart<S, F, J> {
-    /// What a worker with these jobs begins with.
+    /// Returns what a worker with these jobs begins with.
     pub fn new(jobs: Vec<J>, seat: Seat<S, F>, notes: WorkerNotes) -> WorkerStart<S, F, J>
         requires seat { seat ≡ one_part }
         requires notes { notes ≡ [] }
@@ -70,7 +70,8 @@ impl<S: Ledger, F: Ledger, J: Job> WorkerStart<S, F, J> {
         WorkerStart { jobs, seat, notes }
     }
 
-    /// Takes tasks until one isn't finished and noted, such as when none is ready.
+    /// Takes tasks until one of them isn't finished and noted, for example because no task is
+    /// ready.
     pub fn work<T: CountedPlace<S, F>, G: Gate, R: Wait>(
         self,
         rt: &R,

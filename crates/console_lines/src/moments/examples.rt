@@ -1,13 +1,13 @@
 //! Examples of the definitions: the moments that words stand for, and the texts of moments. The
 //! dates were counted by another program.
 //!
-//! Each function has an empty body, and its clauses are the examples: they are computed from the
-//! definition alone, without any of the code that reads a word.
+//! Each function has an empty body, and its clauses are the examples. They are computed from the
+//! definition only, without any of the code that reads a word.
 #![tactic(auto, unfolding(crate::proofs::OnLiterals::nights_on_literals))]
 
 ghost use Rattle.console_lines.specs.MomentExamples.{HasText, IsNoMoment, IsOutOfRange, Writes};
 
-/// Digits are seconds, and may begin with zeros.
+/// Digits are seconds, and there may be leading zeros.
 pub fn digits_are_seconds()
     ensures zero { Writes "0" 0 }
     ensures zeros { Writes "000000000007" 7 }
@@ -45,7 +45,7 @@ pub fn the_ends_of_the_range_are_moments()
     ensures past { IsOutOfRange "9987-04-02T17:46:41Z" }
 {}
 
-/// A moment has its date and time, also in leap years, and at the ends of months and years.
+/// Moments and their dates and times, also in leap years, and at the ends of months and years.
 pub fn moments_have_texts()
     ensures first { HasText 0 "1970-01-01T00:00:00Z" }
     ensures leap { HasText 951827696 "2000-02-29T12:34:56Z" }

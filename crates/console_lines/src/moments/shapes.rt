@@ -1,4 +1,5 @@
-//! A shape gives what each byte of a word has to be: `d` a digit, all else itself.
+//! A shape says what each byte of a word has to be: `d` stands for a digit, and every other byte
+//! for itself.
 
 ghost use Rattle.std.specs.List.{list_all, zip};
 ghost use Rattle.std.specs.Prelude.{◌≡◌, IsTrue, length};
