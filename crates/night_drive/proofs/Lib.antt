@@ -1,2 +1,10 @@
 pub mod Opening
 pub mod Reading
+pub mod Searching
+pub mod Staying
+pub mod Turning
+pub mod Starting
+pub mod Finishing
+pub mod Withdrawing
+pub mod Leaving
+pub mod Hitting

@@ -1,16 +1,21 @@
 -- A store with the rows of two nights.
 use Rattle.std.specs.Prelude.{ℕ, ◌+◌, false, true, List, [], ◌∷◌, Option, Some, None, codes}
+use Rattle.std.specs.Prelude.{fold}
 use Rattle.run_model.specs.declared.groups.Group.{Group}
 use Rattle.run_model.specs.declared.layouts.Layout.TheVariants.{Small}
 use Rattle.run_model.specs.declared.scopes.Hit.{Hit}
 use Rattle.run_model.specs.declared.scopes.Kind.TheVariants as kind
 use Rattle.run_model.specs.declared.scopes.Reason.TheVariants.{Canceled}
 use Rattle.run_model.specs.declared.scopes.Scope.{Scope}
+use Rattle.run_model.specs.declared.tasks.Outcome.TheVariants as outcome
 use Rattle.run_model.specs.declared.tasks.Stage.{Stage}
 use Rattle.run_model.specs.declared.tasks.Stage.TheVariants as stage
 use Rattle.run_model.specs.declared.tasks.Task.{Task}
+use Rattle.run_model.specs.Event.{Event}
+use Rattle.run_model.specs.Event as event
 use Rattle.run_model.specs.Rows.{new_group, new_scope, root}
 use Rattle.run_model.specs.State.{State}
+use Rattle.run_model.specs.Step.{step}
 use Rattle.night_plan.specs.declared.facts.Known.{Known}
 use Rattle.night_plan.specs.declared.facts.Phase.{Phase}
 use Rattle.night_drive.specs.Seen.{known_of}
@@ -90,9 +95,25 @@ first = None
 abbrev pub second : Option (List ℕ)
 second = Some (codes "2")
 
--- The facts about a command, if task n ended at 1000 + n.
+-- Task n ended, or will have ended, at 1000 + n.
+abbrev pub moments : ℕ → ℕ
+moments n = 1000 + n
+
+-- The facts about a command.
 abbrev pub known_in : (night : Option (List ℕ)) → (group key : List ℕ) → Known
-known_in night group key = known_of two_nights (λ n. 1000 + n) night group key
+known_in night group key = known_of two_nights moments night group key
+
+-- The facts about it in the second night, after an event.
+abbrev pub known_after : Event → (group key : List ℕ) → Known
+known_after e group key = known_of (step two_nights e) moments second group key
+
+-- The state after these events.
+abbrev pub after_all : List Event → State
+after_all events = fold step two_nights events
+
+-- Task n is withdrawn.
+abbrev pub withdrawal : ℕ → Event
+withdrawal n = event.Finish n (outcome.Failure (codes "withdrawn"))
 
 -- A command that is in this phase, and has failed this many times.
 abbrev pub row : Phase → (failures : ℕ) → Known

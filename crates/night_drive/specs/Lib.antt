@@ -3,4 +3,5 @@ pub mod Searches
 pub mod Tries
 pub mod Seen
 pub mod Openings
+pub mod Turns
 pub mod Examples

@@ -3,18 +3,24 @@
 //!
 //! Each function has an empty body, and its clauses are the example.
 
-ghost use Rattle.std.specs.Prelude.{◌≡◌, [], ◌∷◌, codes, false, map, true};
+ghost use Rattle.std.specs.Prelude.{◌≡◌, [], ◌∷◌, codes, false, map, None, true};
+ghost use Rattle.run_model.specs.Allowed.{allowed};
+ghost use Rattle.run_model.specs.declared.tasks.Outcome.TheVariants as outcome;
+ghost use Rattle.run_model.specs.Event as event;
+ghost use Rattle.run_model.specs.Step.{step};
 ghost use Rattle.night_plan.specs.declared.facts.Phase.TheVariants as phase;
-ghost use Rattle.night_drive.specs.Examples.{first, known_in, row, second, two_nights};
+ghost use Rattle.night_drive.specs.Examples.{after_all, first, known_after, known_in, moments, row};
+ghost use Rattle.night_drive.specs.Examples.{second, two_nights, withdrawal};
 ghost use Rattle.night_drive.specs.Names.{belongs};
-ghost use Rattle.night_drive.specs.Seen.{is_over};
+ghost use Rattle.night_drive.specs.Seen.{is_over, known_of};
+ghost use Rattle.night_drive.specs.Turns.{IsLast, is_task};
 
 /// In a store the group `disks` is called `disks`, `disks--2` or `disks--2-3`. The name `disks-` is
 /// that of another group, and so is `disks---2`, its name in a second night.
 pub fn a_name_may_have_a_round()
-    ensures own { map (belongs (codes "disks")) (codes "disks" ∷ codes "disks--2" ∷ codes "disks--2-3"
-        ∷ codes "disk" ∷ codes "disks-" ∷ codes "disks---2" ∷ codes "disks2" ∷ [])
-        ≡ true ∷ true ∷ true ∷ false ∷ false ∷ false ∷ false ∷ [] }
+    ensures own { map (belongs (codes "disks")) (codes "disks" ∷ codes "disks--2"
+        ∷ codes "disks--2-3" ∷ codes "disk" ∷ codes "disks-" ∷ codes "disks---2"
+        ∷ codes "disks2" ∷ []) ≡ true ∷ true ∷ true ∷ false ∷ false ∷ false ∷ false ∷ [] }
     ensures other { belongs (codes "disks-") (codes "disks---2") ≡ true }
 {}
 
@@ -47,4 +53,64 @@ pub fn a_group_is_done_with_its_scope()
     ensures canceled { is_over two_nights second (codes "tapes") ≡ true }
     ensures open { is_over two_nights second (codes "disks") ≡ false }
     ensures earlier { is_over two_nights first (codes "tapes") ≡ false }
+{}
+
+/// Task 8 is a task of `d`, and no later task is a try of `d`. Its start begins `d`, but not `a` and
+/// not the `d` of the tapes.
+pub fn a_start_is_a_begin()
+    ensures may { allowed two_nights (event.Start 8) ≡ true }
+    ensures own { is_task two_nights second (codes "disks") (codes "d") 8 ≡ true }
+    ensures last { IsLast two_nights second (codes "disks") (codes "d") 8 }
+    ensures begun { known_after (event.Start 8) (codes "disks") (codes "d") ≡ row phase.Busy 0 }
+    ensures same { known_after (event.Start 8) (codes "disks") (codes "a")
+        ≡ row (phase.Failed 1004) 2 }
+    ensures elsewhere { known_after (event.Start 8) (codes "tapes") (codes "d")
+        ≡ row phase.Fresh 0 }
+{}
+
+/// Task 7 is a running try of `c`, and the last one. When it ends, `c` has ended, but `a` hasn't.
+pub fn a_finish_is_an_end()
+    ensures may { allowed two_nights (event.Finish 7 outcome.Success) ≡ true }
+    ensures own { is_task two_nights second (codes "disks") (codes "c") 7 ≡ true }
+    ensures last { IsLast two_nights second (codes "disks") (codes "c") 7 }
+    ensures well { known_after (event.Finish 7 outcome.Success) (codes "disks") (codes "c")
+        ≡ row phase.EndedOk 0 }
+    ensures failed { known_after (event.Finish 7 (outcome.Failure (codes "exit 1"))) (codes "disks")
+        (codes "c") ≡ row (phase.Failed 1007) 1 }
+    ensures canceled { known_after (event.Finish 7 (outcome.Failure (codes "canceled: enough")))
+        (codes "disks") (codes "c") ≡ row phase.Canceled 0 }
+    ensures same { known_after (event.Finish 7 outcome.Success) (codes "disks") (codes "a")
+        ≡ row (phase.Failed 1004) 2 }
+{}
+
+/// If a task is withdrawn, its command is in the phase in which an earlier try left it.
+pub fn a_withdrawal_is_no_turn()
+    ensures may { allowed two_nights (event.Retry 3) ≡ true }
+    ensures interrupted { known_of (after_all (event.Retry 3 ∷ event.Start 8 ∷ withdrawal 8
+        ∷ event.Start 9 ∷ withdrawal 9 ∷ [])) moments second (codes "disks") (codes "b")
+        ≡ row phase.Interrupted 0 }
+    ensures begun { known_of (after_all (event.Retry 3 ∷ event.Start 8 ∷ withdrawal 8
+        ∷ event.Start 9 ∷ [])) moments second (codes "disks") (codes "b") ≡ row phase.Busy 0 }
+{}
+
+/// After a cancel of their scope, or of the scope of their night, the disks are done. After a cancel
+/// in another night they aren't. A cancel changes no fact about a command.
+pub fn a_cancel_is_a_stop()
+    ensures may { allowed two_nights (event.Cancel 6 None) ≡ true }
+    ensures own { is_over (step two_nights (event.Cancel 6 None)) second (codes "disks") ≡ true }
+    ensures above { is_over (step two_nights (event.Cancel 3 None)) second (codes "disks") ≡ true }
+    ensures other { is_over (step two_nights (event.Cancel 2 None)) second (codes "disks")
+        ≡ false }
+    ensures command { known_after (event.Cancel 6 None) (codes "disks") (codes "c")
+        ≡ row phase.Busy 0 }
+{}
+
+/// The deadline of the disks is at 9000. They are done when the clock is there, and not a moment
+/// before that. The clock changes no fact about a command.
+pub fn an_advance_is_a_stop()
+    ensures may { allowed two_nights (event.Advance 9000) ≡ true }
+    ensures come { is_over (step two_nights (event.Advance 9000)) second (codes "disks") ≡ true }
+    ensures open { is_over (step two_nights (event.Advance 8999)) second (codes "disks") ≡ false }
+    ensures command { known_after (event.Advance 9000) (codes "disks") (codes "c")
+        ≡ row phase.Busy 0 }
 {}

@@ -4,8 +4,8 @@
 //! store knows how far a night had come. [`seen`](seen::seen) reads the rows of a state, and
 //! returns the facts on which the decisions of `night_plan` rest: how far each command has come,
 //! how often it has failed, and which groups are done. `names` says how commands are named in a
-//! store, `tries` what a task shows of its command, and `openings` what an opening changes.
-//! `examples` has a store with the tasks of two nights.
+//! store, `tries` what a task shows of its command, `turns` what each event changes, and `openings`
+//! what an opening changes. `examples` has a store with the tasks of two nights.
 #![tactic(auto)]
 
 pub mod ends;
@@ -15,3 +15,4 @@ pub mod nights;
 pub mod openings;
 pub mod seen;
 pub mod tries;
+pub mod turns;
