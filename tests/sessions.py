@@ -6,7 +6,7 @@ import re
 
 Shown = list[tuple[str, list[str]]]
 # What no session of a page begins with: a file, a crontab's line, or text that is no command.
-OTHERS = re.compile(r"# the file |[\d@]|ask\(")
+OTHERS = re.compile(r"# the file |[\d@*]|ask\(")
 
 
 def blocks_of(page: str) -> list[list[str]]:
