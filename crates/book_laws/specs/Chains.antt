@@ -26,11 +26,11 @@ disk_in (Err stopped) = stopped.1
 
 -- ---- at the end
 
--- In a user's words: a store of state p was opened, and the steps over it were answered one after
--- another, as by a book that isn't broken after them. All accepted events, in order and without a
--- gap, lead from the opening to one state. The store was opened again after a restart of that
--- state. The restart interrupts the tasks that were running. Apart from that it changes only the
--- count, and what an interruption does to a group and to the scope of the group.
+-- In a user's words: a store of state p was opened. The steps were answered one after another, as a
+-- book may answer them, and the book wasn't broken at their end. All accepted events, in order and
+-- without a gap, lead from the opening to one state. The store was opened again after a restart of
+-- that state. The restart interrupts the tasks that were running. Apart from that it changes only
+-- the count, and what an interruption does to a group and to the scope of the group.
 pub record HasLasted (p : State) (steps : List Step) (before replies : List Reply) (b : Session)
     : Type 0 where
   pub answers : List Reply

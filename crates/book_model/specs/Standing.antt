@@ -25,15 +25,16 @@ pub record Finds {D : Type 0} (state : D → DiskState) (left : List ℕ → Typ
   pub rest : IsAtRest (state next)
   pub content : left (state next).now
 
--- The opening returns, but its result isn't used: a crash came at some moment since it began, or
--- the book was dropped. The next opening finds what that left.
+-- An opening returns a book or a fault, and whatever it returns is given up, because a crash came
+-- at some moment since it began. The next opening finds what that crash left.
 pub record CutsOpening {D : Type 0} (state : D → DiskState) (given next : D) : Type 0 where
   pub result : Result (BookView D) (Fault × D)
   pub opens : Opens state given result
   pub finds : Finds state ((state (disk_after result)).since (state given).clock) next
 
--- These steps are taken, but a crash comes at some moment since the first one began, before anybody
--- sees the replies. The next opening finds what that left.
+-- A crash comes at some moment while these steps are taken, and nobody sees their replies. (The
+-- disk after all the steps knows what a crash at each earlier moment would have left.) The next
+-- opening finds what that crash left.
 pub record CutsSteps {D : Type 0} (state : D → DiskState) (h : BookView D) (more : List Step)
     (next : D) : Type 0 where
   pub untold : List Reply

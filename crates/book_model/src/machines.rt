@@ -19,8 +19,8 @@ use run_disk::RunDisk;
 
 /// A book over a disk does what the machine does. Take any calls, crashes and openings, one after
 /// another, where each opening finds an honest disk at rest that holds what a crash may have left.
-/// Then the machine makes the same moves, reply for reply. The same is true of a book that
-/// continues from the place where a machine is.
+/// Then the machine makes the same moves, reply for reply. The same is true of a book and a machine
+/// that start in the same situation.
 pub fn a_book_is_a_machine<D: RunDisk>()
     ensures store { (given : D) (p : State) (moves : List Move) (new : Standing D)
         → LiesWith D.state given p → DoesAll D.state (Closed given) moves new
@@ -42,8 +42,9 @@ pub fn a_machine_answers_from_its_history()
 /// However many sessions follow one another, nothing that was acknowledged is lost. The state after
 /// the last session is that of the first store, changed session by session: by a restart, by every
 /// event that the replies of the session acknowledged, and perhaps by some more of the events that
-/// it accepted, in order and without a gap. This holds for the machine, and also for a book over
-/// disks, each of which holds what a crash of the one before has left.
+/// it accepted, in order and without a gap. This holds for a machine that models a book without a
+/// disk (`machine`). It also holds for real books (`books`), if the disk of each session holds what
+/// a crash has left of the disk before it.
 pub fn many_nights_lose_nothing_acknowledged<D: RunDisk>()
     ensures machine { (p q : State) (nights : List Night)
         → GoesOn (Stored p) (flat_map moves_of nights) (Stored q) → LeadOver p nights q }

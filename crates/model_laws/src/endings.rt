@@ -10,14 +10,15 @@ ghost use Rattle.model_laws.specs.Endings.{EndingsStayThroughRuns};
 ghost use Rattle.model_laws.specs.Endings.{DerivesKeepEndings, CancelsKeepEndings};
 ghost use Rattle.model_laws.specs.Endings.{AdvancesKeepEndings, LevelHitsKeepEndings};
 
-/// A scope that is done keeps its reason and its cause through every event, restarts included.
+/// In a well-formed state, a scope that is done keeps its reason and its cause through every
+/// allowed event, restarts included.
 pub fn endings_stay()
     ensures events { EndingsStayThroughEvents }
     ensures runs { EndingsStayThroughRuns }
 {}
 
 /// If each scope that was done is still done by the same hit, it is done for the same reason and
-/// with the same cause.
+/// with the same cause. (The hit that made a scope done is its ending.)
 pub fn reasons_and_causes_stay()
     ensures reasons { (old new : List Scope) → EndingsStay old new → (s : ℕ) (reason : Reason)
         → reason_of old s ≡ Some reason → reason_of new s ≡ Some reason }
@@ -25,8 +26,8 @@ pub fn reasons_and_causes_stay()
         → cause_of old s ≡ Some cause → cause_of new s ≡ Some cause }
 {}
 
-/// If the number of an event is greater than those of all hits of a tree, its change of the tree
-/// leaves every ending as it was.
+/// If the number of an event is greater than that of each hit of a tree, the event leaves the hit
+/// that made a scope done, its ending, as it was.
 pub fn changes_keep_endings()
     ensures derive { DerivesKeepEndings }
     ensures cancel { CancelsKeepEndings }

@@ -15,8 +15,8 @@ ghost use Rattle.night_drive.specs.Names.{belongs};
 ghost use Rattle.night_drive.specs.Seen.{is_over, known_of};
 ghost use Rattle.night_drive.specs.Turns.{IsLast, is_task};
 
-/// In a store the group `disks` is called `disks`, `disks--2` or `disks--2-3`. The name `disks-` is
-/// that of another group, and so is `disks---2`, its name in a second night.
+/// In a store the group `disks` is called `disks`, `disks--2` or `disks--2-3`. `disks-` is another
+/// group, and `disks---2` is the name of that group in its second night.
 pub fn a_name_may_have_a_round()
     ensures own { map (belongs (codes "disks")) (codes "disks" ∷ codes "disks--2"
         ∷ codes "disks--2-3" ∷ codes "disk" ∷ codes "disks-" ∷ codes "disks---2"
@@ -47,8 +47,8 @@ pub fn a_night_does_not_count_for_another_one()
     ensures later { known_in first (codes "disks") (codes "c") ≡ row phase.Fresh 0 }
 {}
 
-/// A group is done if its last scope in the night is done. The scope of a deadline and the scopes
-/// of other nights don't count.
+/// A group is done if the last scope that it has in the night is done. The scope of its deadline
+/// doesn't count, and neither do scopes of another night.
 pub fn a_group_is_done_with_its_scope()
     ensures canceled { is_over two_nights second (codes "tapes") ≡ true }
     ensures open { is_over two_nights second (codes "disks") ≡ false }

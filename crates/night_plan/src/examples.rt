@@ -125,8 +125,9 @@ pub fn six_commands_stand_by_the_rules()
         → MustStop (six none well ends fails nothing one two after_a_failure) 3 }
 {}
 
-/// A failure leaves alone what runs of a group that only stops. It stops two of the three kinds of
-/// groups, and cancels one.
+/// A failure doesn't stop a running command of its group if the way of the group is `stop`. In two
+/// of the three ways no other command of the group begins, and in one of them the running ones have
+/// to stop, too.
 pub fn a_group_that_stops_lets_run_what_runs()
     ensures runs { (none well ends fails : Vec NeedLine) (nothing one two : Vec TakeLine)
         → MustStop (six none well ends fails nothing one two while_one_runs) 1 → ⊥ }

@@ -5,19 +5,20 @@
 ghost use Rattle.night_plan.specs.Sessions.{IsReportedNoMore, ReportsAreBounded};
 ghost use Rattle.night_plan.specs.Sessions.{ReportsAreInOrder};
 
-/// If it is acknowledged that a command ended well, no later session reports the command.
+/// If it is acknowledged that a command ended well, no later session tells its executor to begin
+/// the command.
 pub fn what_ended_ok_is_reported_no_more()
     ensures { IsReportedNoMore }
 {}
 
-/// In a fresh night, a command is reported at most once, and once more for each retry, each
-/// interruption and each crash.
+/// In a fresh night, an executor is told to begin a command at most once, and once more for each
+/// retry, each interruption and each crash.
 pub fn reports_are_bounded()
     ensures { ReportsAreBounded }
 {}
 
-/// When the beginning of a command is acknowledged, the ends of all commands that it needs to have
-/// ended well were acknowledged before.
+/// If the beginning of a command is acknowledged, then each command that it needs to have ended
+/// well had ended so when the session began, or its end is acknowledged, too.
 pub fn reports_are_in_order()
     ensures { ReportsAreInOrder }
 {}

@@ -50,8 +50,8 @@ fn is_cut_off(stopped: bool, cancels: bool) -> bool
     stopped && cancels
 }
 
-/// A cleanup that runs has to stop only if it is canceled itself: no failure of its group stops it,
-/// nor that its group is canceled or passes its deadline.
+/// A running cleanup has to stop only if it is canceled itself. It runs on if its group fails, is
+/// canceled or passes its deadline.
 pub fn cleanups_run_on()
     ensures { CleanupsRunOn }
 {}

@@ -12,8 +12,9 @@ pub fn demo_stands_alone()
         → AsksAlone (codes "demo") words }
 {}
 
-/// The store has no flag after `format` if it needn't be new, after `script` if the run isn't
-/// strict, and after `inspect` if everything in it is printed.
+/// If `format` doesn't ask for a new file, the store stands alone, without a flag. The same is true
+/// of a `script` that is neither strict nor uses the machine's time, and of an `inspect` that
+/// prints everything.
 pub fn a_store_stands_alone()
     ensures format { (store : List ℕ) (words : List (List ℕ)) → faults_of words ≡ []
         → AsksForFormat store false words → AsksOver (codes "format") store words }
@@ -23,8 +24,8 @@ pub fn a_store_stands_alone()
         → AsksForInspect store Whole words → AsksOver (codes "inspect") store words }
 {}
 
-/// Conversely, a store without a flag needn't be new after `format`, its run isn't strict after
-/// `script`, and everything in it is printed after `inspect`.
+/// Conversely, if a store stands alone, `format` doesn't ask for a new file, `script` is neither
+/// strict nor uses the machine's time, and `inspect` prints everything.
 pub fn a_store_alone_has_no_flag()
     ensures format { (store : List ℕ) (words : List (List ℕ)) → faults_of words ≡ []
         → AsksOver (codes "format") store words → AsksForFormat store false words }

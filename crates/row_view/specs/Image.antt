@@ -127,13 +127,14 @@ abbrev pub is_kept_kind : Kind → Bool
 is_kept_kind kind.Group = true
 is_kept_kind other = is_recorded_kind other
 
--- There is no hit, or the fields of the hit are in range. Every reason is in range.
+-- There is no hit, or the fields of the hit are in range. A reason can't be out of range, so `true`
+-- stands for it.
 abbrev pub is_kept_hit : Option Hit → Bool
 is_kept_hit None = true
 is_kept_hit (Some hit) =
     nat_lt hit.event (2 ^ 64) && is_moment hit.moment && true && is_text hit.cause
 
--- A stage is in range if the text of a failure is one.
+-- A stage is in range unless it is a failure whose text isn't a text, which has 1 to 64 text bytes.
 abbrev pub is_kept_stage : Stage → Bool
 is_kept_stage (stage.Failure text) = is_text text
 is_kept_stage _ = true
@@ -149,7 +150,8 @@ abbrev pub is_kept_scope : Scope → Bool
 is_kept_scope row =
     is_name row.name && is_row_number row.parent && is_kept_kind row.kind && is_kept_hit row.hit
 
--- The fields of the row of a group are in range. Every flag is in range.
+-- The fields of the row of a group are in range. The two flags can't be out of range, so `true`
+-- stands for each.
 abbrev pub is_kept_group : Group → Bool
 is_kept_group row =
     is_name row.name && is_row_number row.scope && true && is_limit row.limit && true

@@ -21,7 +21,8 @@ pub fn an_advance_line_asks_for_an_advance()
         ≡ LineRequest.Step (Step.Command (Command.Advance moment)) }
 {}
 
-/// No line moves a clock beyond the latest moment that is noted after it, whatever the session is.
+/// If the clock of a session isn't later than the latest moment so far, no line moves it past the
+/// latest moment after that line, which counts the moment to which the line itself advances.
 pub fn no_line_moves_a_clock_past_the_latest_moment()
     ensures { (s : Session) (line : List ℕ) (latest : ℕ) → s.state.tree.clock ≤ latest
         → (after_line s line).state.tree.clock ≤ latest_after latest line }

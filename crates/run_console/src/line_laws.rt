@@ -29,9 +29,10 @@ pub fn what_is_printed_is_what_was_answered<D: RunDisk>()
         → reply s line ≡ reply_line (printed.Step (reply_of_step s x)) }
 {}
 
-/// If a fault ended a run or a line, over a book that wasn't broken, its cause is in the store. The
-/// law says which trouble each fault reports, and from which cause. It follows from the steps that
-/// were taken, and from the outcome of the next step.
+/// A fault that ends a run or a line, over a book that wasn't broken, has its cause in the store.
+/// If it is DiskFailed, a device call failed or the disk is spent. If it is NumbersSpent, no number
+/// is left for another image. This follows from the steps that were taken, and from the outcome of
+/// the next step.
 pub fn a_fault_that_stops_a_run_has_its_cause<D: RunDisk>()
     ensures run { (until : Until) (why : RunFault) (b c : BookView D)
         (r0 r1 w0 w1 : Option (List ℕ))

@@ -27,7 +27,7 @@ pub record Reads (old new : DiskState) : Type 0 where
 
 -- What a write of these bytes does to an honest disk. A crash after the write may leave whatever a
 -- crash before it might have left, with any bytes in the written range. At Ok reads return the
--- written bytes there, and no failed write waits there. After a failure the bytes there are unknown
+-- written bytes there, and no place there is unsure. After a failure the bytes there are unknown
 -- until they are written again.
 pub record Writes {T E : Type 0}
     (at : ℕ) (bytes : List ℕ) (old new : DiskState) (result : Result T E) : Type 0 where

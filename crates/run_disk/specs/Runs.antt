@@ -31,8 +31,8 @@ pub record Took {T E : Type 0} (n : ℕ) (old new : DiskState) (result : Result 
   pub exactly : OnOk result (new.clock ≡ old.clock + n)
   pub most : new.clock ≤ old.clock + n
 
--- The disk's two counts show that the call with this number, counted from 1, was the last one, and
--- that one call failed. That call and its failure are counted, unless the disk was spent before it.
+-- Call number n, counted from 1, was the last one, and only that call failed. The two counts show
+-- this: the call and its failure are counted, unless the disk was spent before it.
 abbrev pub FailedAt : ℕ → DiskState → DiskState → Type 0
 FailedAt n old new =
     ((new.clock ≡ old.clock + n) × (new.failures ≡ old.failures + 1))
@@ -102,7 +102,7 @@ pub record LeavesForGood {T E : Type 0} (step end : List ℕ → List ℕ → Ty
   pub synced : old.honest → OnOk result (IsSynced new)
   pub sure : old.honest → OnOk result (IsSurer old new)
 
--- Reads return these bytes from `at` on, and no failed write waits there. So the next sync makes
+-- Reads return these bytes from `at` on, and none of these places is unsure. So the next sync makes
 -- them durable.
 pub record Stands (at : ℕ) (bytes : List ℕ) (s : DiskState) : Type 0 where
   pub now : Holds at bytes s.now

@@ -23,8 +23,8 @@ pub fn the_rules_have_three_parts()
         AreWorkRules p.work → AreCrossRules p → IsConsistent p }
 {}
 
-/// If the work keeps its rules, the test of the two lists of rows returns whether the rules between
-/// the tree and the work hold.
+/// If the work keeps its rules, `fits_between`, which looks at the scopes and the groups, returns
+/// whether the rules between the tree and the work hold.
 pub fn the_rules_between_are_tested()
     ensures { (p : State) → AreWorkRules p.work →
         IsTrue (fits_between p.tree.scopes p.work.groups) ↔ AreCrossRules p }
