@@ -29,7 +29,7 @@ abbrev pub group_counted : State → ℕ → List ℕ
 group_counted p g =
     option_map_or (λ group. tree_group g group (phases_of p g)) (group_look_of p g) []
 
--- The text of a node's line, after what leads it.
+-- The text of a node's line, after the branches and the mark before it.
 abbrev pub own_work : (no_tasks : Bool) → State → ℕ → List ℕ
 own_work no_tasks p n = if no_tasks then group_counted p n else work_line p n
 
@@ -43,7 +43,7 @@ own_line no_tasks p n =
 abbrev pub node_line : (no_tasks : Bool) → State → ℕ → List ℕ
 node_line no_tasks p n = lead (nodes_of no_tasks p) n ++ own_line no_tasks p n
 
--- All that is drawn of a state: the first line, and the line of each node, in their order.
+-- Everything that is drawn of a state: the first line, and the lines of the nodes, in order.
 abbrev pub tree_text : (no_tasks : Bool) → State → List ℕ
 tree_text no_tasks p =
     head_line p.count p.tree.clock p.tree.layout (taken_of p)

@@ -82,7 +82,7 @@ held_text (kind.Value key text) =
     codes ",\"key\":" ++ quoted key ++ (codes ",\"value\":" ++ string_text text)
 held_text _ = codes ",\"key\":null,\"value\":null"
 
--- Whether it is done, why, and with which cause.
+-- Whether it is done, and the reason and the cause if it is.
 abbrev pub done_text : Option (Reason × List ℕ) → List ℕ
 done_text None = codes ",\"done\":false,\"reason\":null,\"cause\":null}"
 done_text (Some ending) =
@@ -152,7 +152,8 @@ entry_text (entry.Scope n parent kind look) = scope_object n parent kind look
 entry_text (entry.Group n look) = group_object n look
 entry_text (entry.Task n group look) = task_object n group look
 
--- Each entry of a list begins a new line. Before that stands a comma, unless it is the first entry.
+-- Each entry of a list begins a new line. Before the new line comes a comma, unless the entry is
+-- the first one.
 abbrev pub separator : Bool → List ℕ
 separator first = if first then codes "\n" else codes ",\n"
 
@@ -171,7 +172,7 @@ scope_item p s = listed_entry s (scope_entry p s)
 abbrev pub group_item : State → ℕ → List ℕ
 group_item p g = listed_entry g (option_map (entry.Group g) (group_look_of p g))
 
--- A task has an entry exactly if it has a line where only tasks are printed.
+-- A task has an entry exactly if it has a line in the list of tasks.
 abbrev pub entry_of : Row → Option Entry
 entry_of (row.Task n group look) = Some (entry.Task n group look)
 entry_of _ = None
@@ -192,8 +193,8 @@ task_items phase group p = lines_below (task_item phase group p) (length p.work.
 
 -- A whole state as JSON is one object. It has the number of events, the clock, the layout and its
 -- capacity, and then three lists: of the scopes, of the groups, and of the tasks. The list of tasks
--- has only those that are in this phase, if a phase is given, and only those of the group of this
--- name, if a name is given.
+-- has only those in the given phase, if one is given, and only those of the group with the given
+-- name, if one is given.
 abbrev pub json_text : (phase group : Option (List ℕ)) → State → List ℕ
 json_text phase group p =
     entry_text (entry.Store p.count p.tree.clock p.tree.layout)

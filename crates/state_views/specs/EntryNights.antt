@@ -1,23 +1,24 @@
--- Examples of a state as JSON: the lines that a person types into a newly opened store, and the
--- object that is printed then.
+-- Examples of a state as JSON: the lines that a user types into a newly opened store, and the
+-- object that is printed afterwards.
 use Prim.Native.String.{String}
 use Rattle.std.specs.Prelude.{◌≡◌, ℕ, List, [], ◌∷◌, ◌++◌, codes, Option}
 use Rattle.state_views.specs.Entries.{json_text}
 use Rattle.state_views.specs.ListedNights.{three_tasks}
 use Rattle.console_lines.specs.Nights.{Night, session_of}
 
--- Texts one after the other.
+-- These texts, one after another.
 abbrev pub joined : List String → List ℕ
 joined [] = []
 joined (text ∷ texts) = codes text ++ joined texts
 
--- After these lines, the state as JSON consists of these texts, one after the other, if tasks in
--- this phase and of this group are asked for.
+-- After these lines, the state as JSON consists of these texts, one after another, with the tasks
+-- in this phase and of this group.
 abbrev pub IsShown : (phase group : Option (List ℕ)) → Night → List String → Type 0
 IsShown phase group night texts =
     json_text phase group (session_of night).state ≡ joined texts
 
--- A scope of each kind, below root. One is canceled. One is detached, so those below it live on.
+-- A scope of each kind, below root. One is canceled. One is detached, so the scopes below it stay
+-- live.
 abbrev pub all_kinds : Night
 all_kinds =
     ("derive v root value k a\"b\\c", "scope 1")
@@ -57,7 +58,7 @@ kinds_shown =
     ∷ "\"tasks\":[]}\n"
     ∷ []
 
--- The beginning of the object for the night of three tasks, up to its list of tasks.
+-- The beginning of the object for the session of three tasks, up to its list of tasks.
 abbrev pub tasks_head : List String
 tasks_head =
     "{\"version\":1,\"count\":10,\"clock\":0,\"layout\":\"small\","
@@ -74,7 +75,7 @@ tasks_head =
     ∷ "\"tasks\":["
     ∷ []
 
--- Its tasks: one runs, one is held, and one has failed.
+-- Its tasks: one is running, one is held, and one has failed.
 abbrev pub running_one : List String
 running_one =
     "{\"number\":0,\"group\":0,\"group_name\":\"g\",\"job\":\"copy\",\"argument\":\"a\","
@@ -93,7 +94,7 @@ failed_one =
     ∷ "\"phase\":\"error\",\"error\":\"no room\",\"retry_of\":null}"
     ∷ []
 
--- For that night, these texts are printed after the beginning.
+-- For that session, these texts are printed after the beginning.
 abbrev pub IsShownOf : (phase group : Option (List ℕ)) → List String → Type 0
 IsShownOf phase group texts = IsShown phase group three_tasks (tasks_head ++ texts)
 

@@ -18,7 +18,7 @@ use Rattle.state_views.specs.declared.row_kinds.RowKind.{RowKind}
 use Rattle.state_views.specs.declared.row_kinds.RowKind.TheVariants.{Scopes, Groups, Tasks}
 use Rattle.state_views.specs.RowKinds.{count_of}
 
--- The bytes of the word that is asked for, if one is.
+-- The bytes of the word that has to match, if there is one.
 abbrev pub word_of : Option (Bor (List ℕ)) → Option (List ℕ)
 word_of = option_map (λ word. word.now)
 
@@ -30,32 +30,32 @@ first_of Entry p = entry_text (entry.Store p.count p.tree.clock p.tree.layout)
 first_of Sum p = head_line p.count p.tree.clock p.tree.layout (taken_of p)
 first_of Branch p = head_line p.count p.tree.clock p.tree.layout (taken_of p)
 
--- The row of a number as a line.
+-- The row with this number as a line.
 abbrev pub line_of : RowKind → State → ℕ → List ℕ
 line_of Scopes p = scope_line p
 line_of Groups p = group_line p
 line_of Tasks p = task_line p
 
--- The row of a number as an entry of a list. The list of tasks is defined elsewhere, because it may
--- leave out some of them.
+-- The row with this number as an entry of a list. The list of tasks is defined elsewhere, because
+-- it may leave out some of them.
 abbrev pub item_of : RowKind → State → ℕ → List ℕ
 item_of Scopes p = scope_item p
 item_of Groups p = group_item p
 item_of Tasks p = λ _. []
 
--- The row of a number as a line of a summary. A task has none.
+-- The row with this number as a line of a summary. A task has none.
 abbrev pub sum_of : RowKind → State → ℕ → List ℕ
 sum_of Scopes p = scope_summed p
 sum_of Groups p = group_summed p
 sum_of Tasks p = λ _. []
 
--- The row of a number as a line of a tree without tasks.
+-- The row with this number as a line of a tree without tasks.
 abbrev pub branch_of : RowKind → State → ℕ → List ℕ
 branch_of Scopes p = tree_scope p
 branch_of Groups p = group_counted p
 branch_of Tasks p = λ _. []
 
--- The row of a number in this form.
+-- The row with this number in this form.
 abbrev pub text_of : Form → RowKind → State → ℕ → List ℕ
 text_of Line rows p = line_of rows p
 text_of (Listed phase group) rows p = listed_line (word_of phase) (word_of group) p

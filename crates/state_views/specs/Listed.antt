@@ -1,4 +1,4 @@
--- The lines of the tasks that are asked for.
+-- The lines of the tasks that match a phase and a group.
 use Rattle.std.specs.Prelude.{ℕ, Bool, true, false, ◌&&◌, List, length, codes, Option, Some, None}
 use Rattle.std.specs.Prelude.{if◌then◌else◌}
 use Rattle.std.specs.Option.{option_and_then}
@@ -9,12 +9,12 @@ use Rattle.state_views.specs.declared.row_lines.Row.{Row}
 use Rattle.state_views.specs.declared.row_lines.Row.TheVariants as row
 use Rattle.state_views.specs.Inspected.{lines_below, seen_line, task_row}
 
--- The word is the one that is asked for. If none is asked for, every word is right.
+-- The word is the given one. If none is given, every word matches.
 abbrev pub is_as_asked : Option (List ℕ) → List ℕ → Bool
 is_as_asked None word = true
 is_as_asked (Some asked) word = bytes_eq asked word
 
--- A row is listed if it is the row of a task whose phase and group are those that are asked for.
+-- A row is listed if it is the row of a task with the given phase and group.
 abbrev pub is_listed : (phase group : Option (List ℕ)) → Row → Bool
 is_listed phase group (row.Task n name look) =
     is_as_asked phase (phase_word look.phase) && is_as_asked group name

@@ -1,11 +1,12 @@
--- An example of a list of tasks: the lines that a person types into a newly opened store, and the
--- tasks that are listed then.
+-- An example of a list of tasks: the lines that a user types into a newly opened store, and the
+-- tasks that are listed afterwards.
 use Prim.Native.String.{String}
 use Rattle.std.specs.Prelude.{◌≡◌, ℕ, List, [], ◌∷◌, codes, Option}
 use Rattle.state_views.specs.Listed.{listed}
 use Rattle.console_lines.specs.Nights.{Night, session_of}
 
--- In a group with limit 1, one task runs and one is held. In a bare group, a task has failed.
+-- In a group with a limit of 1, one task is running and one is held. In a bare group, a task has
+-- failed.
 abbrev pub three_tasks : Night
 three_tasks =
     ("group g root", "group 0 scope 1")

@@ -5,8 +5,8 @@ use Rattle.console_lines.specs.Progress.{WritesPart}
 use Rattle.console_lines.specs.Buffered.{Buffered}
 use Rattle.state_views.specs.declared.sheets.Sheet.{Sheet}
 
--- This is the whole text that was added to a sheet. As long as no write has failed, its first bytes
--- were written, and the rest is buffered. After a failure, a prefix of it was written, and not all.
+-- This is the whole text that was added to a sheet. Until a write fails, a prefix of the text was
+-- written, and the rest is buffered. After a failure, a proper prefix of it was written.
 pub record Holds (text : List ℕ) (sheet : Sheet) (w0 w1 : Option (List ℕ)) : Type 0 where
   pub sound : sheet.failed ≡ false → Buffered text [] sheet.buffer.items w0 w1
   pub cut : sheet.failed ≡ true → WritesPart w0 w1 text

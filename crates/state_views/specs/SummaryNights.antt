@@ -1,20 +1,20 @@
--- Examples of a summary: the lines that a person types into a newly opened store, and the summary
--- that is printed then.
+-- Examples of a summary: the lines that a user types into a newly opened store, and the summary
+-- that is printed afterwards.
 use Prim.Native.String.{String}
 use Rattle.std.specs.Prelude.{◌≡◌, List, [], ◌∷◌, ◌++◌, codes}
 use Rattle.std.specs.List.{flat_map}
 use Rattle.console_lines.specs.Nights.{Night, session_of}
 use Rattle.state_views.specs.Summaries.{summary_text}
 
--- After these lines the summary has these lines, each given in parts. That of the store comes
+-- After these lines the summary has these lines, each given in parts. The line of the store comes
 -- first.
 abbrev pub IsSummed : Night → List (List String) → Type 0
 IsSummed night lines =
     summary_text (session_of night).state
     ≡ flat_map (λ parts. flat_map codes parts ++ 10 ∷ []) lines
 
--- The night of three tasks: each group has its tasks by phase. No scope is listed, because none is
--- done.
+-- The session of three tasks: each group has its tasks by phase. No scope is listed, because none
+-- is done.
 abbrev pub tasks_summed : List (List String)
 tasks_summed =
     ("events 10; clock 0; scopes 2 of 1024; groups 2 of 128; tasks 3 of 2048" ∷ [])

@@ -1,5 +1,5 @@
--- Examples of a state as a tree: the lines that a person types into a newly opened store, and the
--- tree that is drawn then.
+-- Examples of a state as a tree: the lines that a user types into a newly opened store, and the
+-- tree that is drawn afterwards.
 use Prim.Native.String.{String}
 use Rattle.std.specs.Prelude.{◌≡◌, ℕ, zero, suc, Bool, List, [], ◌∷◌, ◌++◌, codes}
 use Rattle.state_views.specs.Branches.{tree_text}
@@ -20,13 +20,13 @@ abbrev pub s : ℕ → List ℕ
 s zero = []
 s (suc levels) = 32 ∷ 32 ∷ s levels
 
--- Lines, one below the other. Each consists of what leads it, and a text.
+-- Lines, one below another. Each consists of its beginning and a text.
 abbrev pub below : List (List ℕ × String) → List ℕ
 below [] = []
 below (line ∷ lines) = line.0 ++ (codes line.1 ++ 10 ∷ below lines)
 
--- After these lines the tree has these lines, with or without the tasks. That of the store comes
--- first.
+-- After these lines the tree has these lines, with or without the tasks. The line of the store
+-- comes first.
 abbrev pub IsDrawn : (no_tasks : Bool) → Night → List (List ℕ × String) → Type 0
 IsDrawn no_tasks night lines = tree_text no_tasks (session_of night).state ≡ below lines
 
@@ -44,7 +44,7 @@ kinds_drawn =
     ∷ (s 6 ++ l, "group 0 g unfinished 0; limit none; waited no; error none")
     ∷ []
 
--- The tree of the night of three tasks. A bare group stands below root, after the scopes there.
+-- The tree of the session of three tasks. A bare group is drawn below root, after the scopes there.
 abbrev pub tasks_drawn : List (List ℕ × String)
 tasks_drawn =
     ([], "events 10; clock 0; scopes 2 of 1024; groups 2 of 128; tasks 3 of 2048")
@@ -57,7 +57,7 @@ tasks_drawn =
     ∷ (s 1 ++ l, "task 2 h mail c error no room")
     ∷ []
 
--- The same tree without the tasks: nothing stands below a group.
+-- The same tree without the tasks: nothing is drawn below a group.
 abbrev pub branches_drawn : List (List ℕ × String)
 branches_drawn =
     ([], "events 10; clock 0; scopes 2 of 1024; groups 2 of 128; tasks 3 of 2048")

@@ -23,7 +23,7 @@ use Rattle.console_lines.specs.Replies.{scope_text}
 
 -- The nodes are the scopes, then the groups, then the tasks, each in the order of their numbers.
 -- The parent of a scope is the scope from which it was derived, and root is its own parent. The
--- parent of a group is the scope in which it lives, and the parent of a task is its group.
+-- parent of a group is its scope, and the parent of a task is its group.
 abbrev pub parents_of : State → List ℕ
 parents_of p =
     map (λ row. row.parent) p.tree.scopes
@@ -61,12 +61,12 @@ drawn_below zero parents n = []
 drawn_below (suc levels) parents n =
     n ∷ flat_map (drawn_below levels parents) (children parents n)
 
--- All nodes in this order. A child has a greater number than its parent, so there are at most as
--- many levels as nodes.
+-- All nodes in this order. A child has a greater number than its parent, so there are no more
+-- levels than nodes.
 abbrev pub drawn : List ℕ → List ℕ
 drawn parents = drawn_below (length parents) parents 0
 
--- ---- what leads a line
+-- ---- the beginning of a line
 
 -- The nodes from this one upwards, without root, and at most this many.
 abbrev pub upwards : ℕ → List ℕ → ℕ → List ℕ
@@ -89,20 +89,22 @@ abbrev pub by_siblings : (more last : List ℕ) → List ℕ → ℕ → List �
 by_siblings more last parents n =
     if nat_eq (length (later_siblings parents n)) 0 then last else more
 
--- What is drawn for a node in the lines of the nodes below it (`passing`), and in its own (`mark`).
+-- The text that is drawn for a node in the lines of the nodes below it (`passing`), and in its own
+-- line (`mark`).
 abbrev pub passing : List ℕ → ℕ → List ℕ
 passing = by_siblings bar (codes "  ")
 
 abbrev pub mark : List ℕ → ℕ → List ℕ
 mark = by_siblings branch corner
 
--- What is drawn for the nodes above a node, beginning at the top. Nothing is drawn for root.
+-- The text that is drawn for the nodes above a node, beginning at the top. Nothing is drawn for
+-- root.
 abbrev pub above : List ℕ → ℕ → List ℕ
 above parents n =
     flat_map (passing parents) (reverse (upwards n parents (parent_of parents n)))
 
--- A line begins with what is drawn for the nodes above its node, and with the node's own mark. The
--- line of root begins with neither.
+-- A line begins with the text that is drawn for the nodes above its node, and with the node's own
+-- mark. The line of root has neither.
 abbrev pub lead : List ℕ → ℕ → List ℕ
 lead parents n = if nat_eq n 0 then [] else (above parents n ++ mark parents n)
 
@@ -130,7 +132,7 @@ work_line p n =
     then group_line p n
     else task_line p (n - length p.work.groups)
 
--- How many of these the store has, and how many it can have, as in `; tasks 2 of 8192`.
+-- How many rows of a kind the store has, and how many it can have, as in `; tasks 2 of 8192`.
 abbrev pub taken_text : List ℕ → (count most : ℕ) → List ℕ
 taken_text word count most =
     codes "; " ++ word ++ (codes " " ++ decimal count) ++ (codes " of " ++ decimal most)

@@ -30,7 +30,7 @@ drawn_from parents n = all_below parents n ++ after n parents n
 abbrev pub drawn_next : List ℕ → Option ℕ → List ℕ
 drawn_next parents next = option_map_or (drawn_from parents) next []
 
--- Every node but root has a parent with a lower number.
+-- Every node except root has a parent with a lower number.
 abbrev pub AreRising : List ℕ → Type 0
 AreRising parents = (n : ℕ) → 0 < n → parent_of parents n < n
 

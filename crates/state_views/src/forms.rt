@@ -25,9 +25,9 @@ use std::io::Write;
 pub enum Form<'a> {
     /// Each row as a line.
     Line,
-    /// A line for each task in this phase and in the group of this name; `None` matches all.
+    /// A line for each task in this phase and in the group with this name; `None` matches all.
     Listed(Option<&'a str>, Option<&'a str>),
-    /// Each scope and group as an entry of a list in JSON. Tasks are listed apart.
+    /// Each scope and group as an entry of a list in JSON. Tasks are listed separately.
     Entry,
     /// The lines of a summary.
     Sum,
@@ -86,7 +86,7 @@ pub(crate) fn add_rows<W: Write, B: Allocator>(
     }
 }
 
-/// Appends the row of this number, if there is one.
+/// Appends the row with this number, if there is one.
 pub(crate) fn append_one<B: Allocator>(
     form: Form<'_>,
     rows: RowKind,

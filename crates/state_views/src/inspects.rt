@@ -31,10 +31,10 @@ pub fn inspect<W: Write, B: Allocator>(state: &State<B>, output: &mut W) -> Resu
     sheet.end(output)
 }
 
-/// Prints the tasks in `phase`, which is the printed word of a phase, and in the group named
-/// `group`, with the same lines as [`inspect`](crate::inspect). `None` matches every task. It takes
-/// no memory. If a write fails or takes nothing (`Output`), only a part of the text was written,
-/// from its beginning.
+/// Prints the tasks in `phase`, which is the keyword of a phase, and in the group named `group`,
+/// with the same lines as [`inspect`](crate::inspect). `None` matches every task. It takes no
+/// memory. If a write fails or takes nothing (`Output`), only a part of the text was written, from
+/// its beginning.
 pub fn list_tasks<W: Write, B: Allocator>(
     state: &State<B>,
     phase: Option<&str>,

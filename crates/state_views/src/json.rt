@@ -18,10 +18,10 @@ use std::alloc::Allocator;
 use std::io::Write;
 
 /// Prints a state as one object of JSON: the number of events, the clock, the layout and its
-/// limits, and lists of the scopes, the groups and the tasks. Only those tasks are listed that are
-/// in `phase`, which is the printed word of a phase, and in the group named `group`; `None` matches
-/// every task. It takes no memory. If a write fails or takes nothing (`Output`), only a part of the
-/// text was written, from its beginning.
+/// limits, and lists of the scopes, the groups and the tasks. It lists the tasks in `phase`, which
+/// is the keyword of a phase, and in the group named `group`; `None` matches every task. It takes
+/// no memory. If a write fails or takes nothing (`Output`), only a part of the text was written,
+/// from its beginning.
 pub fn print_json<W: Write, B: Allocator>(
     state: &State<B>,
     phase: Option<&str>,
@@ -69,7 +69,7 @@ fn add_tasks<W: Write, B: Allocator>(
     }
 }
 
-/// The entry of the task of this number, if it is listed.
+/// Returns the entry of the task with this number, if it is listed.
 fn task_entry<B: Allocator>(
     number: u16,
     state: &State<B>,

@@ -61,7 +61,7 @@ impl Entry {
     }
 }
 
-/// A store, up to its lists.
+/// Appends the object of a store, up to its lists.
 fn push_store<const N: usize>(out: &mut ArrayVec<u8, N>, count: u64, clock: Moment, layout: Layout)
     requires { array_vec_len out.old + 204 ≤ N }
     ensures { Appended out.old.items out.new.items (store_object count clock layout) 204 }
@@ -75,7 +75,7 @@ fn push_store<const N: usize>(out: &mut ArrayVec<u8, N>, count: u64, clock: Mome
     push(out, b"}");
 }
 
-/// A scope.
+/// Appends the object of a scope.
 fn push_scope<const N: usize>(
     out: &mut ArrayVec<u8, N>,
     number: u16,
@@ -96,7 +96,7 @@ fn push_scope<const N: usize>(
     push_done(out, &look.done);
 }
 
-/// A group.
+/// Appends the object of a group.
 fn push_group<const N: usize>(out: &mut ArrayVec<u8, N>, number: u16, look: &GroupLook)
     requires { array_vec_len out.old + 274 ≤ N }
     ensures { Appended out.old.items out.new.items (group_object number look.now) 274 }
@@ -111,7 +111,7 @@ fn push_group<const N: usize>(out: &mut ArrayVec<u8, N>, number: u16, look: &Gro
     push(out, b"}");
 }
 
-/// A task.
+/// Appends the object of a task.
 fn push_task<const N: usize>(out: &mut ArrayVec<u8, N>, number: u16, group: &Name, look: &TaskLook)
     requires { array_vec_len out.old + 379 ≤ N }
     ensures { Appended out.old.items out.new.items (task_object number group.now look.now) 379 }
@@ -128,7 +128,7 @@ fn push_task<const N: usize>(out: &mut ArrayVec<u8, N>, number: u16, group: &Nam
     push(out, b"}");
 }
 
-/// The separator before an entry of a list.
+/// Appends the separator before an entry of a list.
 fn push_separator<const N: usize>(out: &mut ArrayVec<u8, N>, first: bool)
     requires { array_vec_len out.old + 2 ≤ N }
     ensures { Appended out.old.items out.new.items (separator first) 2 }
@@ -151,7 +151,7 @@ fn push_layout<const N: usize>(out: &mut ArrayVec<u8, N>, layout: Layout)
     }
 }
 
-/// The number and the name of a scope or a group.
+/// Appends the number and the name of a scope or a group.
 fn push_opened<const N: usize>(out: &mut ArrayVec<u8, N>, number: u16, name: &Name)
     requires { array_vec_len out.old + 57 ≤ N }
     ensures { Appended out.old.items out.new.items (opened_text number name.now) 57 }
@@ -160,7 +160,7 @@ fn push_opened<const N: usize>(out: &mut ArrayVec<u8, N>, number: u16, name: &Na
     push_quoted(out, b",\"name\":", name.as_bytes());
 }
 
-/// The parent of a scope.
+/// Appends the number of a scope's parent, or `null` for root.
 fn push_parent<const N: usize>(out: &mut ArrayVec<u8, N>, parent: u16, kind: &Kind)
     requires { array_vec_len out.old + 30 ≤ N }
     ensures { AppendedAfter out.old.items out.new.items (codes ",\"parent\":")
@@ -187,7 +187,7 @@ pub(crate) fn kind_word(kind: &Kind) -> &'static str
     }
 }
 
-/// The value that a scope holds, and under which key.
+/// Appends the key and the value that a scope holds, or `null` for both.
 fn push_held<const N: usize>(out: &mut ArrayVec<u8, N>, kind: &Kind)
     requires { array_vec_len out.old + 186 ≤ N }
     ensures { Appended out.old.items out.new.items (held_text kind.now) 186 }
@@ -201,7 +201,7 @@ fn push_held<const N: usize>(out: &mut ArrayVec<u8, N>, kind: &Kind)
     }
 }
 
-/// Whether a scope is done, why, and with which cause.
+/// Appends whether a scope is done, why, and with which cause.
 fn push_done<const N: usize>(out: &mut ArrayVec<u8, N>, done: &Option<(Reason, Text)>)
     requires { array_vec_len out.old + 196 ≤ N }
     ensures { Appended out.old.items out.new.items (done_text done.now) 196 }
@@ -232,7 +232,7 @@ fn push_waited<const N: usize>(out: &mut ArrayVec<u8, N>, waited: bool)
     }
 }
 
-/// The first error of a group.
+/// Appends the first error of a group.
 fn push_error<const N: usize>(out: &mut ArrayVec<u8, N>, error: &Option<Text>)
     requires { array_vec_len out.old + 139 ≤ N }
     ensures { AppendedAfter out.old.items out.new.items (codes ",\"error\":")
@@ -244,7 +244,7 @@ fn push_error<const N: usize>(out: &mut ArrayVec<u8, N>, error: &Option<Text>)
     }
 }
 
-/// With which error a task failed.
+/// Appends the error with which a task failed, if it did.
 fn push_failure<const N: usize>(out: &mut ArrayVec<u8, N>, phase: &Phase)
     requires { array_vec_len out.old + 139 ≤ N }
     ensures { AppendedAfter out.old.items out.new.items (codes ",\"error\":")
@@ -256,7 +256,7 @@ fn push_failure<const N: usize>(out: &mut ArrayVec<u8, N>, phase: &Phase)
     }
 }
 
-/// A word, and a number or `null`.
+/// Appends a word, and then a number or `null`.
 fn push_number_or_null<const N: usize>(out: &mut ArrayVec<u8, N>, word: &[u8], number: Option<u64>)
     requires { array_vec_len out.old + (length word.now + 20) ≤ N }
     ensures { AppendedAfter out.old.items out.new.items word.now (number_or_null number) 20 }
@@ -267,7 +267,7 @@ fn push_number_or_null<const N: usize>(out: &mut ArrayVec<u8, N>, word: &[u8], n
     }
 }
 
-/// A word, and a name or a word between quotation marks.
+/// Appends a word, and then a name or a keyword between quotation marks.
 fn push_quoted<const N: usize>(out: &mut ArrayVec<u8, N>, word: &[u8], name: &[u8])
     requires few { length name.now ≤ 32 }
     requires room { array_vec_len out.old + (length word.now + 34) ≤ N }
@@ -278,7 +278,7 @@ fn push_quoted<const N: usize>(out: &mut ArrayVec<u8, N>, word: &[u8], name: &[u
     push_after(out, name, b"\"");
 }
 
-/// A word, and a text as a string.
+/// Appends a word, and then a text as a string.
 fn push_string<const N: usize>(out: &mut ArrayVec<u8, N>, word: &[u8], text: &Text)
     requires { array_vec_len out.old + (length word.now + 130) ≤ N }
     ensures { AppendedAfter out.old.items out.new.items word.now (string_text text.now) 130 }
@@ -289,7 +289,7 @@ fn push_string<const N: usize>(out: &mut ArrayVec<u8, N>, word: &[u8], text: &Te
     push(out, b"\"");
 }
 
-/// The bytes of a string.
+/// Appends the bytes of a string.
 fn push_escaped<const N: usize>(out: &mut ArrayVec<u8, N>, bytes: &[u8])
     requires few { length bytes.now ≤ 64 }
     requires room { array_vec_len out.old + 128 ≤ N }
@@ -300,7 +300,7 @@ fn push_escaped<const N: usize>(out: &mut ArrayVec<u8, N>, bytes: &[u8])
     }
 }
 
-/// A byte of a string.
+/// Appends one byte of a string.
 fn push_string_byte<const N: usize>(out: &mut ArrayVec<u8, N>, byte: u8)
     requires { array_vec_len out.old + 2 ≤ N }
     ensures { Appended out.old.items out.new.items (string_byte byte) 2 }

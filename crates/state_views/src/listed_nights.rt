@@ -1,4 +1,4 @@
-//! Examples of tasks that are listed: after the lines of a night, by phase, by group and by both.
+//! Examples of tasks that are listed after the lines of a session: by phase, by group and by both.
 //!
 //! Each function has an empty body, and its clauses are the example, as in
 //! `console_lines`.
@@ -8,7 +8,7 @@ ghost use Rattle.std.specs.Prelude.{codes, Some, None};
 ghost use Rattle.state_views.specs.ListedNights.{IsListed, three_tasks};
 ghost use Rattle.console_lines.specs.Nights.{IsPrinted};
 
-/// The night prints these replies to its lines.
+/// The lines of the session have these replies.
 pub fn the_night_is_printed()
     ensures { IsPrinted three_tasks "acked 10" }
 {}

@@ -1,4 +1,4 @@
-//! The filter of listed tasks: the word of a phase, and the name of a group.
+//! The filter of listed tasks: the keyword of a phase, and the name of a group.
 
 ghost use Rattle.std.specs.Prelude.{◌≡◌, option_map};
 ghost use Rattle.state_views.specs.Listed.{is_as_asked, is_listed};
@@ -7,8 +7,8 @@ use crate::row_lines::Row;
 use console_lines::phase_word;
 
 impl Row {
-    /// Returns whether this is the row of a task in `phase`, which is the printed word of a phase,
-    /// and in the group named `group`; `None` matches every task.
+    /// Returns whether this is the row of a task in `phase`, which is the keyword of a phase, and
+    /// in the group named `group`; `None` matches every task.
     pub fn is_listed(&self, phase: Option<&str>, group: Option<&str>) -> bool
         ensures { result ≡ is_listed (option_map (λ word. word.now) phase.entry)
             (option_map (λ word. word.now) group.entry) self.now }
@@ -23,7 +23,7 @@ impl Row {
     }
 }
 
-/// Returns whether a word is the one that is asked for, if one is.
+/// Returns whether a word equals `asked`; `None` matches every word.
 fn is_as_asked(asked: Option<&str>, word: &[u8]) -> bool
     ensures { result ≡ is_as_asked (option_map (λ word. word.now) asked.entry) word.now }
 {

@@ -13,7 +13,7 @@ use run_model::Scope;
 use run_session::State;
 use std::alloc::Allocator;
 
-/// Which rows of a state are meant.
+/// The kind of rows in a state.
 #[derive(Clone, Copy)]
 pub enum RowKind {
     Scopes,
@@ -22,7 +22,7 @@ pub enum RowKind {
 }
 
 impl RowKind {
-    /// How many there are.
+    /// Returns the number of rows of this kind.
     pub(crate) fn count<B: Allocator>(self, state: &State<B>) -> u16
         ensures { result ≡ count_of self state.now }
     {
@@ -33,7 +33,7 @@ impl RowKind {
         }
     }
 
-    /// The row of this number, to be printed as a line.
+    /// Returns the row with this number, to be printed as a line.
     pub(crate) fn seen<B: Allocator>(self, number: u16, state: &State<B>) -> Option<Row>
         ensures { seen_line result ≡ line_of self state.now number }
     {
@@ -44,8 +44,8 @@ impl RowKind {
         }
     }
 
-    /// The row of this number as an entry of JSON. Tasks have none here, because they are listed
-    /// apart.
+    /// Returns the row with this number as an entry of JSON. Tasks have none here, because they are
+    /// listed separately.
     pub(crate) fn entry<B: Allocator>(self, number: u16, state: &State<B>) -> Option<Entry>
         ensures { listed_entry number result ≡ item_of self state.now number }
     {
@@ -61,14 +61,14 @@ impl RowKind {
     }
 }
 
-/// The row of the scope of this number, lent until the state changes.
+/// Returns the row of the scope with this number, lent until the state changes.
 pub(crate) fn scope_row<B: Allocator>(number: u16, state: &State<B>) -> Option<&Scope>
     ensures { option_map (λ row. row.now) result ≡ slice_get state.now.tree.scopes number }
 {
     state.scopes().get(number as usize)
 }
 
-/// The row of the task of this number.
+/// Returns the row of the task with this number.
 fn task_row<B: Allocator>(number: u16, state: &State<B>) -> Option<Row>
     ensures { result ≡ task_row state.now number }
 {
@@ -77,8 +77,8 @@ fn task_row<B: Allocator>(number: u16, state: &State<B>) -> Option<Row>
     Some(Row::Task(number, group.name, look))
 }
 
-/// The row of the task of this number, if it is in `phase`, which is the printed word of a phase,
-/// and in the group named `group`; `None` matches every task.
+/// Returns the row of the task with this number, if it is in `phase`, which is the keyword of a
+/// phase, and in the group named `group`; `None` matches every task.
 pub(crate) fn listed_task<B: Allocator>(
     number: u16,
     state: &State<B>,

@@ -40,7 +40,7 @@ impl Row {
     }
 }
 
-/// A row without its LF.
+/// Appends a row without its LF.
 fn push_row<const N: usize>(out: &mut ArrayVec<u8, N>, row: &Row)
     requires { array_vec_len out.old + 229 ≤ N }
     ensures { Appended out.old.items out.new.items (row_text row.now) 229 }
@@ -62,7 +62,7 @@ fn push_row<const N: usize>(out: &mut ArrayVec<u8, N>, row: &Row)
     }
 }
 
-/// The number of events, and the clock.
+/// Appends the number of events, and the clock.
 pub(crate) fn push_counts<const N: usize>(out: &mut ArrayVec<u8, N>, count: u64, clock: Moment)
     requires { array_vec_len out.old + 47 ≤ N }
     ensures { Appended out.old.items out.new.items
@@ -72,7 +72,7 @@ pub(crate) fn push_counts<const N: usize>(out: &mut ArrayVec<u8, N>, count: u64,
     push_moment(out, b"; clock ", clock);
 }
 
-/// A word, a number and a name, as in `scope 1 a `.
+/// Appends a word, a number and a name, as in `scope 1 a `.
 pub(crate) fn push_named<const N: usize>(
     out: &mut ArrayVec<u8, N>,
     word: &[u8],
@@ -89,7 +89,7 @@ pub(crate) fn push_named<const N: usize>(
     push(out, b" ");
 }
 
-/// A task's job, its argument and how far it is.
+/// Appends the job and the argument of a task, and how far it has come.
 fn push_work<const N: usize>(out: &mut ArrayVec<u8, N>, look: &TaskLook)
     requires { array_vec_len out.old + 166 ≤ N }
     ensures { Appended out.old.items out.new.items (work_text look.now) 166 }
@@ -101,7 +101,7 @@ fn push_work<const N: usize>(out: &mut ArrayVec<u8, N>, look: &TaskLook)
     push_retry(out, look.retry_of);
 }
 
-/// Which task this one is a retry of, if it is one.
+/// Appends the number of the task that this one retries, if it is a retry.
 fn push_retry<const N: usize>(out: &mut ArrayVec<u8, N>, retry_of: Option<u16>)
     requires { array_vec_len out.old + 30 ≤ N }
     ensures { Appended out.old.items out.new.items (retry_text retry_of) 30 }

@@ -1,4 +1,4 @@
-//! A [`Sheet`] buffers text, and keeps the failure of a write.
+//! A [`Sheet`] buffers text, and remembers that a write has failed.
 //!
 //! After a write that fails or takes nothing, nothing more is written, whatever is added. The
 //! output then holds a prefix of the text.
@@ -26,7 +26,7 @@ pub struct Sheet {
 }
 
 impl Sheet {
-    /// A sheet with the text that precedes the rows.
+    /// Returns a sheet with the text that precedes the rows.
     pub(crate) fn new<B: Allocator>(form: Form<'_>, state: &State<B>) -> Sheet
         ensures { (w : Option (List ℕ)) → Holds (first_of form.entry state.now) result w w }
     {
@@ -46,7 +46,7 @@ impl Sheet {
         self.failed = append_bytes(bytes, &mut self.buffer, output).is_err();
     }
 
-    /// Makes room for another line or entry: if none would fit, all buffered bytes are written.
+    /// Ensures that another line or entry fits: if it might not, all buffered bytes are written.
     pub(crate) fn make_room<W: Write>(&mut self, output: &mut W)
         ensures none { Adds [] self.old self.new (W.contents output.old) (W.contents output.new) }
         ensures room { array_vec_len self.new.buffer + LONGEST_ENTRY ≤ 8192 }

@@ -72,7 +72,7 @@ pub(crate) fn append_group_sum<B: Allocator>(
     }
 }
 
-/// How many tasks of a group are in each phase.
+/// Returns how many tasks of a group are in each phase.
 pub(crate) fn phases_of<B: Allocator>(group: u16, state: &State<B>) -> Phases
     ensures { result ≡ phases_of state.now group }
 {
@@ -86,7 +86,7 @@ pub(crate) fn phases_of<B: Allocator>(group: u16, state: &State<B>) -> Phases
     }
 }
 
-/// How many tasks of a group are in the phase of this word.
+/// Returns how many tasks of a group are in the phase with this keyword.
 fn tasks_in<B: Allocator>(group: u16, word: &str, state: &State<B>) -> u16
     ensures { result ≡ tasks_in state.now group word.now }
 {
@@ -99,7 +99,7 @@ fn tasks_in<B: Allocator>(group: u16, word: &str, state: &State<B>) -> u16
     count
 }
 
-/// Returns whether the task of this number is in a group, and in the phase of this word.
+/// Returns whether the task with this number is in a group, and in the phase with this keyword.
 fn is_task_in<B: Allocator>(number: u16, group: u16, word: &str, state: &State<B>) -> bool
     ensures { result ≡ option_map_or (is_in_phase group word.now)
         (task_look_of state.now number) false }

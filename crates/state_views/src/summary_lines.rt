@@ -32,7 +32,7 @@ pub struct Phases {
     pub interrupted: u16,
 }
 
-/// Returns whether a task is in this group, and in the phase with this word.
+/// Returns whether a task is in this group, and in the phase with this keyword.
 pub fn is_in_phase(group: u16, word: &str, look: &TaskLook) -> bool
     ensures { result ≡ is_in_phase group word.now look.now }
 {
@@ -75,7 +75,7 @@ pub fn append_tree_group<const N: usize>(
     push(out, b"\n");
 }
 
-/// A group, and how many of its tasks are in each phase.
+/// Appends a group, and how many of its tasks are in each phase.
 fn push_counted_group<const N: usize>(
     out: &mut ArrayVec<u8, N>,
     number: u16,
@@ -117,7 +117,7 @@ fn is_summed(kind: &Kind, look: &Look) -> bool
     }
 }
 
-/// How many tasks are in each phase.
+/// Appends how many tasks are in each phase.
 fn push_phases<const N: usize>(out: &mut ArrayVec<u8, N>, phases: &Phases)
     requires { array_vec_len out.old + 93 ≤ N }
     ensures { Appended out.old.items out.new.items (phases_text phases.now) 93 }
@@ -130,7 +130,7 @@ fn push_phases<const N: usize>(out: &mut ArrayVec<u8, N>, phases: &Phases)
     push_count(out, b", interrupted ", phases.interrupted);
 }
 
-/// How a scope is.
+/// Appends the state of a scope.
 fn push_state<const N: usize>(out: &mut ArrayVec<u8, N>, look: &Look)
     requires { array_vec_len out.old + 151 ≤ N }
     ensures { Appended out.old.items out.new.items (state_text look.now) 151 }
@@ -148,7 +148,7 @@ fn push_state<const N: usize>(out: &mut ArrayVec<u8, N>, look: &Look)
     }
 }
 
-/// A deadline in seconds, and its date and time; or `none`.
+/// Appends a deadline in seconds, and its date and time, or `none`.
 fn push_dated<const N: usize>(out: &mut ArrayVec<u8, N>, deadline: Option<Moment>)
     requires { array_vec_len out.old + 33 ≤ N }
     ensures { Appended out.old.items out.new.items (dated_text deadline) 33 }

@@ -1,4 +1,4 @@
-//! Examples of the summary of a state, after the lines of a night.
+//! Examples of the summary of a state, after the lines of a session.
 //!
 //! Each function has an empty body, and its clause is the example, as in `console_lines`.
 #![tactic(auto, unfolding(console_lines::proofs::OnLiterals::nights_on_literals))]
@@ -19,7 +19,7 @@ pub fn done_scopes_are_summed()
     ensures { IsSummed cancelled_backup backup_summed }
 {}
 
-/// A deadline has its date and time.
+/// A deadline is shown with its date and time.
 pub fn a_deadline_has_its_date()
     ensures { IsSummed leap_day leap_day_summed }
 {}

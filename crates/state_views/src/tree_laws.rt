@@ -16,7 +16,7 @@ pub fn a_tree_has_no_more_levels_than_nodes()
 {}
 
 /// If a state is consistent, each node of its tree except root comes after its parent, whether the
-/// tree is drawn with tasks or without.
+/// tree is drawn with tasks or without them.
 pub fn a_node_stands_after_its_parent()
     ensures { (no_tasks : Bool) (p : State) → IsConsistent p → AreRising (nodes_of no_tasks p) }
 {}

@@ -45,7 +45,7 @@ pub fn append_tree_head<const N: usize>(
     push(out, b"\n");
 }
 
-/// How full a store is.
+/// Appends how full a store is.
 fn push_fullness<const N: usize>(out: &mut ArrayVec<u8, N>, layout: Layout, taken: &Taken)
     requires { array_vec_len out.old + 160 ≤ N }
     ensures { Appended out.old.items out.new.items (fullness layout taken.now) 160 }
@@ -55,7 +55,7 @@ fn push_fullness<const N: usize>(out: &mut ArrayVec<u8, N>, layout: Layout, take
     push_taken(out, b"tasks", taken.tasks, layout.most_tasks());
 }
 
-/// How many of these there are and can be.
+/// Appends how many rows of a kind there are, and how many there can be.
 fn push_taken<const N: usize>(out: &mut ArrayVec<u8, N>, word: &[u8], count: usize, most: usize)
     requires word { length word.now ≤ 6 }
     requires room { array_vec_len out.old + 53 ≤ N }
@@ -84,7 +84,7 @@ pub fn append_tree_scope<const N: usize>(
     push(out, b"\n");
 }
 
-/// The kind of a scope, and the value that it holds.
+/// Appends the kind of a scope, and the value that it holds.
 fn push_kind<const N: usize>(out: &mut ArrayVec<u8, N>, kind: &Kind)
     requires { array_vec_len out.old + 103 ≤ N }
     ensures { Appended out.old.items out.new.items (kind_text kind.now) 103 }

@@ -1,4 +1,4 @@
-//! Examples of a state that is drawn as a tree, after the lines of a night.
+//! Examples of a state that is drawn as a tree, after the lines of a session.
 //!
 //! Each function has an empty body, and its clause is the example, as in `console_lines`.
 #![tactic(auto, unfolding(console_lines::proofs::OnLiterals::nights_on_literals))]
@@ -14,8 +14,8 @@ pub fn scopes_of_all_kinds_are_drawn()
     ensures { IsDrawn false all_kinds kinds_drawn }
 {}
 
-/// Tasks stand below their groups. The last one of several siblings is drawn differently from the
-/// others.
+/// Tasks are drawn below their groups. The last one of several siblings is drawn differently from
+/// the others.
 pub fn groups_and_tasks_are_drawn()
     ensures { IsDrawn false three_tasks tasks_drawn }
 {}

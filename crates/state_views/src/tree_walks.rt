@@ -47,7 +47,7 @@ pub fn mark(parents: &[u16], node: u16) -> &'static [u8]
     )
 }
 
-/// What is drawn for a node in the lines of those below it.
+/// Returns the text that is drawn for a node in the lines of the nodes below it.
 fn passing(parents: &[u16], node: u16) -> &'static [u8]
     requires few { length parents.now ≤ MOST_NODES }
     ensures { result.now ≡ passing parents.now node }
@@ -55,7 +55,7 @@ fn passing(parents: &[u16], node: u16) -> &'static [u8]
     by_siblings(b"\xe2\x94\x82 ", b"  ", parents, node)
 }
 
-/// The first of two texts if siblings of the node follow, and else the second.
+/// Returns the first of two texts if siblings of the node follow, and otherwise the second.
 fn by_siblings(
     more: &'static [u8],
     last: &'static [u8],
@@ -71,8 +71,8 @@ fn by_siblings(
     }
 }
 
-/// The node that is drawn after this one and all below it: the next sibling, of it or of the
-/// nearest node above it that has one.
+/// Returns the node that is drawn after this one and all nodes below it: the next sibling of this
+/// node, or of the nearest node above it that has one.
 fn next_beside(parents: &[u16], node: u16, above: &mut Above) -> Option<u16>
     requires few { length parents.now ≤ MOST_NODES }
     requires rising { AreRising parents.now }
@@ -92,7 +92,7 @@ fn next_beside(parents: &[u16], node: u16, above: &mut Above) -> Option<u16>
     None
 }
 
-/// From a node to its first child.
+/// Moves from a node to its first child.
 fn enter(parents: &[u16], node: u16, child: u16, above: &mut Above)
     requires few { length parents.now ≤ MOST_NODES }
     requires rising { AreRising parents.now }
@@ -105,7 +105,7 @@ fn enter(parents: &[u16], node: u16, child: u16, above: &mut Above)
     }
 }
 
-/// From a node to its parent.
+/// Moves from a node to its parent.
 fn leave(parents: &[u16], node: u16, parent: u16, above: &mut Above)
     requires few { length parents.now ≤ MOST_NODES }
     requires rising { AreRising parents.now }
@@ -120,7 +120,7 @@ fn leave(parents: &[u16], node: u16, parent: u16, above: &mut Above)
     }
 }
 
-/// A node's parent.
+/// Returns the parent of a node.
 fn parent_of(parents: &[u16], node: u16) -> u16
     ensures { result ≡ parent_of parents.now node }
 {
@@ -130,7 +130,7 @@ fn parent_of(parents: &[u16], node: u16) -> u16
     }
 }
 
-/// The first of the nodes after a node that have this parent.
+/// Returns the first of the nodes after a node that have this parent.
 fn first_after(parents: &[u16], node: u16, parent: u16) -> Option<u16>
     requires few { length parents.now ≤ MOST_NODES }
     ensures { result ≡ slice_get (behind parents.now node parent) 0 }

@@ -170,8 +170,8 @@ fn push_rows<B: Allocator>(rows: RowKind, state: &State<B>, parents: &mut Parent
 }
 
 impl RowKind {
-    /// The node that is the parent of the one of this number: the scope that a scope was derived
-    /// from, the scope of a group, and the group of a task.
+    /// Returns the node that is the parent of the row with this number: the scope from which a
+    /// scope was derived, the scope of a group, or the group of a task.
     fn parent<B: Allocator>(self, number: u16, state: &State<B>) -> Option<u16>
         ensures { result ≡ slice_get (parents_in self state.now) number }
     {

@@ -1,5 +1,5 @@
 -- Sessions that have as many scopes, groups or tasks as fit, or one fewer. Their names aren't
--- distinct, so no store keeps them, but the definitions answer them all.
+-- distinct, so no store can keep them, but the definitions cover them all.
 use Rattle.std.specs.Prelude.{ℕ, ◌-◌, true, List, [], ◌∷◌, ◌++◌, Some, None, codes, replicate}
 use Rattle.run_model.specs.declared.scopes.Kind.TheVariants as kind
 use Rattle.run_model.specs.declared.groups.Group.{Group}
@@ -10,7 +10,7 @@ use Rattle.run_model.specs.Rows.{root, new_scope, new_group, new_task}
 use Rattle.run_model.specs.State.{TreeState, WorkState}
 use Rattle.run_model.specs.Session.{Session, begun_at}
 
--- A tree of so many scopes: root, and others below it.
+-- A tree of this many scopes: root, and others below it.
 abbrev pub scopes_in : Layout → ℕ → TreeState
 scopes_in layout n = record {
   layout = layout;
@@ -18,7 +18,7 @@ scopes_in layout n = record {
   scopes = root ∷ replicate (n - 1) (new_scope (codes "s") 0 kind.Cancel);
 }
 
--- Three groups: one was waited for, one is open, and the limit of one is 1.
+-- Three groups: one was waited for, one wasn't, and one has a limit of 1.
 abbrev pub three_groups : List Group
 three_groups =
     record (new_group (codes "waited") 0 true) { waited = true }
@@ -26,7 +26,8 @@ three_groups =
     ∷ record (new_group (codes "limited") 0 true) { limit = Some 1 }
     ∷ []
 
--- So many groups, these three first, and so many tasks of the last of the three. None was started.
+-- This many groups, beginning with these three, and this many tasks of the third one. None of them
+-- was started.
 abbrev pub work_in : Layout → (groups tasks : ℕ) → WorkState
 work_in layout groups tasks = record {
   layout = layout;
@@ -34,7 +35,7 @@ work_in layout groups tasks = record {
   tasks = replicate tasks (new_task 2 (codes "copy") (codes "a") None);
 }
 
--- A session with so many scopes, groups and tasks, and with an empty log.
+-- A session with this many scopes, groups and tasks, and with an empty log.
 abbrev pub session_in : Layout → (scopes groups tasks : ℕ) → Session
 session_in layout scopes groups tasks = begun_at (record {
   count = 1;

@@ -1,4 +1,4 @@
--- The examples: each is a short night in a newly opened store, step by step with its reply.
+-- The examples: each is a short session in a newly opened store, step by step with its replies.
 use Rattle.std.specs.Prelude.{◌≡◌, ℕ, zero, suc, List, [], ◌∷◌, ◌++◌, map, Option, Some, None}
 use Rattle.std.specs.Prelude.{codes}
 use Rattle.run_model.specs.declared.scopes.Reason.{Reason}
@@ -20,7 +20,7 @@ use Rattle.book_model.specs.Examples.Calls.{finish, fail, scope_made, group_made
 use Rattle.book_model.specs.Examples.Calls.{submitted, started, finished, waited, waited_with}
 use Rattle.book_model.specs.Examples.Calls.{refused, started_late}
 
--- A night is a list of steps, each with the reply that is expected.
+-- A session is a list of steps, each with the expected reply.
 abbrev pub Night : Type 0
 Night = List (Step × Reply)
 
@@ -31,11 +31,11 @@ steps_of night = map (λ line. line.0) night
 abbrev pub new_store : Session
 new_store = opened Small
 
--- The steps are answered as expected.
+-- The steps have the expected replies.
 abbrev pub IsAnswered : Night → Type 0
 IsAnswered night = replies new_store (steps_of night) ≡ map (λ line. line.1) night
 
--- ---- questions on the state that a night leaves
+-- ---- questions about the state after a session
 
 abbrev pub state_of : Night → State
 state_of night = (session_after new_store (steps_of night)).state
@@ -54,7 +54,7 @@ value_after night s key = value_of (state_of night).tree.scopes s key
 
 -- ---- scopes
 
--- The parent is canceled, and the child with it.
+-- The parent is canceled, and with it the child.
 abbrev pub parent_cancelled : Night
 parent_cancelled =
     (derive "a" "root" Cause, scope_made 1)
@@ -62,7 +62,7 @@ parent_cancelled =
     ∷ (cancel "a" "disk", done)
     ∷ []
 
--- The child is canceled, and its parent afterwards.
+-- The child is canceled first, and then its parent.
 abbrev pub child_cancelled_first : Night
 child_cancelled_first =
     (derive "p" "root" Cause, scope_made 1)
@@ -76,7 +76,7 @@ abbrev pub child_cancelled_again : Night
 child_cancelled_again =
     child_cancelled_first ++ (cancel "c" "again", refused refusal.AlreadyDone) ∷ []
 
--- One advance passes two deadlines of the same moment.
+-- One advance passes two deadlines at the same moment.
 abbrev pub equal_deadlines : Night
 equal_deadlines =
     (derive "p" "root" (Deadline 100 (Some (codes "p"))), scope_made 1)
@@ -158,7 +158,7 @@ value_between =
     ∷ (cancel "p" "stop", done)
     ∷ []
 
--- Two values of one key, with a detached scope between.
+-- Two values under one key, with a detached scope between them.
 abbrev pub nested_values : Night
 nested_values =
     (derive "v" "root" (Value (codes "k") (codes "far")), scope_made 1)
@@ -204,7 +204,7 @@ limited_group =
     ∷ (set_limit "g" 3, refused refusal.LimitWhileActive)
     ∷ []
 
--- A limit of zero admits none.
+-- A limit of zero admits no task.
 abbrev pub limit_of_zero : Night
 limit_of_zero =
     (group "g" "root", group_made 0 1)
@@ -239,7 +239,7 @@ bare_group =
     ∷ (wait "h", waited)
     ∷ []
 
--- A name that is taken, a scope, a group and a task that aren't there, and nothing ready.
+-- A name that is taken; a scope, a group and a task that don't exist; and no ready task.
 abbrev pub refused_calls : Night
 refused_calls =
     (group "g" "root", group_made 0 1)
@@ -254,8 +254,8 @@ refused_calls =
     ∷ (start, refused refusal.NothingReady)
     ∷ []
 
--- A scope that isn't there and a name that is taken, both at once; tasks that don't run; and one
--- name for a bare group and for a scope.
+-- A step with a scope that doesn't exist and a name that is taken; tasks that aren't running; and a
+-- bare group and a scope with the same name.
 abbrev pub two_reasons : Night
 two_reasons =
     (group "g" "root", group_made 0 1)
@@ -284,7 +284,7 @@ two_groups =
     ∷ (wait "a", refused (refusal.Unfinished 2))
     ∷ []
 
--- A limit is taken away again.
+-- A limit is removed again.
 abbrev pub limit_taken_away : Night
 limit_taken_away =
     (group "g" "root", group_made 0 1)

@@ -15,7 +15,7 @@ use Rattle.book_model.specs.Examples.Calls.{go, group, group_made, refused, scop
 use Rattle.book_model.specs.Examples.Calls.{started, submitted}
 use Rattle.book_model.specs.Examples.Nights.{new_store}
 
--- A scope, its child, and a cancel of the first.
+-- A scope, its child, and a cancel of the scope.
 abbrev pub first_three : List Step
 first_three = derive "a" "root" Cause ∷ derive "b" "a" Cancel ∷ cancel "a" "disk" ∷ []
 
@@ -31,14 +31,14 @@ first_events =
     ∷ event.Cancel 1 (Some (codes "disk"))
     ∷ []
 
--- What follows the first flush: two scopes and a flush, a group with a task and a checkpoint, the
--- start of the task and a flush.
+-- The steps after the first flush: two scopes and a flush, a group with a task and a checkpoint,
+-- the start of the task and a flush.
 abbrev pub the_others : List Step
 the_others =
     derive "c" "root" Cancel ∷ derive "d" "root" Cancel ∷ flush
     ∷ group "g" "root" ∷ go "g" "copy" "a" ∷ checkpoint ∷ start ∷ flush ∷ []
 
--- Twelve steps.
+-- All twelve steps.
 abbrev pub played : List Step
 played = first_three ++ flush ∷ the_others
 
@@ -57,7 +57,7 @@ all_played =
     ∷ acked 9
     ∷ []
 
--- So many steps, each refused as Broken.
+-- This many steps, each refused as Broken.
 abbrev pub none_after : ℕ → List Reply
 none_after n = replicate n (refused Broken)
 
@@ -69,7 +69,7 @@ stopped_at_the_flush = three_replies ++ faulty DiskFailed ∷ none_after 8
 abbrev pub refused_all : List Reply
 refused_all = none_after 12
 
--- The session after the first three steps, and after all.
+-- The session after the first three steps, and after all twelve.
 abbrev pub after_three : Session
 after_three = session_after new_store first_three
 

@@ -1,4 +1,4 @@
--- Interrupted tasks that are submitted anew.
+-- Interrupted tasks that are retried.
 use Rattle.std.specs.Prelude.{ℕ, Bool, true, [], ◌∷◌, Option, None, codes, replicate}
 use Rattle.run_model.specs.declared.layouts.Layout.TheVariants.{Small}
 use Rattle.run_model.specs.declared.refusals.Refusal.TheVariants as refusal
@@ -13,19 +13,21 @@ use Rattle.book_model.specs.Examples.Calls.{retry, start, finish, submitted, sta
 use Rattle.book_model.specs.Examples.Calls.{refused}
 use Rattle.book_model.specs.Examples.Nights.{Night, steps_of, stopped_night, state_of}
 
--- The session that opens what a session left.
+-- The session after an opening of what this session left.
 abbrev pub opened_again : Session → Session
 opened_again s = begun_at (step s.state Restart)
 
--- The session after a night's steps, from this one.
+-- The session after these steps, beginning with this one.
 abbrev pub after_night : Session → Night → Session
 after_night s night = session_after s (steps_of night)
 
--- A store whose first task was interrupted and whose second one is ready, in a group of limit 1.
+-- A store in whose group, which has a limit of 1, the first task was interrupted and the second one
+-- is ready.
 abbrev pub one_interrupted : Session
 one_interrupted = begun_at (step (state_of stopped_night) Restart)
 
--- The interrupted task is retried once; of the others one wasn't interrupted, and one isn't there.
+-- The interrupted task is retried once. Of two other tasks one wasn't interrupted, and one doesn't
+-- exist.
 abbrev pub retried_once : Night
 retried_once =
     (retry 0, submitted 2 phase.Held)
@@ -35,7 +37,7 @@ retried_once =
     ∷ (retry 3, refused refusal.NoSuchTask)
     ∷ []
 
--- The store once its first task is retried.
+-- The store after its first task was retried.
 abbrev pub retried_store : Session
 retried_store = after_night one_interrupted retried_once
 
@@ -55,9 +57,9 @@ retried_again =
     ∷ (retry 2, refused refusal.AlreadyRetried)
     ∷ []
 
--- A group with two tasks and so many more, and a log of so many bytes. The first task is at this
--- stage; the second has this link. No store keeps each of these states, but the definitions answer
--- them all.
+-- A group with two tasks and `more` others, and a log of this many bytes. The first task is at this
+-- stage, and the second one has this link. No store can keep some of these states, but the
+-- definitions cover them all.
 abbrev pub two_tasks : (waited : Bool) → Stage → (link : Option ℕ) → (more log : ℕ) → Session
 two_tasks waited stage link more log = record (begun_at (record {
   count = 1;

@@ -11,15 +11,15 @@ use Rattle.book_model.specs.Examples.Calls.{group, go, wait, start, finish, deri
 use Rattle.book_model.specs.Examples.Calls.{flush, checkpoint, scope_made, done, refused, acked}
 use Rattle.book_model.specs.Examples.Calls.{faulty}
 
--- The session after these steps, if its log had so many bytes.
+-- The session after these steps, if its log had this many bytes.
 abbrev pub with_log : ℕ → List Step → Session
 with_log log steps = record (session_after new_store steps) { log = log }
 
--- One task is ready, and none runs.
+-- One task is ready, and none is running.
 abbrev pub one_ready : List Step
 one_ready = group "g" "root" ∷ go "g" "copy" "a" ∷ []
 
--- One task is ready, and one runs.
+-- One task is ready, and one is running.
 abbrev pub one_running : List Step
 one_running = group "g" "root" ∷ go "g" "copy" "a" ∷ go "g" "copy" "b" ∷ start ∷ []
 
@@ -37,7 +37,7 @@ start_and_finish = start ∷ finish 0 ∷ []
 abbrev pub wait_and_advance : List Step
 wait_and_advance = wait "g" ∷ advance 1 ∷ []
 
--- Two flushes, and a checkpoint between.
+-- Two flushes, with a checkpoint between them.
 abbrev pub three_saves : List Step
 three_saves =
     derive "a" "root" Cause

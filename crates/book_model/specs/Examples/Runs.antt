@@ -1,4 +1,4 @@
--- Two events, and the states after each.
+-- Two events, and the state after each of them.
 use Rattle.std.specs.Prelude.{List, [], ◌∷◌}
 use Rattle.run_model.specs.Event.{Event}
 use Rattle.run_model.specs.Event as event

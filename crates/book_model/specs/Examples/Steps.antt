@@ -1,5 +1,5 @@
--- A book of a new store, over a disk of which nothing is known but its size and its counts; and the
--- results of steps on it.
+-- A book over a new store, on a disk of which only the size and the counts are known, and the
+-- results of steps over the book.
 use Rattle.std.specs.Prelude.{ℕ, ◌-◌, ◌^◌, List, [], ◌∷◌, ◌++◌, true, false}
 use Rattle.run_model.specs.declared.answers.Reply.{Reply}
 use Rattle.run_model.specs.declared.commands.Step.{Step}
@@ -22,17 +22,17 @@ pub record Counts : Type 0 where
   pub calls : ℕ
   pub failures : ℕ
 
--- A disk of a small store's size with these counts. Nothing is known of its bytes.
+-- A disk with the size of a small store and these counts. Nothing is known about its bytes.
 abbrev pub state_of : Counts → DiskState
 state_of d = file_state 1572864 d.calls d.failures
 
--- A disk that lacks one byte of that size.
+-- A disk that is one byte shorter.
 abbrev pub short_state_of : Counts → DiskState
 short_state_of d = file_state 1572863 d.calls d.failures
 
 -- ---- books
 
--- The book of a new store after its opening, which made ten calls: one event, and it is
+-- The book over a new store after its opening, which made ten calls: there is one event, which is
 -- acknowledged.
 abbrev pub new_book : BookView Counts
 new_book = record {
@@ -73,7 +73,7 @@ flushed_twice = record book_after_three {
   journal = record new_book.journal { disk = record { calls = 22; failures = 0 }; tail = 36 };
 }
 
--- The book after three commands, when no generation is left, and after a flush of them.
+-- The book after three commands, if no generation is left, and after a flush of them.
 abbrev pub last_book : BookView Counts
 last_book =
     record book_after_three { journal = record new_book.journal { generation = 2 ^ 63 - 1 } }
@@ -87,14 +87,14 @@ last_flushed = record flushed { journal = record flushed.journal { generation = 
 abbrev pub first_command : Step
 first_command = derive "a" "root" Cause
 
--- Three commands and a flush, and their replies when it is done.
+-- Three commands and a flush, and the replies to them if the flush succeeds.
 abbrev pub first_call : List Step
 first_call = first_three ++ flush ∷ []
 
 abbrev pub first_replies : List Reply
 first_replies = three_replies ++ acked 4 ∷ []
 
--- A scope and a checkpoint after them, and the replies when the device fails in the flush.
+-- A scope and a checkpoint after these steps, and the replies if the device fails in the flush.
 abbrev pub failing_call : List Step
 failing_call = first_three ++ flush ∷ derive "c" "root" Cancel ∷ checkpoint ∷ []
 

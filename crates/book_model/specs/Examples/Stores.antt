@@ -1,5 +1,5 @@
--- Images and batches, byte by byte, but for the image of a store with a task, which the definition
--- of an image computes.
+-- Images and batches, byte by byte. Only the image of a store with a task is computed from the
+-- definition of an image.
 use Rattle.std.specs.Prelude.{ℕ, List, [], ◌∷◌, ◌++◌, codes, replicate}
 use Rattle.run_model.specs.declared.scopes.Kind.TheVariants as kind
 use Rattle.run_model.specs.Event.{Event}
@@ -16,23 +16,23 @@ abbrev pub empty_image : (version count : ℕ) → List ℕ
 empty_image version count =
     version ∷ replicate 8 0 ++ replicate 7 0 ++ count ∷ 0 ∷ 0 ∷ 0 ∷ 0 ∷ 0 ∷ 0 ∷ []
 
--- Three records: scope a, scope b under it, and the cancel of a with a cause.
+-- Three records: scope a, scope b below it, and the cancel of a with a cause.
 abbrev pub three_records : List ℕ
 three_records =
     1 ∷ 0 ∷ 5 ∷ 1 ∷ 97 ∷ 0 ∷ 0 ∷ 2
     ∷ 1 ∷ 0 ∷ 5 ∷ 1 ∷ 98 ∷ 0 ∷ 1 ∷ 1
     ∷ 2 ∷ 0 ∷ 7 ∷ 0 ∷ 1 ∷ 4 ∷ 100 ∷ 105 ∷ 115 ∷ 107 ∷ []
 
--- Two more: scopes c and d.
+-- Two more records: scopes c and d.
 abbrev pub two_records : List ℕ
 two_records = 1 ∷ 0 ∷ 5 ∷ 1 ∷ 99 ∷ 0 ∷ 0 ∷ 1 ∷ 1 ∷ 0 ∷ 5 ∷ 1 ∷ 100 ∷ 0 ∷ 0 ∷ 1 ∷ []
 
--- The events of those two.
+-- The events of those two records.
 abbrev pub two_events : List Event
 two_events =
     event.Derive (codes "c") 0 kind.Cancel ∷ event.Derive (codes "d") 0 kind.Cancel ∷ []
 
--- The state after the first three, and after all five.
+-- The state after the first three records, and after all five.
 abbrev pub at_four : State
 at_four = after_three.state
 
@@ -41,7 +41,7 @@ at_six =
     step (step at_four (event.Derive (codes "c") 0 kind.Cancel))
     (event.Derive (codes "d") 0 kind.Cancel)
 
--- The first record, and a prefix of the second; and what is left of them.
+-- The first record and a prefix of the second one, and what is left of the records.
 abbrev pub cut_record : List ℕ
 cut_record = 1 ∷ 0 ∷ 5 ∷ 1 ∷ 97 ∷ 0 ∷ 0 ∷ 2 ∷ 1 ∷ 0 ∷ 5 ∷ []
 
@@ -49,8 +49,8 @@ abbrev pub rest_of_records : List ℕ
 rest_of_records =
     1 ∷ 98 ∷ 0 ∷ 1 ∷ 1 ∷ 2 ∷ 0 ∷ 7 ∷ 0 ∷ 1 ∷ 4 ∷ 100 ∷ 105 ∷ 115 ∷ 107 ∷ []
 
--- The three records with another first byte, with another length in the first, and with scope 5 as
--- the first one's parent.
+-- The three records with another first byte, with another length in the first one, and with scope 5
+-- as the parent in the first one.
 abbrev pub with_tag : ℕ → List ℕ
 with_tag tag =
     tag ∷ 0 ∷ 5 ∷ 1 ∷ 97 ∷ 0 ∷ 0 ∷ 2

@@ -1,4 +1,4 @@
--- Two nights of the machine over a new small store, each ended by a crash.
+-- Two sessions of the machine over a new small store, each ended by a crash.
 use Rattle.std.specs.Prelude.{◌∷◌, [], ℕ, List, take}
 use Rattle.run_model.specs.declared.answers.Reply.{Reply}
 use Rattle.run_model.specs.declared.commands.Step.{Step}
@@ -10,7 +10,7 @@ use Rattle.book_model.specs.Examples.Calls.{acked, cancel, derive, done, flush, 
 use Rattle.book_model.specs.Examples.Nights.{new_store}
 use Rattle.book_model.specs.ManyNights.{Night, Spent}
 
--- The store: root alone.
+-- The store, which has only root.
 abbrev pub store : State
 store = formatted Small
 
@@ -24,22 +24,22 @@ answered =
     ∷ (derive "c" "root" Cancel, scope_made 3)
     ∷ []
 
--- The first night: a crash comes in the midst of a fifth command.
+-- The first session: a crash comes during a fifth command.
 abbrev pub first_night : Night
 first_night = Spent answered (derive "d" "root" Cancel ∷ [])
 
--- The second night, over a store with the first four: a flush has nothing to save, and returns the
--- count with this opening; a command is answered, and then a crash comes.
+-- The second session, over a store with the first four events. A flush has nothing to save, and
+-- returns the count, which includes this opening. A command is answered, and then a crash comes.
 abbrev pub second_night : Night
 second_night =
     Spent ((flush, acked 6) ∷ (derive "e" "root" Cancel, scope_made 4) ∷ []) []
 
--- The five commands of the first night.
+-- The five commands of the first session.
 abbrev pub five : List Step
 five =
     derive "a" "root" Cause ∷ derive "b" "a" Cancel ∷ cancel "a" "disk"
     ∷ derive "c" "root" Cancel ∷ derive "d" "root" Cancel ∷ []
 
--- The state after the first so many of them.
+-- The state after the first n of them.
 abbrev pub after_first : ℕ → State
 after_first n = (session_after new_store (take n five)).state
