@@ -1,4 +1,4 @@
--- A chain of calls, by what each of them leaves.
+-- Several calls, one after another, by the effect of each of them.
 use Rattle.std.proofs.Common.{◌≡◌, ◌⊎◌, ◌≤◌, inl, inr, ◌∷◌, ◌||◌, ℕ, Bool, true, false, List, []}
 use Rattle.std.proofs.Common.{length, None, Ok, Err, Some, append-nil, refl, sym, ap, ◌∙◌, subst}
 use Rattle.std.proofs.Common.{arith, IfErr, Result}
@@ -83,7 +83,7 @@ fails_later : (old mid new : DiskState) → old.failures ≤ mid.failures → De
 fails_later old mid new later (inl rose) = inl (omega (arith, later, rose))
 fails_later old mid new later (inr spent) = inr spent
 
--- What stops later calls stops the whole row.
+-- A reason that ends the later calls early ends all of them early.
 pub stops_later : (old mid new : DiskState) (why : Trouble) → old.failures ≤ mid.failures
     → StopsFor mid new why → StopsFor old new why
 stops_later old mid new why later (inl memory) = inl memory
@@ -98,7 +98,7 @@ pub stopped_later : {D X : Type 0} (state : D → DiskState) (old mid : DiskStat
 stopped_later state old mid (Ok x) later is = is
 stopped_later state old mid (Err e) later is = stops_later old mid (state e.1) e.0 later is
 
--- No book was opened, where a state is stored.
+-- Why no book was opened, although the disk stores a state.
 pub unopened_why : {D : Type 0} (state : D → DiskState) (given : D) (e : Fault × D) (p : State)
     → IsDisk (state given) → (state given).honest → Opens state given (Err e)
     → Stores (state given).now p → StopsFor (state given) (state e.1) (Faulty e.0)
@@ -143,7 +143,7 @@ reopened_holds p last events x reached (inl before) =
 reopened_holds p last events x reached (inr after) =
     inr (inr (record { last = last; reached = reached; stores = after }))
 
--- No step was taken, as no book was opened.
+-- No step was taken, because no book was opened.
 pub unopened : (p : State) (steps : List Step) (replies : List Reply) (old new : DiskState)
     → LeavesOnly (StoresOpened p) old new → HasStayed p steps replies replies old new
 unopened p steps replies old new leaves = record {
@@ -153,7 +153,7 @@ unopened p steps replies old new leaves = record {
       new (λ x is. opened_holds p (accepted (opened_from p) (taken steps [])) x is) leaves;
 }
 
--- Steps were played over the book that an opening answered.
+-- Steps were played over the book that an opening returned.
 pub is_played : {D : Type 0} (state : D → DiskState) (given : D) (p : State) (steps : List Step)
     (before replies : List Reply) (first b : BookView D) → (state given).honest
     → IsAtRest (state given) → Stores (state given).now p

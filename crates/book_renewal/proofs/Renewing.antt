@@ -1,4 +1,4 @@
--- What a renewal makes of the new disk, and what it answers.
+-- The effect of a renewal on the new disk, and its result.
 use Rattle.run_model.proofs.Common.{◌≡◌, inl, inr, ◌<◌, ◌≤◌, ◌+◌, ℕ, List, [], Ok, Err}
 use Rattle.run_model.proofs.Common.{length, take, refl, sym, subst, ◌∙◌, arith, IfErr}
 use Rattle.run_model.proofs.Common.{Result, length-take-le, store_len, State}
@@ -60,13 +60,13 @@ pub are_stores : (old given : DiskState) (from to : Layout) → old.size ≡ sto
 are_stores old given from to old_size new_size =
     record { from = from; to = to; old_size = old_size; new_size = new_size }
 
--- Nothing is made of a store that isn't read.
+-- Nothing is made from a store that isn't read.
 pub unread_not : {D E : Type 0} (from : D → DiskState) (to : E → DiskState) (old read : D)
     (given : E) (w : MigrateFault) → AreStores (from old) (to given) → ReadsNot from old w read
     → RenewsNot from to old given w read given
 unread_not from to old read given w sized is = inr (inr (inl (sized, is, refl)))
 
--- Or none was made.
+-- The store was read, but none was made.
 pub written_not : {D E : Type 0} (from : D → DiskState) (to : E → DiskState) (old read : D)
     (given new : E) (r : Result (Unit {0}) MigrateFault) (p : State)
     → AreStores (from old) (to given) → HasReadStore p (from old) (from read)

@@ -1,4 +1,4 @@
--- Texts that are appended one after the other.
+-- Texts that are appended one after another.
 use Rattle.std.specs.Prelude.{◌+◌, ◌≤◌, ℕ, List, ◌++◌}
 use Rattle.std.proofs.Common.{arith, ap, ◌∙◌, append_assoc}
 use Rattle.console_lines.specs.Appended.{Appended}
@@ -10,7 +10,7 @@ appended_then a b c x y p q h k = record {
   fits = omega (arith, h.fits, k.fits);
 }
 
--- Three of them.
+-- Three texts, one after another.
 pub appended_three : (a b c d x y z : List ℕ) (p q r : ℕ)
     → Appended a b x p → Appended b c y q → Appended c d z r
     → Appended a d (x ++ (y ++ z)) (p + (q + r))
@@ -23,6 +23,6 @@ pub ◌followed_by◌ : {a b c x y : List ℕ} {p q : ℕ}
     → Appended a b x p → Appended b c y q → Appended a c (x ++ y) (p + q)
 ◌followed_by◌ {a} {b} {c} {x} {y} {p} {q} h k = appended_then a b c x y p q h k
 
--- What was buffered has also at most any greater number of bytes.
+-- A text that has at most p bytes has at most any greater number of bytes.
 pub appended_within : {a b x : List ℕ} {p : ℕ} (q : ℕ) → Appended a b x p → p ≤ q → Appended a b x q
 appended_within q h few = record { items = h.items; fits = omega (arith, h.fits, few) }

@@ -1,4 +1,4 @@
--- The line of a tally is ASCII, which is made a `str`.
+-- The line of a tally is ASCII, so it can be a `str`.
 use Rattle.std.specs.Prelude.{◌≡◌, ℕ, ◌<◌, true, List, [], ◌∷◌, ◌++◌, codes}
 use Rattle.std.specs.Fmt.{decimal}
 use Rattle.std.specs.List.{list_all}
@@ -30,7 +30,7 @@ count bytes n h few =
     both bytes (decimal n) (word bytes h)
     (record { ascii = IsAscii-decimal n (omega (arith, few)) })
 
--- Each count is one of two bytes.
+-- Each count fits into two bytes.
 pub record AreCounts (counts : TaskCounts) : Type 0 where
   pub total : counts.total < 65536
   pub success : counts.success < 65536

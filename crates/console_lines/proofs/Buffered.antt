@@ -1,4 +1,4 @@
--- Texts that are written in part, or buffered and then written.
+-- Texts of which a prefix is written, and texts that are buffered and then written.
 use Rattle.std.specs.Prelude.{◌≡◌, ℕ, List, [], ◌++◌, Option}
 use Rattle.std.specs.Io.KnownBytes.{Appends}
 use Rattle.std.proofs.Common.{sym, ap, ◌∙◌, subst, append_assoc, append-nil}
@@ -8,7 +8,7 @@ use Rattle.console_lines.specs.Buffered.{Buffered}
 
 -- ---- a part
 
--- Of some text that goes on what was written, a front was written, and not all.
+-- A proper prefix of some text after the bytes from before was written.
 pub part_after :
     (x g : List ℕ) (w0 w1 w2 : Option (List ℕ))
     → Appends w0 w1 x
@@ -17,14 +17,14 @@ pub part_after :
 part_after x g w0 w1 w2 h k =
     (x ++ k.0, front_after k.0 x g k.1, appends_then w0 w1 w2 x k.0 h k.2)
 
--- A front of the first of two texts is one of both.
+-- A prefix of the first of two texts is a prefix of both joined.
 pub part_more : (x y : List ℕ) (w0 w1 : Option (List ℕ))
     → WritesPart w0 w1 x → WritesPart w0 w1 (x ++ y)
 part_more x y w0 w1 k = (k.0, front_more k.0 x y k.1, k.2)
 
 -- ---- texts
 
--- A text is buffered once room was made for it.
+-- A text is buffered after the buffer was made to fit it.
 pub buffered_more : (text g m h : List ℕ) (w0 w1 : Option (List ℕ))
     → Buffered [] g m w0 w1
     → h ≡ m ++ text
@@ -38,7 +38,7 @@ buffered_more text g m h w0 w1 room e = record {
       ∙ ap (λ t. room.out ++ t) (sym e);
 }
 
--- And then it is written.
+-- Then the text is written.
 pub buffered_written : (text g h : List ℕ) (w0 w1 w2 : Option (List ℕ))
     → Buffered text g h w0 w1
     → Appends w1 w2 h
@@ -49,7 +49,7 @@ buffered_written text g h w0 w1 w2 buffered all = record {
   parts = buffered.parts ∙ sym (append-nil (buffered.out ++ h));
 }
 
--- Or a part of it is.
+-- Or only a prefix of the text is written.
 pub buffered_cut : (text g h : List ℕ) (w0 w1 w2 : Option (List ℕ))
     → Buffered text g h w0 w1
     → WritesPart w1 w2 h
@@ -58,7 +58,7 @@ buffered_cut text g h w0 w1 w2 buffered cut =
     let P : List ℕ → Type 0 = λ t. WritesPart w0 w2 t in
     subst P (sym buffered.parts) (part_after buffered.out h w0 w1 w2 buffered.written cut)
 
--- All was written, the text too.
+-- Everything was written, including the text.
 pub buffered_whole : (text g h : List ℕ) (w0 w1 w2 : Option (List ℕ))
     → Appends w0 w1 g → Appends w1 w2 text → h ≡ [] → Buffered text g h w0 w2
 buffered_whole text g h w0 w1 w2 first next none = record {
@@ -69,12 +69,12 @@ buffered_whole text g h w0 w1 w2 first next none = record {
 
 -- ---- two texts
 
--- A text was buffered, and nothing was written yet.
+-- A text was buffered, and nothing is written yet.
 pub buffered_first : (text g h : List ℕ) (w : Option (List ℕ)) → h ≡ g ++ text
     → Buffered text g h w w
 buffered_first text g h w e = record { out = []; written = appends_nothing w; parts = sym e }
 
--- A text was buffered, and then another.
+-- A text was buffered, and then another one.
 pub buffered_then : (x y g h k : List ℕ) (w0 w1 w2 : Option (List ℕ))
     → Buffered x g h w0 w1
     → Buffered y h k w1 w2
@@ -90,7 +90,7 @@ buffered_then x y g h k w0 w1 w2 one two = record {
       ∙ sym (append_assoc one.out two.out k);
 }
 
--- A text was buffered, and of the next a front was written.
+-- A text was buffered, and a prefix of the next one was written.
 pub buffered_part : (x y h : List ℕ) (w0 w1 w2 : Option (List ℕ))
     → Buffered x [] h w0 w1 → WritesPart w1 w2 (h ++ y) → WritesPart w0 w2 (x ++ y)
 buffered_part x y h w0 w1 w2 buffered cut =

@@ -55,7 +55,7 @@ no_cancel_by line other (word ∷ scope ∷ cause) is = by (bytes_eq word (codes
         ∙ ap (λ w. w ++ 32 ∷ rest) ((bytes_eq-Decides word (codes "cancel")).0 e)))
     by false e = rw e refl
 
--- A line that begins otherwise is no cancel.
+-- A line that begins differently isn't a cancel.
 pub no_cancel : (line : List ℕ) → ((left : List ℕ) → line ≢ codes "cancel " ++ left)
     → cancel_words line ≡ None
 no_cancel line other = by (nat_lt LONGEST_LINE (length line)) refl
@@ -71,7 +71,7 @@ pub words_of_cancel : (word scope : List ℕ) (cause : Option (List ℕ))
 words_of_cancel word scope cause spelled =
     rw spelled (ap (λ (rest : Option (List ℕ)). Some (scope, rest)) (rest_is cause))
 
--- A line cancels a scope, by its words.
+-- A line with these words cancels a scope.
 pub asks_to_cancel : (line word scope : List ℕ) (left cause : Option (List ℕ))
     → length line ≤ LONGEST_LINE
     → words_of line ≡ word ∷ words_in left
@@ -87,7 +87,7 @@ asks_to_cancel line word scope left cause short words spelled next =
     (ap asked_by first ∙ ap cancel_line next
     ∙ ap (λ r. Some (asks_cancel scope r)) (rest_is cause))
 
--- What is read after `cancel ` are the words of the line.
+-- The words that are read after `cancel ` are the words of the line.
 pub next_words : (line left : List ℕ) (r : Option (Bor (List ℕ) × Option (Bor (List ℕ))))
     → length line ≤ LONGEST_LINE
     → line ≡ codes "cancel " ++ left
@@ -102,7 +102,7 @@ next_words line left (Some next) short is more =
     (ap words_of is ∙ words_after left ∙ ap (λ w. codes "cancel" ∷ w) more)
     ∙ words_of_cancel (codes "cancel") next.0.now (lent next.1) refl)
 
--- What they ask for is a cancel.
+-- The request in these words is a cancel.
 pub next_asks : (line left : List ℕ) (r : Option (Bor (List ℕ) × Option (Bor (List ℕ))))
     → length line ≤ LONGEST_LINE
     → line ≡ codes "cancel " ++ left

@@ -1,4 +1,5 @@
--- A line is replied as what is kept of it is: one that is cut is a bad line either way.
+-- The reply to a line is the reply to the part of it that is kept: a line that is cut is a bad line
+-- either way.
 use Rattle.std.specs.Prelude.{◌≡◌, ◌<◌, ℕ, false, List, length, Option, Some, None, if◌then◌else◌}
 use Rattle.std.proofs.Common.{inl, inr, arith, ap, refl, ◌∙◌, sym}
 use Rattle.std.proofs.lemmas.Bool.{cases_lt}
@@ -44,11 +45,11 @@ after_line_kept s line = ap (λ a. after_asked s a) (asked_of_kept line)
 long_ends : (line : List ℕ) → 256 < length line → ends_in_return line ≡ false
 long_ends line h = grind (arith, nat_tests, common_steps, h)
 
--- What is kept of a line ends with a carriage return where the line does.
+-- The kept part of a line ends with a carriage return exactly if the line does.
 pub ends_kept : (line : List ℕ) → ends_in_return (kept line) ≡ ends_in_return line
 ends_kept = same_of_kept ends_in_return false long_ends
 
--- Lines that end alike are rejected alike.
+-- Lines with the same last byte are rejected in the same way.
 pub rejected_alike : (why : Option Rejection) (xs ys : List ℕ)
     → ends_in_return xs ≡ ends_in_return ys → rejection_by why xs ≡ rejection_by why ys
 rejected_alike None xs ys e = refl

@@ -1,4 +1,4 @@
--- Years and months are counted off as the calendar counts days.
+-- Years and months are passed one by one, as the calendar counts days.
 use Rattle.std.specs.Prelude.{◌≡◌, ◌<◌, ◌≤◌, ◌+◌, ◌-◌, ℕ, zero, suc, nat_lt, true, false, pos}
 use Rattle.std.specs.Prelude.{◌<ℤ◌, ◌+ℤ◌, neg_ℤ, ◌≤ℤ◌}
 use Rattle.std.proofs.Common.{arith, subst, ◌∙◌}
@@ -27,7 +27,7 @@ year_later years first day past =
     let test : nat_lt day (days_in_year (pos first)) ≡ false = grind (arith, nat_tests, past) in
     rw test
 
--- A date that is so many days after the first day of a year is found in its own year.
+-- A date this many days after the first day of a year is found in its own year.
 pub year_found : (k years first day y m d : ℕ) → k < years → y ≡ k + first
     → IsCivilDate (pos y) m d
     → day_count (pos y) m d ≡ day_count (pos first) 1 1 + day
@@ -77,7 +77,7 @@ month_later months y first day past =
     grind (arith, nat_tests, past) in
     rw test
 
--- So it is found in its own month.
+-- In the same way it is found in its own month.
 pub month_found : (k months first day y m d : ℕ) → k < months → m ≡ k + first → 1 ≤ first
     → IsCivilDate (pos y) m d
     → day_count (pos y) m d ≡ day_count (pos y) first 1 + day

@@ -1,4 +1,4 @@
--- How long a printed moment is.
+-- The length of a printed moment.
 use Rattle.std.specs.Prelude.{◌<◌, ◌≤◌, ◌^◌, ℕ, length}
 use Rattle.std.specs.Fmt.{decimal}
 use Rattle.std.proofs.Common.{arith}

@@ -1,4 +1,4 @@
--- The jobs of some tasks, and of one task more.
+-- The jobs of some tasks, and those with one more task.
 use Rattle.std.specs.Prelude.{◌≡◌, ℕ, Bool, true, false, not, ◌||◌, cond, if◌then◌else◌}
 use Rattle.std.specs.Prelude.{List, [], ◌∷◌, ◌++◌, filter}
 use Rattle.std.specs.List.{list_any}
@@ -27,7 +27,7 @@ same a b h = (bytes_eq-Decides a b).0 h
 pub self_same : (a : List ℕ) → bytes_eq a a ≡ true
 self_same a = (bytes_eq-Decides a a).1 refl
 
--- Which of the two comes first is the same.
+-- Comparing two names in the other order gives the same result.
 pub turned : (a b : List ℕ) (t : Bool) → bytes_eq a b ≡ t → bytes_eq b a ≡ t
 turned a b true h = (bytes_eq-Decides b a).1 (sym (same a b h))
 turned a b false h = by (bytes_eq b a) refl
@@ -62,7 +62,7 @@ among_by a k j jobs true e h rest =
 among_by a k j jobs false e h rest =
     ap (is_among k) (without_step a j jobs false e) ∙ ap (λ b. bytes_eq k j || b) rest
 
--- Another job stays among them.
+-- Every other job stays in the list.
 pub among_without : (a k : List ℕ) (jobs : List (List ℕ))
     → bytes_eq k a ≡ false
     → is_among k (without a jobs) ≡ is_among k jobs
@@ -79,7 +79,7 @@ none_by a j jobs false e rest =
     ap (is_among a) (without_step a j jobs false e)
     ∙ among_step a j (without a jobs) false e ∙ rest
 
--- The one job is not.
+-- The job itself isn't in the list.
 pub none_without : (a : List ℕ) (jobs : List (List ℕ)) → is_among a (without a jobs) ≡ false
 none_without a [] = refl
 none_without a (j ∷ jobs) = none_by a j jobs (bytes_eq a j) refl (none_without a jobs)
@@ -108,7 +108,7 @@ distinct_without a [] h = tt
 distinct_without a (j ∷ jobs) h =
     distinct_by a j jobs (bytes_eq a j) refl h.0 (distinct_without a jobs h.1)
 
--- The jobs of tasks are there once each.
+-- Each job of these tasks is in the list once.
 pub distinct : (tasks : List Task) → AreDistinct (jobs_of tasks)
 distinct [] = tt
 distinct (task ∷ tasks) = (
@@ -150,7 +150,7 @@ after_by a k jobs false false h e =
     ∙ sym (with_step (a ∷ without a jobs) k false
     (among_step k a (without a jobs) false h ∙ among_without a k jobs h ∙ e))
 
--- The last task's job goes after those of the others.
+-- The job of the last task comes after those of the others.
 pub jobs_more : (tasks : List Task) (task : Task)
     → jobs_of (tasks ++ task ∷ []) ≡ with_job (jobs_of tasks) task.job
 jobs_more [] task = refl

@@ -73,7 +73,7 @@ pub lines_are_parts : (bytes : List ℕ) → lines_of bytes ≡ slice_split (λ 
 lines_are_parts bytes =
     parts_from [] bytes ∙ put_nothing (slice_split (λ b. b == 10) bytes) (has_parts bytes)
 
--- The replies to the lines of a first part are the first of what is printed.
+-- The replies to the lines of a first part come first in the output.
 pub replies_stay :
     (s : Session) (first more : List ℕ)
     → IsFront (replies s (whole_lines [] first)) (script s (first ++ more))
@@ -99,7 +99,7 @@ step_first :
 step_first s None steps = refl
 step_first s (Some x) steps = refl
 
--- Lines leave what their steps leave.
+-- Lines leave the same session as their steps.
 pub lines_are_steps :
     (s : Session) (lines : List (List ℕ))
     → after_lines s lines ≡ session_after s (steps_of lines)
@@ -111,13 +111,13 @@ lines_are_steps s (line ∷ lines) =
 
 -- ---- texts
 
--- A value's text is all that stands after its key.
+-- The text of a value consists of all bytes after its key.
 pub value_text :
     (key text : List ℕ)
     → wish_of (codes "value") (key ∷ words_of text) ≡ Some (wished (wish.Value key text))
 value_text key text = ap (λ t. option_map (λ x. wished (wish.Value key x)) t) (rest_is (Some text))
 
--- A deadline's cause is all that stands after its moment.
+-- The cause of a deadline consists of all bytes after its moment.
 pub deadline_cause :
     (word cause : List ℕ) (moment : ℕ)
     → moment_of word ≡ Some (Ok moment)
@@ -127,7 +127,7 @@ deadline_cause word cause moment h =
     ap (λ m. option_map (deadline_at (rest_of (words_of cause))) m) h
     ∙ ap (λ t. Some (wished (wish.Deadline moment t))) (rest_is (Some cause))
 
--- A timeout's cause is all that stands after its number.
+-- The cause of a timeout consists of all bytes after its number.
 pub timeout_cause :
     (word cause : List ℕ) (seconds : ℕ)
     → number_of word ≡ Some seconds

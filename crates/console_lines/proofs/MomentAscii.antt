@@ -112,7 +112,7 @@ short_local : (bytes : List ℕ) (t : Bool) → length bytes < 19 → is_local b
 short_local bytes false h e = refl
 short_local bytes true h e = absurd (omega (arith, local_length bytes e, h))
 
--- A word of fewer than 19 bytes is no date and time.
+-- A word of fewer than 19 bytes isn't a date and time.
 pub short_word : (word : List ℕ) → length word < 19 → is_date_time word ≡ false
 unfolding is_date_time
 short_word word h =

@@ -1,4 +1,4 @@
--- What jiff prints of an instant is the text of its moment.
+-- The text that jiff prints for an instant is the text of its moment.
 use Rattle.std.specs.Prelude.{◌≡◌, ◌<◌, ◌≤◌, ◌+◌, ◌-◌, ◌*◌, ◌/◌, ◌%◌, ℕ, ℤ, pos, negsuc, false}
 use Rattle.std.specs.Prelude.{◌*ℤ◌, ◌≤ℤ◌, ◌++◌, List, [], None, codes, length}
 use Rattle.std.proofs.Common.{arith, ap, append_assoc, refl, sym, ◌∙◌, ◌∷◌}
@@ -58,7 +58,7 @@ time_is h m s hours minutes seconds =
     let c : (h * 3600 + m * 60 + s) % 60 ≡ s = omega (arith, seconds) in
     rw (a, b, c)
 
--- An instant in whole seconds has the text of its moment.
+-- An instant in whole seconds is printed as the text of its moment.
 pub printed_is : (p : DateTimePrinter) (t : Timestamp) (moment : ℕ) (text : List ℕ)
     → options p ≡ (false, 84, None) → t.nanosecond ≡ pos moment *ℤ pos 1_000_000_000
     → IsTimestampText p t text → text ≡ moment_text moment

@@ -10,7 +10,7 @@ use Rattle.std.proofs.lemmas.Grind.{common_steps}
 use Rattle.std.proofs.lemmas.Int.Digits.{digits_value_more}
 use Rattle.std.proofs.lemmas.List.Sums.{AllPass-from_list_all}
 
--- Twelve digits write less than this.
+-- A number with up to twelve digits is below this bound.
 pub tens : (i : ℕ) → i ≤ 12 → 10 ^ i ≤ 1_000_000_000_000
 tens i h = pow-le-pow_right {n = 10} (omega arith) {i = i} {j = 12} h
 
@@ -28,7 +28,7 @@ digit_at word i all h =
 digit_value_is : (b : ℕ) → 48 ≤ b → b ≤ 57 → digit_value b ≡ b - 48
 digit_value_is b low high = grind (arith, nat_tests, common_steps)
 
--- One digit more.
+-- The number with one more digit.
 pub digits_more :
     (word : List ℕ) (i : ℕ)
     → list_all is_ascii_digit word ≡ true
@@ -43,11 +43,11 @@ digits_more word i all h =
 pow_more : (i : ℕ) → 10 ^ (i + 1) ≡ 10 ^ i * 10
 pow_more i = ap (λ n. 10 ^ n) (add-one i) ∙ pow-suc 10 i
 
--- A digit more keeps a number below the power of ten by its digits.
+-- One more digit keeps a number below the power of ten for its digits.
 pub below_more :
     (v d i : ℕ) → v < 10 ^ i → d ≤ 9 → v * 10 + d < 10 ^ (i + 1)
 below_more v d i h low = omega (arith, pow_more i)
 
--- A number of so many digits is below the limit.
+-- A number with this many digits is below the limit.
 pub below_limit : (v i : ℕ) → v < 10 ^ i → i ≤ 12 → v < 1_000_000_000_000
 below_limit v i h few = omega (arith, tens i few)

@@ -1,4 +1,4 @@
--- The first rejected line, among lines that are one after the other.
+-- The first rejected line in two lists of lines, one after the other.
 use Rattle.std.specs.Prelude.{◌≡◌, ◌+◌, ℕ, Bool, true, false, List, [], ◌∷◌, ◌++◌, length}
 use Rattle.std.specs.Prelude.{map, Option, Some, None, is_some, if◌then◌else◌}
 use Rattle.std.specs.Option.{option_map_or}
@@ -23,7 +23,7 @@ none_first : (n : ℕ) (first : Option Rejection) (rest : Option RejectedLine)
 none_first n None rest h = (refl, h)
 none_first n (Some why) rest h = absurd (grind (arith, h))
 
--- The search goes on after them.
+-- If no line of the first list is rejected, the search goes on in the second.
 pub none_then : (n : ℕ) (s : Session) (xs ys : List (List ℕ))
     → rejection_from n s xs ≡ None
     → rejection_from n s (xs ++ ys) ≡ rejection_from (n + length xs) (after_lines s xs) ys
@@ -35,7 +35,7 @@ none_then n s (x ∷ xs) ys h =
     ∙ none_then (n + 1) (after_line s x) xs ys both.1
     ∙ ap (λ m. rejection_from m (after_lines (after_line s x) xs) ys) (omega arith)
 
--- All of them are run.
+-- If no line of the first list is rejected, all of them are run.
 pub lines_then : (n : ℕ) (s : Session) (xs ys : List (List ℕ))
     → rejection_from n s xs ≡ None
     → strict_lines s (xs ++ ys) ≡ xs ++ strict_lines (after_lines s xs) ys
@@ -58,7 +58,7 @@ some_first n x None rejection rest more lines all h behind =
     ((behind h).0, ap (λ t. x ∷ t) (behind h).1)
 some_first n x (Some why) rejection rest more lines all h behind = (h, refl)
 
--- What comes after them doesn't matter.
+-- If a line of the first list is rejected, the second list doesn't matter.
 pub some_more : (n : ℕ) (s : Session) (xs ys : List (List ℕ)) (rejection : RejectedLine)
     → rejection_from n s xs ≡ Some rejection
     → (rejection_from n s (xs ++ ys) ≡ Some rejection)
@@ -94,14 +94,14 @@ none_one n s line h =
 
 -- ---- tallies
 
--- No tally is rejected.
+-- A tally never rejects its line.
 pub tallies_stay : (tallies : List JobTally) → rejection_among (map printed.Tally tallies) ≡ None
 tallies_stay [] = refl
 tallies_stay (tally ∷ tallies) = tallies_stay tallies
 
 -- ---- an input
 
--- An LF ends a line wherever it stands.
+-- Every LF ends a line.
 pub lines_around : (front behind : List ℕ)
     → lines_of (front ++ 10 ∷ behind) ≡ lines_of front ++ lines_of behind
 lines_around front behind =
@@ -124,7 +124,7 @@ rejected_before s front behind rejection h =
     let more = some_more 1 s (lines_of front) (lines_of behind) rejection h in
     (ap (rejection_from 1 s) lines ∙ more.0, ap (strict_lines s) lines ∙ more.1)
 
--- Where none is rejected all lines are run.
+-- If no line is rejected, all lines are run.
 pub all_lines : (s : Session) (bytes : List ℕ) → rejection_in s bytes ≡ None
     → strict_lines_of s bytes ≡ lines_of bytes
 all_lines s bytes h =
@@ -132,7 +132,7 @@ all_lines s bytes h =
     ∙ lines_then 1 s (lines_of bytes) [] h
     ∙ append-nil (lines_of bytes)
 
--- What is printed goes by the lines.
+-- The same lines print the same output.
 pub printed_alike : (s : Session) (xs ys : List (List ℕ)) → xs ≡ ys
     → replies s xs ++ closing (after_lines s xs) ≡ replies s ys ++ closing (after_lines s ys)
 printed_alike s xs ys h = ap (λ l. replies s l ++ closing (after_lines s l)) h

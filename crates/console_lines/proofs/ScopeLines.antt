@@ -1,4 +1,4 @@
--- A line that asks how a scope is.
+-- A line that asks for the state of a scope.
 use Rattle.std.specs.Prelude.{◌≡◌, ◌≤◌, ◌==◌, ℕ, true, false, List, [], ◌∷◌, ◌++◌, Some}
 use Rattle.std.specs.Prelude.{length, take, drop, position, codes}
 use Rattle.std.specs.List.{list_all}
@@ -61,7 +61,7 @@ begins line name e =
     sym (take-append-drop 6 line) ∙ ap (λ xs. xs ++ drop 6 line) same
     ∙ ap (λ xs. codes "scope " ++ xs) rest
 
--- It asks how the scope of the name after `scope ` is.
+-- The line asks for the state of the scope whose name comes after `scope `.
 pub asks_scope : (line name : List ℕ) → scope_word line ≡ Some name → IsName name
     → request_of line ≡ asked.Scope name
 asks_scope line name e h = ap request_of (begins line name e) ∙ asks name h

@@ -1,4 +1,4 @@
--- The lines of two parts of an input, one after the other.
+-- The lines of two parts of an input, one part after the other.
 use Rattle.std.specs.Prelude.{◌≡◌, ◌<◌, ◌≤◌, ◌+◌, ℕ, min, List, [], ◌∷◌, ◌++◌, length}
 use Rattle.std.proofs.Common.{arith, refl, sym, ap, ◌∙◌}
 use Rattle.std.proofs.lemmas.List.{length-append, length-take, take_all, take-append-le}
@@ -21,7 +21,7 @@ open_line-append begun [] ys = refl
 open_line-append begun (x ∷ xs) ys =
     grind (arith, open_line-append [] xs ys, open_line-append (begun ++ x ∷ []) xs ys)
 
--- An LF ends the line that was begun, and begins an empty one.
+-- An LF ends the current line, and begins an empty one.
 pub line_ends :
     (begun part : List ℕ)
     → (whole_lines begun (part ++ 10 ∷ []) ≡ whole_lines begun part ++ open_line begun part ∷ [])
@@ -29,7 +29,7 @@ pub line_ends :
 line_ends begun part =
     (whole_lines-append begun part (10 ∷ []), open_line-append begun part (10 ∷ []))
 
--- What is kept of a longer line, while there is room for a byte more.
+-- The kept part of a longer line, while one more byte fits.
 pub kept_more :
     (begun line : List ℕ) (b : ℕ)
     → begun ≡ kept line
@@ -44,7 +44,7 @@ kept_more begun line b e h =
     grind (arith, length-append line (b ∷ []), len, h) in
     ap (λ x. x ++ b ∷ []) whole ∙ sym (take_all (LONGEST_LINE + 1) (line ++ b ∷ []) more)
 
--- What is kept of a longer line, once there is no room.
+-- The kept part of a longer line, after no further byte fits.
 pub kept_full :
     (begun line : List ℕ) (b : ℕ)
     → begun ≡ kept line

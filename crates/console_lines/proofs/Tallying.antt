@@ -1,4 +1,4 @@
--- The tallies of some tasks, and of one task more.
+-- The tallies of some tasks, and those with one more task.
 use Rattle.std.specs.Prelude.{◌≡◌, ◌<◌, ◌≤◌, ℕ, ◌+◌, Bool, true, false, ◌&&◌, ◌||◌, cond, List, []}
 use Rattle.std.specs.Prelude.{◌∷◌, ◌++◌, map, length, filter, Some, None, unwrap_or}
 use Rattle.std.specs.Str.{bytes_eq}
@@ -76,7 +76,7 @@ counts_are {t} {t'} {s} {s'} {f} {f'} {i} {i'} ht hs hf hi =
     ap (λ n. counts n s f i) ht ∙ ap (λ n. counts t' n f i) hs ∙ ap (λ n. counts t' s' n i) hf
     ∙ ap (λ n. counts t' s' f' n) hi
 
--- The counts can be raised.
+-- None of the counts is the greatest yet.
 pub record HasRoom (counts : TaskCounts) : Type 0 where
   pub total : counts.total < MOST
   pub success : counts.success < MOST
@@ -136,7 +136,7 @@ counts_by xs task job admitted (stage.Failure error) h e =
 counts_by xs task job admitted stage.Interrupted h e =
     counts_same xs task job stage.Interrupted h e
 
--- The counts of fewer tasks can be raised.
+-- The counts of fewer tasks than the greatest count can be raised.
 pub counts_fit : (xs : List Task) (job : List ℕ) → length xs < MOST → HasRoom (counts_of xs job)
 counts_fit xs job few =
     let most : (test : Stage → Bool) → tasks_at test job xs ≤ length xs =
@@ -263,7 +263,7 @@ with_told c d job (j ∷ jobs) other h =
 
 -- ---- one task more
 
--- What was counted of a job so far.
+-- The counts of a job so far.
 pub so_far : (xs : List Task) (job : List ℕ) (t : Bool)
     → is_among job (jobs_of xs) ≡ t
     → unwrap_or (counted_at job (tallies_of xs)) no_tasks ≡ counts_of xs job
@@ -273,7 +273,7 @@ so_far xs job false h =
     ap (λ o. unwrap_or o no_tasks) (counted_told (counts_of xs) job (jobs_of xs) false h)
     ∙ sym (none_of job xs h)
 
--- The tallies with one task more.
+-- The tallies with one more task.
 pub tallies_more : (xs : List Task) (task : Task) (admitted : Bool)
     → with_tally task.job
     (plus_one (phase_by admitted task.stage)
@@ -293,7 +293,7 @@ tallies_more xs task admitted =
     (distinct xs)
     ∙ ap (tallied d) (sym (jobs_more xs task))
 
--- What is counted of a job, and what is counted of it with one task more.
+-- The counts of a job, and its counts with one more task.
 pub one_counted :
     (xs : List Task) (task : Task) (admitted : Bool) (tallies : List JobTally) (job : List ℕ)
     (phase : Phase) (old new : TaskCounts)
@@ -324,7 +324,7 @@ one_counted xs task admitted tallies job phase old new before few same_job same_
 abbrev pub same_job : JobKey → JobKey → Bool
 same_job a b = bytes_eq a.name b.name
 
--- What the table finds of a job.
+-- The counts of a job that the table returns.
 pub looked_up : (entries : List (JobKey × TaskCounts)) (job : List ℕ)
     → lookup (λ k. bytes_eq job k.name) entries ≡ counted_at job (map shown entries)
 looked_up [] job = refl
@@ -350,7 +350,7 @@ put_by key counts e entries false h rest =
     ∙ sym (ap (λ b. cond b (shown (e.0, counts) ∷ map shown entries)
     (shown e ∷ with_tally key.name counts (map shown entries))) h)
 
--- What a job's entry leaves of the tallies.
+-- The tallies after the entry of a job was put into the table.
 pub put_in : (entries : List (JobKey × TaskCounts)) (key : JobKey) (counts : TaskCounts)
     → map shown (insert_entry same_job entries key counts)
     ≡ with_tally key.name counts (map shown entries)
@@ -373,7 +373,7 @@ lines_next (x ∷ xs) (suc i) tally h =
     ∙ sym (append_assoc (reply_line (printed.Tally x)) (reply_lines (map printed.Tally (take i xs)))
     (reply_line (printed.Tally tally)))
 
--- The lines of the first tallies, and of one more.
+-- The lines of the first tallies, and those with one more tally.
 pub lines_more : (tallies : List JobTally) (i : ℕ) (tally : JobTally)
     → slice_get tallies i ≡ Some tally
     → reply_lines (map printed.Tally (take (i + 1) tallies))

@@ -1,4 +1,4 @@
--- What a derive is refused by its wish comes after what it is refused by its names.
+-- A derive is refused for its wish only after it is refused for its names.
 use Rattle.std.specs.Prelude.{◌≡◌, ℕ, Bool, true, false, not, ◌&&◌, if◌then◌else◌, List, ◌∷◌}
 use Rattle.std.specs.Prelude.{Option, Some, None, Result, Ok, Err}
 use Rattle.std.specs.List.{list_all}
@@ -34,7 +34,7 @@ after_names true true false t name parent wish = refl
 after_names true true true false name parent wish = refl
 after_names true true true true name parent wish = refl
 
--- A wish that was judged is refused after the names.
+-- A wish that was checked is refused after the names.
 pub judged_after_names :
     (name parent : List ℕ) (w : Wished)
     → asks_judged name parent (judged w) ≡ asks_derive name parent w
@@ -67,7 +67,7 @@ deadline_read word cause moment h =
     ap (λ t. Some (judged (deadline_at t moment))) (sym (rest_is cause))
     ∙ ap (λ o. option_map judged (option_map (deadline_at (rest_of (words_in cause))) o)) h
 
--- And so has a timeout.
+-- The cause of a timeout is the rest of its line, too.
 pub timeout_read :
     (word : List ℕ) (cause : Option (List ℕ)) (seconds : ℕ)
     → Some seconds ≡ number_of word
@@ -78,7 +78,7 @@ timeout_read word cause seconds h =
     ap (λ t. Some (judged (at t seconds))) (sym (rest_is cause))
     ∙ ap (λ o. option_map judged (option_map (at (rest_of (words_in cause))) o)) h
 
--- A value has it as its text.
+-- The text of a value is the rest of its line.
 pub value_read :
     (key text : List ℕ)
     → Some (judged (wished (wish.Value key text)))

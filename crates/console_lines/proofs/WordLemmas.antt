@@ -56,7 +56,7 @@ rest_of_more : (words : List (List ℕ)) → 0 < length words
 rest_of_more [] h = absurd (omega (arith, h))
 rest_of_more (word ∷ words) h = refl
 
--- The rest of a line is what is left of it, byte for byte.
+-- The rest of a line is what comes after its words so far, byte for byte.
 pub rest_is : (left : Option (List ℕ)) → rest_of (words_in left) ≡ left
 rest_is None = refl
 rest_is (Some line) =
@@ -66,7 +66,7 @@ alone_words : (wish : Wish) (words : List (List ℕ)) → 0 < length words → a
 alone_words wish [] h = absurd (omega (arith, h))
 alone_words wish (word ∷ words) h = refl
 
--- A wish that takes nothing is none where a word is left over.
+-- A wish that takes no word isn't one if a word is left.
 pub alone_more : (wish : Wish) (line : List ℕ) → alone wish (words_of line) ≡ None
 alone_more wish line = alone_words wish (words_of line) (has_words line)
 
@@ -75,7 +75,7 @@ asks_alone_words : (a : LineRequest) (words : List (List ℕ)) → 0 < length wo
 asks_alone_words a [] h = absurd (omega (arith, h))
 asks_alone_words a (word ∷ words) h = refl
 
--- A line that no word may follow is none where a word is left over.
+-- A request that takes no word isn't one if a word is left.
 pub asks_alone_more : (a : LineRequest) (line : List ℕ) → asks_alone a (words_of line) ≡ None
 asks_alone_more a line = asks_alone_words a (words_of line) (has_words line)
 
@@ -84,6 +84,6 @@ only_word_words : (word : List ℕ) (words : List (List ℕ)) → 0 < length wor
 only_word_words word [] h = absurd (omega (arith, h))
 only_word_words word (more ∷ words) h = refl
 
--- A word with another after it is not the last.
+-- A word with another one after it isn't the last.
 pub only_word_more : (word line : List ℕ) → only_word (word ∷ words_of line) ≡ None
 only_word_more word line = only_word_words word (words_of line) (has_words line)

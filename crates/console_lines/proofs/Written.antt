@@ -1,4 +1,4 @@
--- What was read and what was written, one part after another.
+-- The bytes that were read and those that were written, part by part.
 use Rattle.std.specs.Prelude.{◌≢◌, List, [], ◌∷◌, ◌++◌, Option, Some, None, ℕ, length}
 use Rattle.std.specs.Io.KnownBytes.{Appends, Consumes, Keeps}
 use Rattle.std.proofs.Common.{arith, refl, sym, ap, ◌∙◌, append_assoc, append-nil}
@@ -46,12 +46,12 @@ more_than_none : (xs ys : List ℕ) → xs ≢ [] → xs ++ ys ≢ []
 more_than_none [] ys h = absurd (h refl)
 more_than_none (x ∷ xs) ys h = λ e. omega (arith, ap length e)
 
--- A front of the second of two texts, after the whole of the first, is one of both.
+-- The first text with a prefix of the second one is a prefix of both joined.
 pub front_after : (front xs ys : List ℕ) → IsCut front ys → IsCut (xs ++ front) (xs ++ ys)
 front_after front xs ys k =
     (k.0, ap (λ t. xs ++ t) k.1 ∙ sym (append_assoc xs front k.0), k.2)
 
--- A front of the first of two texts is one of both.
+-- A prefix of the first of two texts is a prefix of both joined.
 pub front_more : (front xs ys : List ℕ) → IsCut front xs → IsCut front (xs ++ ys)
 front_more front xs ys k = (
   k.0 ++ ys,

@@ -1,4 +1,4 @@
--- What a restart leaves of what is seen.
+-- The effect of a restart on the facts about commands.
 use Rattle.std.proofs.Common.{◌≡◌, ◌∙◌, ◌&&◌, ℕ, Bool, true, false, cond, List}
 use Rattle.std.proofs.Common.{Option, Some, None, slice_get, length, refl, ap}
 use Rattle.std.proofs.lemmas.List.{length-map}

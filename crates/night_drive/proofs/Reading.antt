@@ -1,4 +1,4 @@
--- What is read of a plan, one row after another.
+-- The facts about a plan are read one row after another.
 use Rattle.std.proofs.Common.{◌≡◌, ◌+◌, ◌∙◌, ℕ, Bool, List, [], ◌∷◌, ◌++◌, Some}
 use Rattle.std.proofs.Common.{slice_get, length, inl, inr, ap, subst, sym, arith}
 use Rattle.std.proofs.Common.{length-append}
@@ -11,7 +11,7 @@ use Rattle.night_drive.specs.declared.ends.Ends.{Ends}
 use Rattle.night_drive.specs.declared.names.Names.{Names}
 use Rattle.night_drive.specs.Seen.{AreKnownTo, AreOverTo, IsCalled, is_over, known_of, moment_of}
 
--- A list that was made longer has at its old length what was appended.
+-- A list to which an element was appended has it at the place of its old length.
 pub pushed : {X : Type 0} (xs : List X) (n : ℕ) (x : X) → length xs ≡ n
     → slice_get (xs ++ x ∷ []) n ≡ Some x
 pushed xs n x sized = subst (λ m. slice_get (xs ++ x ∷ []) m ≡ Some x) sized (get_push_last xs x)
@@ -21,13 +21,13 @@ pub longer : {X : Type 0} (xs : List X) (n : ℕ) (x : X) → length xs ≡ n
     → length (xs ++ x ∷ []) ≡ n + 1
 longer xs n x sized = simp length-append (omega arith)
 
--- Two rows at one place are the same.
+-- Two rows at the same place are the same.
 pub one_row : {X : Type 0} (xs : List X) (n i : ℕ) (x y : X) → n ≡ i → slice_get xs n ≡ Some x
     → slice_get xs i ≡ Some y → x ≡ y
 one_row xs n i x y same first second =
     let there : slice_get xs n ≡ slice_get xs i = ap (λ m. slice_get xs m) same in cc
 
--- One more group was asked.
+-- One more group was read.
 pub over_more : (p : State) (names : Names) (done : List Bool) (n : ℕ) (name : List ℕ) (b : Bool)
     → length done ≡ n → slice_get names.groups.items n ≡ Some name
     → b ≡ is_over p names.night name → AreOverTo n p names done
@@ -44,7 +44,7 @@ over_more p names done n name b sized is said before g group below there =
           ∙ before g group (omega (arith, below, other)) there
     ]
 
--- One more command is known.
+-- The facts about one more command were read.
 pub known_more : (p : State) (ends : Ends) (names : Names) (commands : List Command)
     (known : List Known) (n : ℕ) (command : Command) (group key : List ℕ) (k : Known)
     → length known ≡ n → IsCalled names commands n command group key

@@ -1,8 +1,8 @@
--- What a `?` returns where it ends a call.
+-- The result of a `?` that ends a call.
 use Rattle.std.proofs.Common.{◌≡◌, Ok, Err, Result, ap}
 use Rattle.std.specs.Result.{IsErrAnd}
 
--- The error that it was given.
+-- The error is the one that was passed to it.
 pub passed_on : {T E : Type 0} (r : Result T E) (e : E) → IsErrAnd r (λ y. y ≡ e) → r ≡ Err e
 passed_on (Ok x) e told = absurd told
 passed_on (Err y) e told = ap (λ w. Err w) told

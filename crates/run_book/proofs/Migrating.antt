@@ -1,4 +1,4 @@
--- What a migration reads of the old disk, and what it makes of the new one.
+-- The result of reading the old disk in a migration, and the effect on the new one.
 use Rattle.run_model.proofs.Common.{◌≡◌, ◌<◌, ◌≤◌, ◌+◌, ℕ, List, Ok, Err, length, take}
 use Rattle.run_model.proofs.Common.{refl, sym, subst, ap, arith, IfErr, OnOk, Result}
 use Rattle.run_model.proofs.Common.{length-take-le, State}
@@ -16,7 +16,7 @@ use Rattle.book_model.specs.Migrations.{ReadsNot, Writes, widened}
 
 -- ---- the old disk
 
--- Nothing is made of a store that isn't read.
+-- Nothing is made from a store that isn't read.
 pub unread_not : {D E : Type 0} (from : D → DiskState) (to : E → DiskState) (old read : D)
     (given : E) (w : MigrateFault) → AreSized (from old) (to given) → ReadsNot from old w read
     → MigratesNot from to old given w read given
@@ -38,7 +38,7 @@ fits_large layout count body is most size =
 
 -- ---- both
 
--- A small store was read, and a large one is made of it.
+-- A small store was read, and a large one was made from it.
 pub written_done : (old read given new : DiskState) (r : Result (Unit {0}) MigrateFault)
     (p : State) → AreSized old given → HasReadStore p old read
     → Writes Large (widened p) given r new → OnOk r (HasMigrated old read given new)
@@ -50,7 +50,7 @@ written_done old read given new (Ok x) p sized found written = record {
 }
 written_done old read given new (Err w) p sized found written = tt
 
--- Or a call of the new disk failed.
+-- A small store was read, but a call of the new disk failed.
 pub written_not : {D E : Type 0} (from : D → DiskState) (to : E → DiskState) (old read : D)
     (given new : E) (r : Result (Unit {0}) MigrateFault) (p : State)
     → AreSized (from old) (to given) → HasReadStore p (from old) (from read)

@@ -1,4 +1,4 @@
--- What an audit found, put together.
+-- The result of an audit, put together from its steps.
 use Rattle.run_model.proofs.Common.{◌≡◌, ℕ, ◌+◌, Bool, true, false, List, length, ap, inl, inr}
 use Rattle.run_model.proofs.Common.{refl, sym, subst, ◌∙◌, WorkState}
 use Rattle.std.specs.List.Sorted.{IsPermutation}

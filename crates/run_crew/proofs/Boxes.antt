@@ -1,4 +1,4 @@
--- What a job behind a vtable does, a box of it does.
+-- A box of a job does what the job behind its vtable does.
 use Rattle.std.proofs.Common.{◌≡◌, refl, subst, sym}
 use Rattle.std.specs.declared.dyn_box.DynBox.{DynBox}
 

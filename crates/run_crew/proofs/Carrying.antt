@@ -1,4 +1,4 @@
--- How a book goes on from what it was when a desk was made over it.
+-- How a book carries on from what it held when a desk was made over it.
 use Rattle.run_model.proofs.Common.{◌≡◌, ◌≤◌, ◌-◌, ◌++◌, ◌∷◌, ℕ, List, [], Bool, true, false}
 use Rattle.run_model.proofs.Common.{Option, None, Some, refl, sym, subst, ap, ◌∙◌, arith}
 use Rattle.run_model.proofs.Common.{append_assoc, append-nil, Result, Ok, Err, if◌then◌else◌, ◌&&◌}
@@ -147,7 +147,7 @@ module _ {D : Type 0} (state : D → DiskState) where
             (λ _. refl),
       )
 
--- Where commands may come it doesn't matter what came.
+-- If commands may come, it doesn't matter which events came.
 pub none_barred : (known : Known) (events : List Event) → obeys known ≡ true
     → obeys known ≡ false → list_all is_work events ≡ true
 none_barred known events may not = absurd (let e : true ≡ false = sym may ∙ not in cc)

@@ -1,4 +1,4 @@
--- What a command leaves of the totals.
+-- The effect of a command on the totals.
 use Rattle.run_model.proofs.Common.{◌≡◌, ℕ, ◌+◌, List, [], ◌∷◌, ◌++◌, Bool, true, false, Option}
 use Rattle.run_model.proofs.Common.{None, Some, refl, ap, arith, Result, Ok, Err, cond, count_by}
 use Rattle.run_model.proofs.Common.{if◌then◌else◌, sum_by-append, sum_by-cons, Event, refusals}
@@ -45,7 +45,7 @@ none_of test e not =
     let one : counted (test e) ≡ counted false = ap counted not in
     omega (arith, one, sum_by-cons (λ e. cond (test e) 1 0) e [])
 
--- A total stays that counts none of what a command adds.
+-- A total stays the same if a command adds nothing that it counts.
 pub kept : {D : Type 0} (test : Event → Bool) (b new : BookView D) (call : Command) (total : ℕ)
     → test (event_of b.session.state call) ≡ false
     → total ≡ count_by test b.session.history

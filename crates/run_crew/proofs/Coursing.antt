@@ -1,4 +1,4 @@
--- What single calls make of a course, put together.
+-- The courses that single calls make together.
 use Rattle.std.proofs.Common.{◌≡◌, ℕ, ◌+◌, ◌<◌, List, [], ◌∷◌, ◌++◌, length, Bool, true, false}
 use Rattle.std.proofs.Common.{Option, None, Some, suc, arith, ◌∙◌, append-nil, append_assoc, ap}
 use Rattle.std.proofs.Common.{inl, inr, refl, subst, sym}
@@ -20,7 +20,7 @@ use Rattle.run_crew.specs.Courses.{IsShift, IsFlusherRun, Path}
 use Rattle.run_crew.specs.Courses.{TakesTask, Went, declined, most_turns, round, task_calls}
 use Rattle.run_crew.specs.Courses as call
 
--- A path, seen by what each state shows, where each call was answered by what stays the same.
+-- A path over the parts of the states that stay the same, if each call is answered by those parts.
 pub seen_path :
     {A B C : Type 0} (step : A → Call → A → Type 0) (at : A → C) (seen : A → B)
     (Answered : C → Call → Type 0) (steps : B → Call → B → Type 0)
@@ -38,7 +38,7 @@ seen_path step at seen Answered steps each (x ∷ xs) a b path =
           (seen_path step at seen Answered steps each xs path.0 b path.2),
     )
 
--- Each call of a path was answered so.
+-- Each call of a path has such an answer.
 pub all_answered : {A : Type 0} (Answered : Call → Type 0) (steps : A → Call → A → Type 0)
     → (calls : List Call) (a b : A) → Path (λ from call to. Answered call × steps from call to)
     a calls b → All Answered calls

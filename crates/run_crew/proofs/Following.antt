@@ -1,4 +1,4 @@
--- Each turn comes after the start of its task was durable.
+-- Each turn comes after the start of its task has become durable.
 use Rattle.std.proofs.Common.{◌≡◌, ◌∙◌, ◌⊎◌, ℕ, zero, suc, ◌≤◌, List, [], ◌∷◌, ◌++◌, Bool, All, Ok}
 use Rattle.std.proofs.Common.{true, false, Err, Some, None, ap, append-nil, append_assoc, inl, inr}
 use Rattle.std.proofs.Common.{refl, subst, sym}

@@ -1,4 +1,4 @@
--- What a night's gate answered and was told, of all that its workers called.
+-- The answers of the gate in a run, and what it was informed of, in all calls of the workers.
 use Rattle.std.proofs.Common.{ℕ, List, Bool, length}
 use Rattle.std.specs.List.{AllZip}
 use Rattle.std.specs.Prelude.{All, Result}

@@ -1,4 +1,4 @@
--- Notes of which none is stray, and which lack no finish, are the finishes in some order.
+-- If no note is stray and no finish is missing, the notes are the finishes in some order.
 use Rattle.run_model.proofs.Common.{◌≡◌, ℕ, ◌+◌, ◌<◌, List, [], ◌∷◌, ◌++◌, take, Bool, true, false}
 use Rattle.run_model.proofs.Common.{◌||◌, ◌&&◌, refl, ap, sym, ◌∙◌, arith, append_assoc, subst}
 use Rattle.run_model.proofs.Common.{suc, not, slice_index_or, ◌==◌, nat_lt, if◌then◌else◌}
@@ -74,7 +74,7 @@ has_append :
     (xs ys : List Note) (x : Note) → has (xs ++ ys) x ≡ (has xs x || has ys x)
 has_append xs ys x = list_any-append (λ y. is_same x y) xs ys
 
--- It stands at some place.
+-- The note is at some place of the list.
 pub record StandsIn (xs : List Note) (x : Note) : Type 0 where
   pub before : List Note
   pub behind : List Note
@@ -143,7 +143,7 @@ none_twice_without (z ∷ xs) ys y once =
       ),
     )
 
--- Two lists that have the same notes, none of them twice, have them in some order.
+-- Two lists with the same notes, none of which occurs twice, are the same in some order.
 pub permuted :
     (ys made : List Note) → NoneTwice ys → NoneTwice made
     → ((x : Note) → has ys x ≡ true → has made x ≡ true)

@@ -1,4 +1,4 @@
--- What a night leaves of a disk.
+-- The effect of a run on a disk.
 use Rattle.std.proofs.Common.{◌≡◌, ◌-◌, ◌++◌, ℕ, List, true, Ok}
 use Rattle.std.proofs.Common.{arith, ap, inl, inr, refl, subst, sym, ◌∙◌}
 use Rattle.std.specs.List.{list_all}

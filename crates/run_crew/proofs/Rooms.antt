@@ -1,11 +1,11 @@
--- Of n at most some are there and some are left, and there is room for n.
+-- Some of n elements have been added, the others are left, and n elements fit.
 use Rattle.std.specs.Prelude.{◌≡◌, ◌<◌, ◌≤◌, ◌+◌, ℕ, List, length, All}
 use Rattle.std.proofs.Common.{arith}
 
 abbrev pub Room : ℕ → ℕ → ℕ → ℕ → Type 0
 Room n room had left = (had + left ≤ n) × (n ≤ room)
 
--- None is there yet.
+-- No element has been added yet.
 pub all_left : (n room had left all : ℕ) → n ≤ room → had ≡ 0 → left ≡ all → all ≤ n
     → Room n room had left
 all_left n room had left all fits none same few = (omega arith, fits)

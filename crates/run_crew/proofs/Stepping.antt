@@ -1,4 +1,4 @@
--- What a start and a finish leave of a desk and of a seat.
+-- The effect of a start and a finish on a desk and on a seat.
 use Rattle.run_model.proofs.Common.{◌≡◌, ℕ, ◌+◌, List, [], ◌∷◌, ◌++◌, Bool, true, false, Option}
 use Rattle.run_model.proofs.Common.{None, Some, refl, ap, sym, subst, ◌∙◌, arith, Result, Ok, Err}
 use Rattle.run_model.proofs.Common.{if◌then◌else◌, sum_by-append, sum_by-cons, Event, unless, cond}
@@ -142,7 +142,7 @@ match_none : {X : Type 0} (r : Result X Refusal) (n counted : ℕ) → n ≡ 0 �
 match_none (Ok x) n counted is none = is ∙ sym none
 match_none (Err why) n counted is none = is
 
--- How many of one event pass the test.
+-- One event counts as one if it passes the test.
 pub one_of : (test : Event → Bool) (e : Event) (b : Bool) → test e ≡ b
     → count_by test (e ∷ []) ≡ cond b 1 0
 one_of test e b is =
@@ -150,7 +150,7 @@ one_of test e b is =
     let one : counted (test e) ≡ counted b = ap counted is in
     omega (arith, one, sum_by-cons (λ e. cond (test e) 1 0) e [])
 
--- The totals after a start count what it added.
+-- The totals after a start include the event that it added.
 pub start_totals : {D : Type 0} (b new : BookView D) (r : Result Started Refusal)
     (starts finishes n : ℕ)
     → r ≡ unless_broken b (reply_start b.session.state b.session.log) → OnErr r (new ≡ b)
@@ -175,7 +175,7 @@ start_totals b new r starts finishes n told refused grown one had other =
       ),
     )
 
--- The same of a finish.
+-- The totals after a finish include the event that it added.
 pub finish_totals : {D : Type 0} (b new : BookView D) (task : ℕ) (how : Outcome)
     (r : Result ℕ Refusal) (starts finishes n : ℕ)
     → r ≡ unless_broken b (reply_finish b.session.state task how) → OnErr r (new ≡ b)

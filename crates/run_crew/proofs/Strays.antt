@@ -1,4 +1,4 @@
--- Notes that are stray.
+-- Stray notes.
 use Rattle.run_model.proofs.Common.{◌≡◌, ℕ, ◌<◌, ◌≤◌, List, [], ◌∷◌, ◌++◌, length, take, get_or}
 use Rattle.run_model.proofs.Common.{Bool, true, false, ◌||◌, refl, ap, sym, ◌∙◌, arith, inl, inr}
 use Rattle.run_model.proofs.Common.{subst, slice_index_or, Some, list_any, list_any-append}
@@ -18,7 +18,7 @@ has-all (notes ∷ rest) x =
     list_any-append (λ y. is_same x y) notes (all_notes rest)
     ∙ ap (λ b. has notes x || b) (has-all rest x)
 
--- A place where the test says so has a stray note.
+-- If the test holds at a place, the note there is stray.
 pub stray-of :
     (made earlier notes : List Note) (i : ℕ) (x : Note) (b : Bool) → i < length notes
     → x ≡ get_or notes i x → b ≡ is_stray made (earlier ++ take i notes) x → b ≡ true
@@ -26,7 +26,7 @@ pub stray-of :
 stray-of made earlier notes i x b inside at f is =
     (x, slice_get-get_or notes i x inside ∙ ap (λ y. Some y) (sym at), sym f ∙ is)
 
--- A place where it doesn't has none.
+-- If the test doesn't hold at a place, the note there isn't stray.
 pub no_stray-of :
     (made earlier notes : List Note) (i : ℕ) (x : Note) (b : Bool) → x ≡ get_or notes i x
     → b ≡ is_stray made (earlier ++ take i notes) x → b ≡ false
@@ -41,7 +41,7 @@ pub stray-inside :
     (made earlier notes : List Note) (i : ℕ) → IsStrayIn made earlier notes i → i < length notes
 stray-inside made earlier notes i s = slice_get_within notes i s.0 s.1
 
--- After the last list there is none.
+-- After the last list there is no stray note.
 pub stray-list :
     (made : List Note) (lists : List (List Note)) (w i : ℕ) → length lists ≤ w
     → IsStray made lists w i → ⊥

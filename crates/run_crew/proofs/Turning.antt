@@ -1,4 +1,4 @@
--- What the calls of a shift say of the turns of its jobs.
+-- The turns of a worker's jobs, as the calls of its shift show them.
 use Rattle.std.proofs.Common.{◌≡◌, ◌∙◌, ℕ, zero, suc, ◌<◌, ◌+◌, List, [], ◌∷◌, ◌++◌, length, Bool}
 use Rattle.std.proofs.Common.{true, false, Ok, Option, Some, ap, arith, inl, inr, refl, subst, sym}
 use Rattle.std.proofs.lemmas.List.{length-set}

@@ -1,4 +1,4 @@
--- What a night of workers leaves.
+-- The effect of a run of workers.
 use Rattle.std.proofs.Common.{◌∙◌, arith, ap, sym}
 use Rattle.std.specs.Prelude.{◌≡◌, ◌≤◌, ◌+◌, ℕ, [], Result, Ok, Err, IfOk}
 use Rattle.run_model.specs.declared.faults.Trouble.{Trouble}
@@ -31,7 +31,7 @@ acknowledged state b d (Ok n) saves = (
   saves.answer.durable,
 )
 
--- What the shares count, by what they had and by the notes.
+-- The counts of the shares, by their earlier counts and by the notes.
 pub shares_count : (s0 f0 s1 f1 starts finishes given notes workers : ℕ)
     → s0 ≡ 0 → f0 ≡ 0 → f1 ≡ f0 + given → s0 + given ≤ s1 → s1 ≤ s0 + given + workers
     → starts ≡ s1 → finishes ≡ f1 → notes ≡ given

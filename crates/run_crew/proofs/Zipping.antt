@@ -50,7 +50,7 @@ map_push : {A C : Type 0} (f : A → C) (xs : List A) (x : A) (rest : List C)
 map_push f [] x rest = refl
 map_push f (a ∷ xs) x rest = ap (λ l. f a ∷ l) (map_push f xs x rest)
 
--- None is there yet.
+-- None has been taken yet.
 pub takes_all : {A C : Type 0} (f : A → C) (xs : List A) (n : ℕ) (rest all : List C) → n ≡ 0
     → n ≡ length xs → rest ≡ all → map f xs ++ rest ≡ all
 takes_all f [] n rest all none counts same = same
@@ -82,8 +82,8 @@ all_of_zip R P each (a ∷ xs) [] zip = absurd zip
 all_of_zip R P each (a ∷ xs) (b ∷ ys) zip =
     All-cons P b ys (each a b zip.0) (all_of_zip R P each xs ys zip.1)
 
--- What holds of each element and its counterpart holds of what another list shows alike, if none
--- was left out.
+-- A relation between each element and its counterpart is one between the parts that both lists
+-- show, if no element was left out.
 pub zip_taken : {A B C D : Type 0} (R : C → D → Type 0) (f : A → C) (g : B → C) (m n k : ℕ)
     (xs : List A) (ys : List B) (es : List D) → (m < n) ⊎ (map f xs ≡ map g ys) → m ≡ length xs
     → k ≡ length es → k ≡ n → AllZip (λ x e. R (f x) e) xs es → AllZip (λ y e. R (g y) e) ys es
@@ -93,7 +93,7 @@ zip_taken R f g m n k xs ys es (inr shown) is_m is_k same zip =
     zip_of_maps R g (λ e. e) ys es
     (subst (λ l. AllZip R l (map (λ e. e) es)) shown (maps_of_zip R f (λ e. e) xs es zip))
 
--- All are taken once none is left.
+-- If none is left, all have been taken.
 pub zip_all : {A B : Type 0} (R : A → B → Type 0) (taken rest all : List A) (ys : List B)
     → taken ++ rest ≡ all → rest ≡ [] → AllZip R taken ys → AllZip R all ys
 zip_all R taken rest all ys is none zip =
@@ -107,7 +107,7 @@ takes_done f g n had left xs ys all (inl few) none = inl (omega (arith, few))
 takes_done f g n had left xs ys all (inr is) none =
     inr (sym (append-nil (map f xs)) ∙ (ap (λ l. map f xs ++ map g l) (sym none) ∙ is))
 
--- What is true of the value of a result, by two facts of it.
+-- A fact about the value of a result follows from two others.
 pub ok_then : {X E : Type 0} (P Q R : X → Type 0) → ((x : X) → P x → Q x → R x)
     → (r : Result X E) → IfOk r P → IfOk r Q → IfOk r R
 ok_then P Q R each (Ok x) one other = each x one other

@@ -1,4 +1,4 @@
--- Texts that are added to a sheet, one after the other.
+-- Texts that are added to a sheet, one after another.
 use Rattle.std.specs.Prelude.{◌≡◌, ◌+◌, ℕ, List, [], ◌++◌, Option, Result, true, false, is_err}
 use Rattle.std.specs.Prelude.{OnErr, OnOk, Ok, Err, ⊤}
 use Rattle.std.specs.Io.KnownBytes.{Appends}
@@ -34,7 +34,7 @@ adds_appended text s0 s1 w same e = record {
 pub adds_nothing : (s : Sheet) (w : Option (List ℕ)) → Adds [] s s w w
 adds_nothing s w = adds_appended [] s s w refl (sym (append-nil s.buffer.items))
 
--- No write had failed, and then one was tried, or none was needed.
+-- No write had failed before, and one was tried or none was needed.
 pub adds_tried : {E : Type 0} (r : Result ⊤ E) (text : List ℕ) (s0 s1 : Sheet)
     (w0 w1 : Option (List ℕ)) → s0.failed ≡ false → s1.failed ≡ is_err r
     → OnOk r (Buffered text s0.buffer.items s1.buffer.items w0 w1)
@@ -72,21 +72,21 @@ adds_then {x = x} {y = y} {s2 = s2} {w2 = w2} one two = record {
       (two.after (before ++ x) v (one.after before v h));
 }
 
--- Room was made, and then a text was buffered.
+-- The buffer was made to fit a text, and then the text was buffered.
 pub adds_line : {text : List ℕ} {s0 s1 s2 : Sheet} {w0 w1 : Option (List ℕ)}
     → Adds [] s0 s1 w0 w1 → s2.failed ≡ s1.failed
     → s2.buffer.items ≡ s1.buffer.items ++ text → Adds text s0 s2 w0 w1
 adds_line {text = text} {s1 = s1} {s2 = s2} {w1 = w1} room same e =
     adds_then room (adds_appended text s1 s2 w1 same e)
 
--- One line more of some.
+-- One more line was added.
 pub adds_next : {s0 s1 s2 : Sheet} {w0 w1 w2 : Option (List ℕ)} (line : ℕ → List ℕ) (i : ℕ)
     → Adds (lines_below line i) s0 s1 w0 w1 → Adds (line i) s1 s2 w1 w2
     → Adds (lines_below line (i + 1)) s0 s2 w0 w2
 adds_next {s0 = s0} {s2 = s2} {w0 = w0} {w2 = w2} line i one two =
     subst (λ m. Adds (lines_below line m) s0 s2 w0 w2) (sym (add-one i)) (adds_then one two)
 
--- All lines.
+-- All lines were added.
 pub adds_all : {s0 s1 : Sheet} {w0 w1 : Option (List ℕ)} (line : ℕ → List ℕ) (i n : ℕ) → i ≡ n
     → Adds (lines_below line i) s0 s1 w0 w1 → Adds (lines_below line n) s0 s1 w0 w1
 adds_all {s0 = s0} {s1 = s1} {w0 = w0} {w1 = w1} line i n e all =
@@ -94,7 +94,7 @@ adds_all {s0 = s0} {s1 = s1} {w0 = w0} {w1 = w1} line i n e all =
 
 -- ---- the end
 
--- What is written of all at the end: all of it, or a part.
+-- How much of the text is written at the end: all of it, or a prefix.
 pub ends_whole : {x y : List ℕ} {s0 s1 : Sheet} {w0 w1 : Option (List ℕ)} {T E : Type 0}
     (r : Result T E) (w2 : Option (List ℕ))
     → ((w : Option (List ℕ)) → Holds x s0 w w) → Adds y s0 s1 w0 w1

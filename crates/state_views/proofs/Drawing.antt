@@ -1,4 +1,4 @@
--- How the lines of a tree are added, one node after another.
+-- The lines of a tree are added one node after another.
 use Rattle.std.specs.Prelude.{◌≡◌, ◌≤◌, ◌<◌, ◌+◌, ℕ, zero, suc, Bool, List, [], ◌∷◌, ◌++◌, length}
 use Rattle.std.specs.Prelude.{Option, Some, None, IfSome, slice_get, take, if◌then◌else◌}
 use Rattle.std.specs.Option.{option_map}
@@ -25,7 +25,7 @@ use Rattle.state_views.specs.declared.row_kinds.RowKind.TheVariants.{Scopes, Gro
 use Rattle.state_views.specs.declared.sheets.Sheet.{Sheet}
 use Rattle.state_views.proofs.Adding.{adds_nothing, adds_then}
 
--- The lines of these nodes were added, and the others are drawn from the next on.
+-- The lines of these nodes were added, and the others are drawn from the next one on.
 pub record IsDrawnTo (b : Bool) (p : State) (next : Option ℕ) (above : List ℕ) (s0 s1 : Sheet)
     (w0 w1 : Option (List ℕ)) : Type 0 where
   pub done : List ℕ
@@ -33,7 +33,7 @@ pub record IsDrawnTo (b : Bool) (p : State) (next : Option ℕ) (above : List �
   pub added : Adds (flat_map (node_line b p) done) s0 s1 w0 w1
   pub at : IfSome next (λ n. IsAt (nodes_of b p) n above)
 
--- Nothing was added yet, and root is next.
+-- Nothing has been added yet, and root is next.
 pub drawn_first : (b : Bool) (p : State) (above : List ℕ) (s : Sheet) (w : Option (List ℕ))
     → IsConsistent p → above ≡ [] → IsDrawnTo b p (Some 0) above s s w w
 drawn_first b p above s w rules none =
@@ -50,7 +50,7 @@ one_more f done n =
     ap (λ x. flat_map f done ++ x) (sym (append-nil (f n)))
     ∙ sym (flat_map-append f done (n ∷ []))
 
--- One node more was added.
+-- One more node was added.
 pub drawn_more : (b : Bool) (p : State) (n : ℕ) (next : Option ℕ) (above other : List ℕ)
     {s0 s1 s2 : Sheet} {w0 w1 w2 : Option (List ℕ)} → IsDrawnTo b p (Some n) above s0 s1 w0 w1
     → Adds (node_line b p n) s1 s2 w1 w2
@@ -70,7 +70,7 @@ drawn_more b p n next above other {s0 = s0} {s2 = s2} {w0 = w0} {w2 = w2} to one
 
 -- ---- a line
 
--- Root's line is led by nothing.
+-- Nothing comes before the text in root's line.
 pub root_added : (b : Bool) (p : State) (n : ℕ) {s0 s1 : Sheet} {w0 w1 : Option (List ℕ)}
     → n ≡ 0 → Adds (own_line b p n) s0 s1 w0 w1 → Adds (node_line b p n) s0 s1 w0 w1
 root_added b p n {s0 = s0} {s1 = s1} {w0 = w0} {w1 = w1} e own =
@@ -83,7 +83,7 @@ lead_is parents n a m other at e =
     ap (λ t. t ++ m) at.text_is ∙ ap (λ t. above parents n ++ t) e
     ∙ sym (ap (λ b. if b then [] else (above parents n ++ mark parents n)) (ne_eqb n 0 other))
 
--- Another's by what is drawn above it, and its mark.
+-- The branches above a node and its mark come before the text in the line of every other node.
 pub node_added : (b : Bool) (p : State) (ps : List ℕ) (n : ℕ) {a m : List ℕ}
     {s0 s1 s2 s3 : Sheet} {w0 w1 w2 w3 : Option (List ℕ)} → ps ≡ nodes_of b p
     → (n ≡ 0 → ⊥) → IsAt ps n a → m ≡ mark ps n → Adds a s0 s1 w0 w1 → Adds m s1 s2 w1 w2
@@ -109,7 +109,7 @@ taken_one (first ∷ ns) zero n e =
     let same : first ≡ n = cc in ap (λ x. x ∷ []) same
 taken_one (first ∷ ns) (suc i) n e = ap (λ x. first ∷ x) (taken_one ns i n e)
 
--- One number more was appended.
+-- One more number was appended.
 pub one_pushed : (ns : List ℕ) (i n : ℕ) (start items : List ℕ) → slice_get ns i ≡ Some n
     → items ≡ start ++ take i ns → items ++ n ∷ [] ≡ start ++ take (i + 1) ns
 one_pushed ns i n start items found e =
@@ -117,7 +117,7 @@ one_pushed ns i n start items found e =
     ∙ ap (λ t. start ++ t) (sym (taken_one ns i n found))
     ∙ ap (λ k. start ++ take k ns) (sym (add-one i))
 
--- There is room for it.
+-- The number fits.
 pub one_fits : (ns : List ℕ) (i most : ℕ) (start items : List ℕ)
     → items ≡ start ++ take i ns → i < length ns → length start + length ns ≤ most
     → length items < most
@@ -127,21 +127,21 @@ one_fits ns i most start items e less few =
     let front = length-take-le i ns (omega (arith, less)) in
     omega (arith, long, sum, front, less, few)
 
--- Each number below their count has one.
+-- Each place below the length has a number.
 pub has_one : (ns : List ℕ) (i : ℕ) → i < length ns → slice_get ns i ≡ None → ⊥
 has_one [] i less e = omega (arith, less)
 has_one (n ∷ ns) zero less e = cc
 has_one (n ∷ ns) (suc i) less e = has_one ns i (omega (arith, less)) e
 
--- So many more are known after these rows.
+-- The parents of these rows were added to those that were known.
 pub grown : (rows : RowKind) (p : State) (old new : List ℕ) → new ≡ old ++ parents_in rows p
     → length new ≡ length old + count_of rows p
 grown rows p old new e =
     ap length e ∙ length-append old (parents_in rows p)
     ∙ ap (λ n. length old + n) (as_many rows p)
 
--- The parents of all are those of the scopes, of the groups and of the tasks; without the tasks
--- they are those of the other two.
+-- The parents of all nodes are those of the scopes, of the groups and of the tasks. Without the
+-- tasks they are those of the scopes and the groups.
 pub branches_are : (p : State) (none one two : List ℕ) → none ≡ []
     → one ≡ none ++ parents_in Scopes p → two ≡ one ++ parents_in Groups p → two ≡ branches_of p
 branches_are p none one two e a b =
@@ -158,7 +158,7 @@ mapped : {A B C : Type 0} (f : B → C) (g : A → B) (o : Option A)
 mapped f g None = refl
 mapped f g (Some x) = refl
 
--- A task's is known of what is seen of it.
+-- The parent of a task is known from the answer about the task.
 pub task_parent : (p : State) (n scopes : ℕ) (look : TaskLook) → scopes ≡ length p.tree.scopes
     → Some look ≡ task_look_of p n → Some (scopes + look.group) ≡ slice_get (parents_in Tasks p) n
 task_parent p n scopes look e found =

@@ -1,4 +1,4 @@
--- The row of a task that is seen.
+-- The row of a task about which a question is answered.
 use Rattle.std.specs.Prelude.{◌≡◌, ◌+◌, ℕ, [], ◌∷◌, ◌++◌, take}
 use Rattle.std.specs.Prelude.{Option, Some, None, slice_get}
 use Rattle.std.specs.Option.{option_map}
@@ -11,7 +11,7 @@ use Rattle.run_model.specs.State.{State}
 use Rattle.run_model.specs.Questions.{task_look_of}
 use Rattle.run_model.specs.Tasks.{is_admitted, phase_by}
 
--- The row of a task, by what is seen of it.
+-- The row of a task, by the answer to a question about it.
 pub record SeenRow (p : State) (n : ℕ) (look : TaskLook) : Type 0 where
   pub row : Task
   pub more : take (n + 1) p.work.tasks ≡ take n p.work.tasks ++ row ∷ []
@@ -46,7 +46,7 @@ seen_by p n look (Some row) at h =
       phase = ap (λ x. x.phase) seen;
     }
 
--- A task that is seen has a row.
+-- A task about which a question is answered has a row.
 pub seen_row : (p : State) (n : ℕ) (look : TaskLook) (seen : Option TaskLook)
     → seen ≡ task_look_of p n
     → seen ≡ Some look

@@ -1,4 +1,4 @@
--- The nodes of a state that a store can keep: each but root stands after its parent.
+-- The nodes of a state that a store can keep: each node except root comes after its parent.
 use Rattle.std.specs.Prelude.{◌≡◌, ◌≤◌, ◌<◌, ◌+◌, ℕ, zero, suc, Bool, true, false}
 use Rattle.std.specs.Prelude.{List, [], ◌∷◌, ◌++◌, length, map, slice_get, Option, Some, None}
 use Rattle.std.specs.Option.{option_map_or}
@@ -36,7 +36,7 @@ rises_append (x ∷ xs) ys base (suc k) n p q e some =
     let less = rises_append xs ys (suc base) k n front behind e (omega arith) in
     omega (arith, less)
 
--- What stands in a mapped row is had from what stands there in the row.
+-- Each row of the result comes from the row at the same place.
 pub record IsMapped {A : Type 0} (f : A → ℕ) (rows : List A) (k n : ℕ) : Type 0 where
   pub row : A
   pub found : slice_get rows k ≡ Some row
@@ -180,7 +180,7 @@ branches_long p =
     let g = length-map p.work.groups (λ (row : Group). row.scope) in
     omega (arith, first, s, g)
 
--- So many of them are drawn.
+-- This many nodes are drawn at most.
 pub drawn_within : (no_tasks : Bool) (p : State) → IsConsistent p
     → (0 < length (nodes_of no_tasks p)) × (length (nodes_of no_tasks p) ≤ 12416)
 drawn_within true p rules =

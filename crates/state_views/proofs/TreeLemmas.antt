@@ -24,7 +24,7 @@ either : (low high : ℕ) (is_so : Bool) (xs ys : List ℕ) → AreWithin low hi
 either low high true xs ys p q = p
 either low high false xs ys p q = q
 
--- Places are found in the row that is looked through.
+-- The places that are found are within the searched row.
 pub places_within : (parent place high : ℕ) (rest : List ℕ) → place + length rest ≤ high
     → AreWithin place high (places_of parent place rest)
 places_within parent place high [] few = refl
@@ -49,7 +49,7 @@ same_on f g low high (n ∷ ns) all same =
     ap (λ x. x ++ flat_map f ns) (same n all.0 all.1)
     ∙ ap (λ x. g n ++ x) (same_on f g low high ns all.2 same)
 
--- Two counts of levels that are both enough draw the same.
+-- Any two numbers of levels that are great enough draw the same nodes.
 pub drawn_same : (a b n : ℕ) (parents : List ℕ) → n < length parents
     → length parents ≤ a + n → length parents ≤ b + n
     → drawn_below a parents n ≡ drawn_below b parents n
@@ -83,7 +83,7 @@ pub first_child : (parents : List ℕ) (n child : ℕ) (rest : List ℕ) → n <
 first_child parents n child rest less some =
     node_first parents n less ∙ ap (λ ns. n ∷ forest parents ns) some
 
--- Two bounds that are both enough give the same.
+-- Any two bounds that are great enough give the same result.
 pub after_same : (a b n : ℕ) (parents : List ℕ) → AreRising parents → n ≤ a → n ≤ b
     → after a parents n ≡ after b parents n
 after_same zero zero n parents rising p q = refl
@@ -100,7 +100,7 @@ after_same (suc a) (suc b) (suc n) parents rising p q =
 
 -- ---- the places of a number
 
--- Where this place is the first, the row has the number there, and the others are found after it.
+-- If this place is the first one, the row has the number there, and the others are found after it.
 pub record IsFirst (parent place : ℕ) (row : List ℕ) (found : ℕ) (others : List ℕ) : Type 0 where
   pub skipped : ℕ
   pub place_is : found ≡ place + skipped

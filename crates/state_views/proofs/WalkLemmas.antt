@@ -1,4 +1,4 @@
--- From one node of a tree to the next that is drawn, and what is drawn for the nodes above it.
+-- The step from one node of a tree to the next one that is drawn, and the branches above each node.
 use Rattle.std.specs.Prelude.{◌≡◌, ◌≤◌, ◌<◌, ◌+◌, ◌-◌, ◌*◌, ℕ, zero, suc, Bool, true, false, nat_eq}
 use Rattle.std.specs.Prelude.{if◌then◌else◌, List, [], ◌∷◌, ◌++◌, length, reverse, slice_get, take}
 use Rattle.std.specs.Prelude.{Some, None, codes, drop}
@@ -35,7 +35,7 @@ empty (m ∷ rest) e = absurd (cc)
 
 -- ---- a row that is looked through
 
--- The place that is looked at has another number, so those after it are left.
+-- This place has another number, so the places after it are left.
 pub places_past : (parent place : ℕ) (row : List ℕ) → place < length row
     → (get_or row place 0 ≡ parent → ⊥)
     → places_of parent place (drop place row)
@@ -45,7 +45,7 @@ places_past parent place row less other =
     ap (places_of parent place) (drop-cons row place 0 less)
     ∙ ap (λ b. if b then place ∷ later else later) (ne_eqb (get_or row place 0) parent other)
 
--- It has the number, so it is the first.
+-- This place has the number, so it is the first one.
 pub places_here : (parent place : ℕ) (row : List ℕ) → place < length row
     → get_or row place 0 ≡ parent
     → slice_get (places_of parent place (drop place row)) 0 ≡ Some place
@@ -63,7 +63,7 @@ places_end parent place row past =
 
 -- ---- the first node after a node that has this parent
 
--- It stands after the node, has this parent, and what else has it stands after it.
+-- The found node comes after the node and has this parent, and all others that do come after it.
 pub record IsFound (parents : List ℕ) (n parent found : ℕ) : Type 0 where
   pub after_it : n < found
   pub within : found < length parents
@@ -97,7 +97,7 @@ found parents n parent m less e =
 
 -- ---- what is drawn from a node on
 
--- After a node with children the first of them is drawn.
+-- After a node with children the first child is drawn.
 pub child_next : (parents : List ℕ) (n child : ℕ) → AreRising parents → n < length parents
     → IsFound parents n n child → drawn_from parents n ≡ n ∷ drawn_from parents child
 child_next parents n zero rising less p = absurd (omega (arith, p.after_it))
@@ -110,13 +110,13 @@ child_next parents n (suc c) rising less p =
     (after_same n c n parents rising (omega arith) (omega (arith, p.after_it))
     ∙ ap (after c parents) (sym p.parent_is)))
 
--- After a node without a child what follows it is drawn.
+-- After a node without a child, the node that follows it is drawn.
 pub none_next : (parents : List ℕ) (n : ℕ) → n < length parents → children parents n ≡ []
     → drawn_from parents n ≡ n ∷ after n parents n
 none_next parents n less none =
     ap (λ x. x ++ after n parents n) (childless parents n less none)
 
--- A node with later siblings is followed by the first of them.
+-- A node with later siblings is followed by the first of these.
 pub sibling_next : (parents : List ℕ) (n next : ℕ) → AreRising parents → 0 < n
     → IsFound parents n (parent_of parents n) next
     → after n parents n ≡ drawn_from parents next
@@ -133,7 +133,7 @@ sibling_next parents (suc n) (suc m) rising some p =
     (omega (arith, less)) (omega (arith, less, p.after_it))
     ∙ ap (after m parents) (sym p.parent_is))
 
--- The last of its siblings is followed by what follows its parent.
+-- The last of several siblings is followed by the node that follows their parent.
 pub last_next : (parents : List ℕ) (n : ℕ) → AreRising parents → 0 < n
     → later_siblings parents n ≡ []
     → after n parents n ≡ after (parent_of parents n) parents (parent_of parents n)
@@ -183,7 +183,7 @@ above_top parents zero e = refl
 above_top parents (suc n) e =
     ap (λ m. flat_map (passing parents) (reverse (upwards (suc n) parents m))) e
 
--- Above another node what is drawn above its parent, and for its parent.
+-- Above any other node the branches of its parent are drawn, and then the text for the parent.
 pub above_step : (parents : List ℕ) (n m : ℕ) → AreRising parents → 0 < n → 0 < m
     → parent_of parents n ≡ m → above parents n ≡ above parents m ++ passing parents m
 above_step parents zero m rising some more e = absurd (omega (arith, some))
@@ -199,7 +199,7 @@ above_step parents (suc n) (suc m) rising some more e =
     (omega (arith, less, lower, e)) (omega (arith, lower)))
     ∙ turned (passing parents) (suc m) (upwards (suc m) parents (parent_of parents (suc m)))
 
--- Siblings have the same above them.
+-- Siblings have the same branches above them.
 pub above_beside : (parents : List ℕ) (n m : ℕ) → AreRising parents → 0 < n → 0 < m
     → parent_of parents m ≡ parent_of parents n → above parents n ≡ above parents m
 above_beside parents n m rising some more e =
@@ -267,7 +267,7 @@ beside_at parents n parent next text rising some at same e =
           (p.parent_is ∙ same);
     }
 
--- Without one, what follows the node follows its parent.
+-- If there is none, the node is followed by the node that follows its parent.
 pub climbs : (parents : List ℕ) (start n parent : ℕ) → AreRising parents → 0 < n
     → parent ≡ parent_of parents n
     → None ≡ slice_get (behind parents n parent) 0
@@ -279,7 +279,7 @@ climbs parents start n parent rising some same e so =
     (empty (later_siblings parents n) (sym (e ∙ ap (λ k. slice_get (behind parents n k) 0) same)))
     ∙ ap (λ k. after k parents k) (sym same)
 
--- What is drawn for a node is drawn above its children.
+-- The text for a node is drawn above its children.
 pub enters : (parents : List ℕ) (n child : ℕ) (text drawn new : List ℕ)
     → AreRising parents → 0 < n → IsAt parents n text
     → slice_get (children parents n) 0 ≡ Some child
@@ -321,7 +321,7 @@ leaves parents n m k text drawn new rising some more same at piece short made =
           ∙ take-append_seam (above parents m) (passing parents m);
     }
 
--- There is room for what is drawn for a node.
+-- The text for a node fits.
 pub entered_room : (parents : List ℕ) (n : ℕ) (text drawn : List ℕ)
     → AreRising parents → 0 < n → IsAt parents n text → length parents ≤ 12416
     → drawn ≡ passing parents n → length text + length drawn ≤ 49664

@@ -13,7 +13,7 @@ format-requires-clause-whole g c = (
       c.fill_renewed-count.ensures.most (c.fill_renewed-count.ensures.size ∙ c.requires.room),
 )
 
--- `format` is handed the image that stands after the journal's head.
+-- The image after the journal's head is passed to `format`.
 pub returns-clause-writes : goal.returns-clause-writes
 returns-clause-writes g c =
     let state = g.E.RunDisk.state in

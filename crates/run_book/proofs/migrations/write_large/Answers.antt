@@ -10,8 +10,8 @@ use Rattle.run_book.proofs.Making.{store_made}
 use Rattle.run_book.proofs.Migrating.{fits_large}
 use Rattle.run_book.proofs.migrations.write_large.Goals as goal
 
--- `format` is handed the image that stands after the journal's head. It was written as an image of
--- the state's layout, which is the small one.
+-- The image after the journal's head is passed to `format`. It was written as an image of the
+-- state's layout, which is the small one.
 pub returns-in-Ok-clause-writes : goal.returns-in-Ok-clause-writes
 returns-in-Ok-clause-writes g c =
     let state = g.E.RunDisk.state in
