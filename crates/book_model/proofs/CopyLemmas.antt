@@ -1,4 +1,4 @@
--- What a copy of a store reads of the old disk, and a new one that it doesn't call.
+-- The result of reading the old disk in a copy, and a new disk that isn't called.
 use Rattle.run_model.proofs.Common.{◌≡◌, ◌⊎◌, inl, inr, ◌<◌, ◌^◌, Err, refl, sym, ap, subst, arith}
 use Rattle.run_model.proofs.Common.{State}
 use Rattle.run_model.specs.declared.faults.Fault.{Fault}
@@ -16,7 +16,7 @@ use Rattle.book_model.proofs.OpeningLemmas.{recovers_reads, recovers_state}
 use Rattle.book_model.proofs.Stopping.{zeros_nothing}
 use Rattle.book_model.proofs.Storing.{stores_not_both, stores_one}
 
--- A new disk that wasn't called is as it was: zeros store nothing.
+-- A new disk that wasn't called is as it was. If it held zeros, it stores nothing.
 pub uncalled_stops : (p : State) (s : DiskState) → IsDisk s → StopsWriting p s s
 uncalled_stops p s disk honest zeros =
     reads_leave_only (StoresNothingOr p) s s (reads_none s disk)

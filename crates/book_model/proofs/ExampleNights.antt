@@ -1,4 +1,4 @@
--- The two nights of the examples.
+-- The two sessions of the examples.
 use Rattle.run_model.proofs.Common.{◌≡◌, ◌⊎◌, ◌≤◌, ◌++◌, ◌∷◌, [], ℕ, zero, suc, List, length}
 use Rattle.run_model.proofs.Common.{take, Some, inl, inr, refl, sym, ap, subst, arith, same_Some}
 use Rattle.run_model.proofs.Common.{flat_map, run, Event, State}

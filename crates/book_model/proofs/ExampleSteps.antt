@@ -31,7 +31,7 @@ acked_is n (Ok m) told = cc
 acked_is n (Err (Refused why)) told = cc
 acked_is n (Err (Faulty why)) told = cc
 
--- A save that acknowledges is done.
+-- A save that acknowledges has succeeded.
 pub done : (Saving : BookView Counts → Result ℕ Trouble → BookView Counts → Type 0)
     (old new : BookView Counts) (n : ℕ) → TellsSave Saving old (acked n) new
     → Saving old (Ok n) new

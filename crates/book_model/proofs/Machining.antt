@@ -25,7 +25,7 @@ use Rattle.book_model.proofs.Storing.{stores_one}
 
 -- ---- a step
 
--- What is acknowledged after an Acked is the count of the session; no broken book tells it.
+-- The count of the session is acknowledged after an Acked, which a broken book never answers.
 pub acked_count : (b : Bool) (s : Session) (x : Step) (r : Reply) (n : ℕ)
     → IsReplyWhere b s x r → acked_of r ≡ Some n → n ≡ s.state.count
 acked_count true s x r n told some = absurd (some_none (acked_of r) n some (ap acked_of told))
@@ -56,7 +56,7 @@ acked_after old new x r n is told start durable was = go (acked_of r) refl
         omega (arith, last, all, counts, count) in
         ap (λ k. if k then length old.session.history else n) (ack_is r k some) ∙ whole
 
--- The machine takes the step, and the book holds what it does then.
+-- The machine takes the step, and afterwards the book holds the same as the machine.
 pub record TookAs {D : Type 0} (state : D → DiskState) (m : Running) (x : Step) (r : Reply)
     (new : BookView D) : Type 0 where
   pub reply : IsReply m.book x r
@@ -68,7 +68,7 @@ pub record TakenAs {D : Type 0} (state : D → DiskState) (m : Running) (steps :
   pub takes : TakesAll m steps answers end
   pub holds : HoldsAs state new end
 
--- The machine makes the move, and the book stands where it does then.
+-- The machine makes the move, and afterwards the book is in the same situation as the machine.
 pub record MovesAs {D : Type 0} (state : D → DiskState) (m : Machine) (move : Move)
     (new : Standing D) : Type 0 where
   pub next : Machine

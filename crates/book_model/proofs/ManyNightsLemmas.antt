@@ -1,4 +1,4 @@
--- Many nights of the machine: what they lead to.
+-- Many sessions of the machine, and the states to which they lead.
 use Rattle.run_model.proofs.Common.{◌≡◌, ◌+◌, ◌-◌, ◌≤◌, ◌++◌, ◌∷◌, [], ℕ, Bool, true, false, List}
 use Rattle.run_model.proofs.Common.{length, take, drop, map, Option, Some, None, if◌then◌else◌}
 use Rattle.run_model.proofs.Common.{refl, sym, ap, subst, ◌∙◌, arith, append_assoc, length-append}
@@ -241,7 +241,7 @@ called m n ((x, r) ∷ calls) (Runs next, (reply, same), rest) =
     (subst (λ k. GoesOn (Runs k) (map (λ call. Take call.0 call.1) calls) n) same rest) in
     record { end = more.end; takes = (reply, more.takes); is = more.is }
 
--- A night that was spent: the steps that were answered, and then the stop.
+-- A complete session: the steps that were answered, and then the crash.
 pub record WasSpent (p : State) (calls : List (Step × Reply)) (more : List Step) (n : Machine)
     : Type 0 where
   pub end : Running

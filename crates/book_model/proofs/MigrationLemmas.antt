@@ -1,4 +1,4 @@
--- What migrations answer and leave, fault by fault.
+-- The results and effects of migrations, fault by fault.
 use Rattle.run_model.proofs.Common.{◌≡◌, ◌⊎◌, inl, inr, ◌<◌, ◌^◌, Ok, Err, refl, sym, subst}
 use Rattle.run_model.proofs.Common.{MatchResult, Result, State}
 use Rattle.run_model.specs.declared.faults.Fault.{Fault}

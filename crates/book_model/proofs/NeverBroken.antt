@@ -1,4 +1,4 @@
--- No session answers a step as Broken: that is a fact of the book.
+-- No session answers a step as Broken, which only a book does.
 use Rattle.run_model.proofs.Common.{◌≡◌, ℕ, Bool, true, false, if◌then◌else◌, List, [], ◌∷◌}
 use Rattle.run_model.proofs.Common.{Option, Some, None, Result, Ok, Err, refl, list_any, ok_or}
 use Rattle.run_model.proofs.Common.{option_and_then, Event, State, first_ready, refusals, unless}

@@ -1,4 +1,4 @@
--- What an example unfolds to read an image and records, byte by byte.
+-- The definitions that an example unfolds to read an image and records, byte by byte.
 use Rattle.std.specs.Prelude.{⊤}
 use Rattle.row_view.specs.Fields.{kind_at, kind_by}
 use Rattle.record_view.specs.Reading.{body_at, cancel_at, derive_at, event_at}

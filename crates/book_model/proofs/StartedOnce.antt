@@ -1,4 +1,4 @@
--- A task whose start was acknowledged is started in no later night.
+-- If the start of a task was acknowledged, no later session starts the task.
 use Rattle.run_model.proofs.Common.{◌≡◌, ℕ, false, List, [], ◌∷◌, ◌++◌, Some, sym, subst, inl, inr}
 use Rattle.run_model.proofs.Common.{cond_some, option_and_then_some, allowed, after, run, Event}
 use Rattle.run_model.proofs.Common.{acknowledged, State, step}

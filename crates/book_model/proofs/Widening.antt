@@ -1,4 +1,4 @@
--- A state of the small layout, in the large one: it meets the rules, and its image is the same.
+-- A state of the small layout keeps the rules in the large one, and its image is the same.
 use Rattle.run_model.proofs.Common.{◌<◌, ◌≤◌, ◌+◌, ℕ, [], length, refl, subst, arith, IsTrue}
 use Rattle.run_model.proofs.Common.{lt-ltb, ltb-true, most_scopes, most_tasks, AreAdmitted}
 use Rattle.run_model.proofs.Common.{AreDeadlines, AreErrors, AreGroupScopes, AreHits, AreLinked}
@@ -115,7 +115,7 @@ widened_ranged p r = record {
   tasks = r.tasks;
 }
 
--- So the image of a small state means it, widened, in a large store.
+-- So the image of a small state means the same state, widened, in a large store.
 pub widened_means : (p : State) → IsImage Two Small (image p) p
     → MeansIn Two Large (image (widened p)) [] (widened p)
 widened_means p is =

@@ -30,7 +30,7 @@ pub if_err : {T E : Type 0} (r : Result T E) (P : Type 0) → P → IfErr r (λ 
 if_err (Ok x) P p = tt
 if_err (Err e) P p = p
 
--- Where nothing is read, the bytes are the image of no state.
+-- If nothing is read, the bytes are the image of no state.
 pub no_image : (layout : Layout) (bytes : List ℕ) → image_at layout bytes ≡ None → (p : State)
     → Rows layout bytes p → ⊥
 no_image layout bytes none p rows =
@@ -47,7 +47,7 @@ pub no_tree : (layout : Layout) (bytes r1 : List ℕ) (head : ImageHead)
 unfolding image_at
 no_tree layout bytes r1 head none h = rw (h, none) refl
 
--- New groups are read in the layout that they were made with.
+-- New groups are read in the layout with which they were made.
 pub read_there : (layout : Layout) (new work : WorkState) (head : ImageHead)
     (bytes rest : List ℕ) → new ≡ new_work layout
     → AreWorkRows new.layout head bytes work rest → AreWorkRows layout head bytes work rest
@@ -104,7 +104,7 @@ written p old first second third e one two end three room =
     (omega (arith, end, size, length-append head scopes)) room
     ∙ ap (put_at old 0) (sym (append_assoc (head ++ scopes) groups tasks))
 
--- The fields of a consistent state are in range where those of its rows are.
+-- The fields of a consistent state are in range if those of its rows are.
 pub ranged : (p : State) → IsConsistent p → p.tree.clock ≤ GREATEST_MOMENT → p.count < 2 ^ 63
     → AllByRecursion (λ row. IsTrue (is_kept_scope row)) (drop 1 p.tree.scopes)
     → AllByRecursion (λ row. IsTrue (is_kept_group row)) p.work.groups

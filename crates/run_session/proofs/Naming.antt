@@ -1,4 +1,4 @@
--- The bytes by which a scope is found are its name.
+-- Bytes by which a scope is found are its name.
 use Rattle.std.specs.Prelude.{◌≡◌, ℕ, List, Some, unwrap_or}
 use Rattle.std.specs.Option.{option_map}
 use Rattle.std.specs.Str.{bytes_eq}

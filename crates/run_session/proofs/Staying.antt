@@ -1,4 +1,4 @@
--- What is done or has ended stays so, from event to event.
+-- Scopes that are done and tasks that have ended stay as they are, event by event.
 use Rattle.run_model.specs.State.{State}
 use Rattle.model_laws.proofs.Stays.{endings_join, endings_same}
 use Rattle.task_group.proofs.Lasting.{stay_all, stay_both}

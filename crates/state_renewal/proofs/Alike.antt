@@ -1,4 +1,4 @@
--- What goes on is answered as it is in the old store.
+-- Questions about what goes on have the same answers as in the old store.
 use Rattle.run_model.proofs.Common.{◌≡◌, ℕ, true, List, Option, Some, None, slice_get, refl, sym}
 use Rattle.run_model.proofs.Common.{ap, ◌∙◌, filter_map, option_map, group_look_of, look_of}
 use Rattle.run_model.proofs.Common.{task_look_of, IsConsistent, AreOrdered, deadline_of, ending}

@@ -1,4 +1,4 @@
--- What goes on of a state as it is renewed is the renewed state.
+-- At the renewal, the part of a state that goes on is the renewed state.
 use Rattle.run_model.proofs.Common.{◌≡◌, ◌<◌, ◌≤◌, ℕ, Bool, List, length, map, Option, Some, None}
 use Rattle.run_model.proofs.Common.{slice_get, false, true, refl, sym, ap, ◌∙◌, arith, option_map}
 use Rattle.run_model.proofs.Common.{slice_get_within, same_Some, root, IsConsistent, HasRow}

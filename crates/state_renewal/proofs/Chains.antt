@@ -1,4 +1,4 @@
--- What is asked of a scope that goes on is answered alike.
+-- Questions about a scope that goes on have the same answers.
 use Rattle.run_model.proofs.Common.{◌≡◌, ◌<◌, ◌==◌, ℕ, zero, suc, Bool, true, false, cond, List}
 use Rattle.run_model.proofs.Common.{[], ◌∷◌, map, Option, Some, None, slice_get, refl, sym, ap}
 use Rattle.run_model.proofs.Common.{subst, ◌∙◌, arith, Less, Greater, filter_map, cons_option}
@@ -36,7 +36,7 @@ told_at part r = (new_number part.scopes r.0, scope_anew part r.1)
 abbrev pub AllGo : Part → List (ℕ × Scope) → Type 0
 AllGo part rows = AllByRecursion (λ r. part.scopes r.0 ≡ true) rows
 
--- The line of a scope that goes on is the old one, told anew, and all on it goes on.
+-- The line of a scope that goes on is the old one by the new numbers, and all scopes on it go on.
 pub record IsLineTold (part : Part) (old : List Scope) (s : ℕ) : Type 0 where
   pub is : line (scopes_anew part old) (new_number part.scopes s)
       ≡ map (told_at part) (line old s)

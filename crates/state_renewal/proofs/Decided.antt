@@ -1,4 +1,4 @@
--- An event that names what goes on is decided alike by both stores.
+-- Both stores decide an event that refers only to what goes on in the same way.
 use Rattle.run_model.proofs.Common.{◌≡◌, ◌&&◌, ◌+◌, ◌*◌, ℕ, Bool, true, false, not, List, [], ◌∷◌}
 use Rattle.run_model.proofs.Common.{Option, Some, refl, sym, ap, ◌∙◌, Result, Ok, Err}
 use Rattle.run_model.proofs.Common.{if◌then◌else◌, nat_lt, both_ways, false_from_ne_true, allowed}
@@ -103,7 +103,8 @@ full_anew part p log e both is may =
 
 -- ---- decisions
 
--- What follows alike from two events, follows alike where each is decided by the same tests.
+-- If two events have the same result and are decided by the same tests, the decisions have the same
+-- result.
 pub tests_alike : {X : Type 0} (tell : X → X) (tests : List (Bool × Refusal)) (full_new full : Bool)
     (f e : Event) (new old : Option Event → Result X Refusal)
     → (list_all (λ t. not t.0) tests ≡ true → full_new ≡ full)
@@ -134,7 +135,8 @@ tests_alike tell (t ∷ tests) full_new full f e new old same some =
     by_test true same behind = refl
     by_test false same behind = behind same
 
--- What follows alike from an event and from the same told anew, follows alike where it is decided.
+-- If an event and the same event by the new numbers have the same result, their decisions have it,
+-- too.
 pub decided_alike : {X : Type 0} (tell : X → X) (part : Part) (p : State) (log : ℕ) (e : Event)
     (new old : Option Event → Result X Refusal) → Both part p → names_part part e ≡ true
     → has_place p e ≡ true → (list_all (λ t. not t.0) (refusals p e) ≡ true → allowed p e ≡ true)

@@ -1,4 +1,4 @@
--- Flags made one by one, each by its row.
+-- Flags that are made one after another, each from its row.
 use Rattle.std.proofs.Common.{◌≡◌, ◌⊎◌, ◌<◌, ◌≤◌, ◌+◌, ℕ, Bool, false, List, [], ◌∷◌, ◌++◌, length}
 use Rattle.std.proofs.Common.{take, drop, inl, inr, refl, sym, ap, ◌∙◌, arith, length-append}
 use Rattle.std.proofs.Math.Seq.{take-append_seam}
@@ -26,7 +26,8 @@ flags_push holds k flags b so is = record {
         get_or_append_left flags (b ∷ []) false n (omega (arith, below, size)) ∙ so.say n below
     by_order n less (inr (inr above)) = absurd (omega (arith, less, above))
 
--- Where nothing holds past the last row, the flags say everywhere what holds.
+-- If the property holds of no number after the last row, the flags say of every number whether it
+-- holds.
 pub flags_all : (holds : ℕ → Bool) (many : ℕ) (flags : List Bool) → AreFlags holds many flags
     → ((n : ℕ) → many ≤ n → holds n ≡ false) → (n : ℕ) → is_flagged flags n ≡ holds n
 flags_all holds many flags so none n = by_order (cases_order n many)
@@ -41,7 +42,7 @@ flags_all holds many flags so none n = by_order (cases_order n many)
     by_order (inr (inl below)) = so.say n below
     by_order (inr (inr above)) = past (omega (arith, above))
 
--- Flags that were lent whole come back whole.
+-- Flags that were lent as a whole come back as a whole.
 pub lent_back : (n : ℕ) (items new : List Bool) → length new ≡ n
     → take n (new ++ drop (length new) items) ≡ new
 lent_back n items new is =

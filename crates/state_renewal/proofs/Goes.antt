@@ -1,4 +1,5 @@
--- What goes on hangs together, and all that is made later goes on. So it is at a renewal.
+-- The part that goes on is closed, and all rows that are made later go on. This is true at a
+-- renewal.
 use Rattle.run_model.proofs.Common.{◌≡◌, ◌<◌, ◌≤◌, ◌||◌, ℕ, Bool, true, List, length, Some}
 use Rattle.run_model.proofs.Common.{slice_get, sym, ap, ◌∙◌, nat_le, le-leb, lt-leb}
 use Rattle.run_model.proofs.Common.{slice_get_within, IsConsistent, State, WorkState}
@@ -11,7 +12,7 @@ use Rattle.state_renewal.proofs.Hangs.{EachRow, Hangs, kept_hangs, WithGroup, Wi
 use Rattle.state_renewal.proofs.Hangs.{WithScope}
 use Rattle.state_renewal.specs.GoingOn.{going_on, goes_on}
 
--- Of some rows all that are made later go on, and each row has this of its number and itself.
+-- All rows that are made later go on, and each row has this property with its number.
 pub record RowsGo {X : Type 0} (goes : ℕ → Bool) (P : ℕ → X → Type 0) (rows : List X) : Type 0
   where
     pub later : (n : ℕ) → length rows ≤ n → goes n ≡ true

@@ -1,4 +1,4 @@
--- What goes on hangs together after each event that names what goes on.
+-- The part that goes on stays closed through each event that refers only to it.
 use Rattle.run_model.proofs.Common.{◌≡◌, ◌+◌, ℕ, Bool, true, false, List, [], ◌∷◌, ◌++◌, length}
 use Rattle.run_model.proofs.Common.{map, Option, Some, None, slice_get, inl, inr, refl, sym, subst}
 use Rattle.run_model.proofs.Common.{◌∙◌, arith, option_map_or, both_ways, length-map, Event}

@@ -1,5 +1,5 @@
--- A part that hangs together: each scope with its parent, each group with its scope, each task with
--- its group; and of the groups that aren't of it each was waited for. So it is of what is kept.
+-- A part that is closed: it holds each scope with its parent, each group with its scope, and each
+-- task with its group. Each group outside the part was waited for. The kept part is closed.
 use Rattle.run_model.proofs.Common.{◌≡◌, ℕ, true, false, List, Some, slice_get, both_ways}
 use Rattle.run_model.proofs.Common.{true_from_ne_false, IsConsistent, is_root, State, WorkState}
 use Rattle.run_model.specs.declared.groups.Group.{Group}
@@ -18,8 +18,8 @@ abbrev pub WithParent : Part → ℕ → Scope → Type 0
 WithParent part s row = is_root row.kind ≡ false → part.scopes s ≡ true
     → part.scopes row.parent ≡ true
 
--- A group's scope goes on with it, and it with its own scope; and it was waited for where it
--- doesn't go on.
+-- A group's scope goes on with the group, and the group with its own scope. If the group doesn't go
+-- on, it was waited for.
 pub record WithScope (part : Part) (g : ℕ) (row : Group) : Type 0 where
   pub scope : part.groups g ≡ true → part.scopes row.scope ≡ true
   pub own : row.bare ≡ false → part.scopes row.scope ≡ true → part.groups g ≡ true
@@ -43,7 +43,7 @@ pub record Hangs (part : Part) (p : State) : Type 0 where
   pub scopes : ScopesHang part p.tree.scopes
   pub work : WorkHangs part p.work
 
--- Of a state, and of the part of it told anew: both keep the rules, and the part hangs together.
+-- The state and the part of it by the new numbers both keep the rules, and the part is closed.
 pub record AreBoth (part : Part) (p : State) : Type 0 where
   pub old : IsConsistent p
   pub new : IsConsistent (state_anew part p)

@@ -1,4 +1,4 @@
--- Flags of the scopes in which groups live, group by group.
+-- Flags of the scopes of groups, group by group.
 use Rattle.run_model.proofs.Common.{◌≡◌, ◌⊎◌, ◌<◌, ◌+◌, ◌==◌, ◌&&◌, ◌||◌, ℕ, Bool, true, false}
 use Rattle.run_model.proofs.Common.{not, List, length, take, Some, slice_get, inl, inr, refl, sym}
 use Rattle.run_model.proofs.Common.{ap, ◌∙◌, arith, list_any, slice_set, cases_eq, eq-eqb, ne_eqb}
@@ -12,7 +12,7 @@ use Rattle.state_renewal.specs.Marks.{is_flagged}
 abbrev pub lives_in : ℕ → Group → Bool
 lives_in s group = not group.waited && group.scope == s
 
--- The scopes are flagged that were, and those in which one of the first k groups lives.
+-- The flagged scopes are those that were flagged, and those of the first k groups.
 pub record AreHosts (groups : List Group) (before : List Bool) (k : ℕ) (flags : List Bool)
     : Type 0 where
   pub size : length flags ≡ length before
@@ -63,7 +63,7 @@ hosts_same groups before k flags row so found is = record {
       ∙ not_there groups before k s row found (waited_none row.waited (row.scope == s) is);
 }
 
--- Another one flags its scope.
+-- Every other group flags its scope.
 pub hosts_more : (groups : List Group) (before : List Bool) (k : ℕ) (flags : List Bool)
     (row : Group) → AreHosts groups before k flags → slice_get groups k ≡ Some row
     → row.waited ≡ false → row.scope < length before

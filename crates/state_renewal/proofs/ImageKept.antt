@@ -1,4 +1,4 @@
--- The image of a renewed state: each field of its rows is in range, where the old ones were.
+-- The image of a renewed state: each field of its rows is in range, if those of the old rows were.
 use Rattle.run_model.proofs.Common.{◌≡◌, ◌<◌, ◌≤◌, ◌+◌, ◌^◌, ◌&&◌, ℕ, zero, suc, Bool, true, List}
 use Rattle.run_model.proofs.Common.{[], ◌∷◌, length, drop, Option, Some, None, slice_get, refl}
 use Rattle.run_model.proofs.Common.{sym, ap, subst, ◌∙◌, arith, AllByRecursion, option_map, IsTrue}

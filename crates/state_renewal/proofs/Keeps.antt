@@ -1,4 +1,5 @@
--- What is kept: what is above a kept scope, the scope of a kept group, and what isn't finished.
+-- The kept rows: the scopes above a kept scope, the scope of a kept group, and whatever isn't
+-- finished.
 use Rattle.run_model.proofs.Common.{◌≡◌, ◌⊎◌, ◌<◌, ◌+◌, ◌==◌, ◌&&◌, ◌||◌, ℕ, zero, suc, Bool, true}
 use Rattle.run_model.proofs.Common.{false, not, cond, List, [], ◌∷◌, length, Option, Some, None}
 use Rattle.run_model.proofs.Common.{slice_get, inl, inr, refl, sym, ap, subst, ◌∙◌, is_some, arith}
@@ -104,7 +105,7 @@ passes_below rows ordered (suc t) s row found below u less on =
     λ v lesser. passes_below rows ordered t s row found below v (omega (arith, less, lesser)) in
     passes_here rows ordered u s row lower found below on (slice_get rows u) refl
 
--- On each line on which a scope is, its parent is too.
+-- If a scope is on a line, its parent is on it, too.
 pub line_passes : (rows : List Scope) → AreOrdered rows → (t s : ℕ) (row : Scope)
     → slice_get rows s ≡ Some row → is_root row.kind ≡ false → is_on s (line rows t) ≡ true
     → is_on row.parent (line rows t) ≡ true
@@ -113,7 +114,7 @@ line_passes rows ordered t s row found below on =
 
 -- ---- scopes
 
--- A scope that is needed is kept.
+-- A needed scope is kept.
 pub needed_kept : (p : State) (s : ℕ) (row : Scope) → HasRow p.tree.scopes s row
     → is_needed p s ≡ true → keeps_scope p s ≡ true
 needed_kept p s row found is =
@@ -130,7 +131,7 @@ live_kept p s row found is =
     needed_kept p s row found
     (or_left (not (is_done p.tree.scopes s)) (hosts_unwaited p.work s) (ap not is))
 
--- The parent of a scope that is kept is kept.
+-- The parent of a kept scope is kept.
 pub parent_kept : (p : State) (s : ℕ) (row : Scope) → AreOrdered p.tree.scopes
     → HasRow p.tree.scopes s row → is_root row.kind ≡ false → keeps_scope p s ≡ true
     → keeps_scope p row.parent ≡ true
@@ -169,7 +170,7 @@ owner_kept p g row found own is =
     ∙ or_right (not row.waited) (not row.bare && keeps_scope p row.scope)
     (and_from (not row.bare) (keeps_scope p row.scope) (ap not own) is)
 
--- The scope of a group that is kept is kept.
+-- The scope of a kept group is kept.
 pub scope_kept : (p : State) (g : ℕ) (row : Group) → HasRow p.work.groups g row
     → row.scope < length p.tree.scopes → keeps_group p g ≡ true → keeps_scope p row.scope ≡ true
 scope_kept p g row found within is =
@@ -193,7 +194,7 @@ scope_kept p g row found within is =
 
 -- ---- tasks
 
--- A task is kept exactly where its group is.
+-- A task is kept exactly if its group is.
 pub task_is_kept : (p : State) (n : ℕ) (row : Task) → HasRow p.work.tasks n row
     → keeps_task p n ≡ keeps_group p row.group
 task_is_kept p n row found =

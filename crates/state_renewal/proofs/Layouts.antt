@@ -1,4 +1,4 @@
--- A renewed state in another layout: it meets the rules, where there is room for its rows.
+-- A renewed state in another layout keeps the rules, if its rows fit.
 use Rattle.run_model.proofs.Common.{◌≡◌, ℕ, true, length, refl, nat_le, and_parts, leb-true}
 use Rattle.run_model.proofs.Common.{most_scopes, most_tasks, AreAdmitted, AreDeadlines, AreErrors}
 use Rattle.run_model.proofs.Common.{AreGroupScopes, AreHits, AreLinked, AreNumbered, IsConsistent}

@@ -1,4 +1,4 @@
--- Rows that are kept, and put so far: the loop goes over the old rows, and those that are put are
+-- Kept rows that have been written so far: the loop visits the old rows, and the written rows are
 -- the first of the new ones.
 use Rattle.run_model.proofs.Common.{◌≡◌, ◌≤◌, ◌+◌, ◌*◌, ℕ, Bool, true, false, List, length, Some}
 use Rattle.run_model.proofs.Common.{slice_get, sym, subst, arith, flat_map}

@@ -1,4 +1,4 @@
--- Rows that are flagged where they are kept: what is left by the flags is the renewed state.
+-- If the flagged rows are the kept ones, the rows that the flags leave are the renewed state.
 use Rattle.run_model.proofs.Common.{◌≡◌, ◌&&◌, ◌||◌, ℕ, Bool, true, false, not, List, [], ◌∷◌}
 use Rattle.run_model.proofs.Common.{length, drop, map, slice_get, refl, sym, ap, ◌∙◌, option_map}
 use Rattle.run_model.proofs.Common.{option_map_or, true≢false, length-map, slice_get_past, State}
@@ -91,7 +91,7 @@ module _ (p : State) (scopes groups tasks : List Bool) (are : AreMarks p scopes 
         }) (kept f p.work.tasks))
         (one_test (is_flagged tasks) (keeps_task p) are.kept_tasks)
 
--- As many rows are left as the new number says that stands after all of them.
+-- The number of rows that are left is the new number after all rows.
 pub count_left : {X : Type 0} (flags : List Bool) (tell : X → X) (rows : List X)
     → length flags ≡ length rows
     → new_number (is_flagged flags) (length flags) ≡ length (rows_left flags tell rows)
@@ -99,7 +99,7 @@ count_left flags tell rows each =
     ap (new_number (is_flagged flags)) each ∙ sym (length-kept (is_flagged flags) rows)
     ∙ sym (length-map (kept (is_flagged flags) rows) tell)
 
--- After the first row, which is kept, the rest is left.
+-- The first row is kept, and the rest is left after it.
 pub left_after : {X : Type 0} (flags : List Bool) (tell : X → X) (rows : List X)
     → is_flagged flags 0 ≡ true
     → rows_left (drop 1 flags) tell (drop 1 rows) ≡ drop 1 (rows_left flags tell rows)

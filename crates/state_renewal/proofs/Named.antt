@@ -1,4 +1,4 @@
--- Commands that name what goes on ask both stores for the same event.
+-- Commands that refer only to what goes on ask both stores for the same event.
 use Rattle.run_model.proofs.Common.{◌≡◌, ℕ, Bool, true, false, List, length, refl, sym, subst, ap}
 use Rattle.run_model.proofs.Common.{◌∙◌, option_map, option_map_or, position, unwrap_or, bytes_eq}
 use Rattle.run_model.proofs.Common.{event_of, group_of, kind_made, scope_of, IsConsistent, State}
@@ -56,7 +56,8 @@ group_on part p name anew is =
     named_anew (λ r. r.name) part.groups (group_anew part) p.work.groups name (λ r. refl)
     anew.numbered.group_names is
 
--- The event of the command names what goes on, and the other store is asked for it told anew.
+-- The event of the command refers only to what goes on, and the other store is asked for it by the
+-- new numbers.
 pub record IsAskedAnew (part : Part) (p : State) (call : Command) : Type 0 where
   pub names : names_part part (event_of p call) ≡ true
   pub told : event_of (state_anew part p) (command_anew part call)

@@ -1,4 +1,4 @@
--- The names and the room that are taken are those of what is kept.
+-- The names and places that are taken are those of the kept rows.
 use Rattle.run_model.proofs.Common.{◌≡◌, ◌≢◌, ℕ, List, Option, Some, None, slice_get, refl, sym}
 use Rattle.run_model.proofs.Common.{ap, ◌∙◌, position, bytes_eq, length-map, IsConsistent, State}
 use Rattle.model_laws.proofs.Names.{named_row, place_of_name}

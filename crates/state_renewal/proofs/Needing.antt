@@ -1,4 +1,4 @@
--- Flags of the scopes that are needed, raised to those above: the flags of those that are kept.
+-- The flags of needed scopes, raised to the scopes above them, are the flags of kept scopes.
 use Rattle.run_model.proofs.Common.{◌≡◌, ◌<◌, ◌≤◌, ◌+◌, ◌&&◌, ◌||◌, ℕ, zero, suc, Bool, List}
 use Rattle.run_model.proofs.Common.{length, not, refl, ap, ◌∙◌, arith, list_any, range_with_len}
 use Rattle.run_model.proofs.Common.{line, is_done, State}

@@ -7,20 +7,20 @@ use Rattle.run_model.proofs.RowLemmas.{slice_get-push_last, slice_get-push_left}
 use Rattle.state_renewal.specs.Marks.{is_flagged}
 use Rattle.state_renewal.specs.Renewed.{new_number, one_more_if}
 
--- The number after a row that is kept is one more.
+-- The new number after a kept row is greater by one.
 pub number_kept : (keeps : ℕ → Bool) (n : ℕ) → keeps n ≡ true
     → new_number keeps (n + 1) ≡ new_number keeps n + 1
 number_kept keeps n is =
     ap (new_number keeps) (add-one n) ∙ ap (λ b. one_more_if b (new_number keeps n)) is
     ∙ sym (add-one (new_number keeps n))
 
--- The number after a row that goes is the same.
+-- The new number after a dropped row is the same.
 pub number_gone : (keeps : ℕ → Bool) (n : ℕ) → keeps n ≡ false
     → new_number keeps (n + 1) ≡ new_number keeps n
 number_gone keeps n is =
     ap (new_number keeps) (add-one n) ∙ ap (λ b. one_more_if b (new_number keeps n)) is
 
--- These are the new numbers of the first so many rows.
+-- These are the new numbers of the first k rows.
 pub record AreNumbers (flags : List Bool) (k : ℕ) (numbers : List ℕ) : Type 0 where
   pub size : length numbers ≡ k
   pub each : (n : ℕ) → n < k
@@ -29,7 +29,7 @@ pub record AreNumbers (flags : List Bool) (k : ℕ) (numbers : List ℕ) : Type 
 pub numbers_none : (flags : List Bool) → AreNumbers flags 0 []
 numbers_none flags = record { size = refl; each = λ n less. absurd (omega (arith, less)) }
 
--- One number more.
+-- One more number was made.
 pub numbers_more : (flags : List Bool) (k next : ℕ) (numbers : List ℕ) → AreNumbers flags k numbers
     → next ≡ new_number (is_flagged flags) k → AreNumbers flags (k + 1) (numbers ++ next ∷ [])
 numbers_more flags k next numbers so is = record {
@@ -48,7 +48,7 @@ numbers_more flags k next numbers so is = record {
         ∙ slice_get-push_last numbers next ∙ ap Some is
         ∙ ap (λ m. Some (new_number (is_flagged flags) m)) (sym last)
 
--- The last is that after all rows.
+-- The last number is the one after all rows.
 pub numbers_all : (flags : List Bool) (k next : ℕ) (numbers : List ℕ) → AreNumbers flags k numbers
     → next ≡ new_number (is_flagged flags) k → length flags ≤ k → (n : ℕ) → n ≤ length flags
     → slice_get (numbers ++ next ∷ []) n ≡ Some (new_number (is_flagged flags) n)

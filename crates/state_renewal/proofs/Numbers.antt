@@ -1,4 +1,4 @@
--- Rows that are kept and told anew: where each comes from, and where it goes.
+-- Kept rows by their new numbers: where each of them comes from, and where it goes.
 use Rattle.run_model.proofs.Common.{◌≡◌, ◌⊎◌, ◌<◌, ◌≤◌, ◌==◌, ℕ, zero, suc, Bool, true, false}
 use Rattle.run_model.proofs.Common.{List, [], ◌∷◌, length, map, Some, slice_get, inl, inr, refl}
 use Rattle.run_model.proofs.Common.{sym, ap, subst, ◌∙◌, arith, option_map, nat_lt, cases_eq}
@@ -22,7 +22,7 @@ number_at_most keeps zero = omega arith
 number_at_most keeps (suc n) =
     more_at_least (keeps n) n (new_number keeps n) (number_at_most keeps n)
 
--- A later row has no lesser new number.
+-- A later row has no lower new number.
 pub number_up : (keeps : ℕ → Bool) (n m : ℕ) → n ≤ m → new_number keeps n ≤ new_number keeps m
 number_up keeps n zero less =
     let none : n ≡ zero = omega (arith, less) in
@@ -40,7 +40,7 @@ number_up keeps n (suc m) less =
         omega (arith, lesser, more)
     by_order (inr (inr above)) up = absurd (omega (arith, less, above))
 
--- A row that is kept has a lesser new number than each row after it.
+-- A kept row has a lower new number than each row after it.
 pub number_less : (keeps : ℕ → Bool) (n m : ℕ) → keeps n ≡ true → n < m
     → new_number keeps n < new_number keeps m
 number_less keeps n zero is less = absurd (omega (arith, less))
@@ -60,7 +60,7 @@ number_less keeps n (suc m) is less =
         omega (arith, rest, more)
     by_order (inr (inr above)) lesser = absurd (omega (arith, less, above))
 
--- Two rows that are kept have two new numbers.
+-- Two kept rows have different new numbers.
 pub number_same : (keeps : ℕ → Bool) (n m : ℕ) → keeps n ≡ true → keeps m ≡ true
     → new_number keeps n ≡ new_number keeps m → n ≡ m
 number_same keeps n m is_n is_m same = by_order (cases_order n m)
@@ -175,7 +175,7 @@ length_in_front : {X : Type 0} (b : Bool) (row : X) (rows : List X)
 length_in_front true row rows = refl
 length_in_front false row rows = refl
 
--- As many rows are kept as the number says that a row after all of them would have.
+-- The number of kept rows is the new number that a row after all of them would have.
 pub length-kept : {X : Type 0} (keeps : ℕ → Bool) (rows : List X)
     → length (kept keeps rows) ≡ new_number keeps (length rows)
 length-kept keeps [] = refl
@@ -186,7 +186,7 @@ length-kept keeps (r ∷ rows) =
 
 -- ---- told anew
 
--- A row of the old ones that is kept, and is this one of the new.
+-- A kept row of the old ones, and the new row that it becomes.
 pub record IsOf
     {X : Type 0} (keeps : ℕ → Bool) (tell : X → X) (rows : List X) (m : ℕ) (row : X) : Type 0
   where
@@ -197,7 +197,7 @@ pub record IsOf
     pub number : m ≡ new_number keeps n
     pub told : row ≡ tell old
 
--- The new rows are the old ones that are kept, each told anew, in the old order.
+-- The new rows are the kept ones by their new numbers, in the old order.
 pub record AreTold
     {X : Type 0} (keeps : ℕ → Bool) (tell : X → X) (old new : List X) : Type 0 where
   pub few : length new ≤ length old

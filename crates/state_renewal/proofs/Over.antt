@@ -1,4 +1,4 @@
--- What holds of a store that goes on, and of the renewed one, at any time since the renewal.
+-- Facts about a store that goes on, and about the renewed one, at any time since the renewal.
 use Rattle.run_model.proofs.Common.{◌≡◌, ◌⊎◌, ◌<◌, ◌≤◌, ℕ, true, false, List, length, Option, Some}
 use Rattle.run_model.proofs.Common.{None, inl, inr, refl, sym, ap, subst, ◌∙◌, is_some, both_ways}
 use Rattle.run_model.proofs.Common.{cases_lt, false≢true, true_from_ne_false, Event, IsConsistent}
@@ -21,7 +21,7 @@ both_first p consistent = record {
   go = goes_first p consistent;
 }
 
--- So it is of each state that a store goes on to.
+-- This is true of each state to which a store goes on.
 pub led_on : (p q : State) (events : List Event) → GoesOn p events q
     → IsLed (going_on p) p events q
 led_on p q events goes =

@@ -1,4 +1,4 @@
--- The numbers of rows that pass a test, and how many rows pass it: those that go on alone.
+-- The numbers of rows that pass a test, and how many rows pass it: only rows that go on do.
 use Rattle.run_model.proofs.Common.{◌≡◌, ◌+◌, ◌<◌, ◌||◌, ℕ, zero, suc, Bool, true, false, cond}
 use Rattle.run_model.proofs.Common.{List, [], ◌∷◌, ◌++◌, length, map, take, Option, Some, None}
 use Rattle.run_model.proofs.Common.{slice_get, refl, sym, ap, ◌∙◌, arith, list_any, range_with_len}
@@ -27,7 +27,8 @@ numbers_more n =
     let e : 0 + n ≡ n = omega arith in
     range_more 0 n ∙ ap (λ k. range_with_len 0 n ++ k ∷ []) e
 
--- What goes on passes a new test as the old one, and nothing else passes the old one.
+-- A row that goes on passes the new test if it passed the old one, and no other row passed the old
+-- one.
 pub record PassesAnew (goes : ℕ → Bool) (test new_test : ℕ → Bool) (many : ℕ) : Type 0 where
   pub on : (n : ℕ) → n < many → goes n ≡ true → new_test (new_number goes n) ≡ test n
   pub gone : (n : ℕ) → n < many → goes n ≡ false → test n ≡ false
@@ -142,7 +143,7 @@ any_is_found test (n ∷ ns) =
     elim (test n) as (λ b. (b || list_any test ns) ≡ is_some (cond b (Some n) (find test ns)))
     [ true ↦ refl | false ↦ any_is_found test ns ]
 
--- A number passes exactly where one passed.
+-- A number passes the new test exactly if one passed the old test.
 pub some_anew : (goes : ℕ → Bool) (test new_test : ℕ → Bool) (n : ℕ)
     → PassesAnew goes test new_test n
     → list_any new_test (range_with_len 0 (new_number goes n))
@@ -159,7 +160,8 @@ some_anew goes test new_test n pass =
 
 -- ---- rows that pass
 
--- Rows that go on pass a new test, told anew, as they passed the old one, and no others passed it.
+-- Rows that go on pass the new test, by their new numbers, as they passed the old one. No others
+-- passed the old one.
 pub record RowsPass
     {X : Type 0} (goes : ℕ → Bool) (tell : X → X) (test new_test : X → Bool) (rows : List X)
     : Type 0 where
@@ -177,7 +179,7 @@ take_none : {X : Type 0} (n : ℕ) → take {A = X} n [] ≡ []
 take_none zero = refl
 take_none (suc n) = refl
 
--- As many rows pass before a row that goes on as passed before it.
+-- As many rows before a row that goes on pass as passed before it.
 pub count_anew : {X : Type 0} (goes : ℕ → Bool) (tell : X → X) (test new_test : X → Bool)
     (rows : List X) (n : ℕ) → RowsPass goes tell test new_test rows
     → count_by new_test (take (new_number goes n) (rows_anew goes tell rows))
@@ -215,7 +217,7 @@ count_anew {X = X} goes tell test new_test (r ∷ rows) (suc n) pass =
         (sym (pass.gone zero r refl is))
         ∙ sym (count_cons test r (take n rows))
 
--- As many rows pass as passed.
+-- As many rows pass as passed before.
 pub count_all_anew : {X : Type 0} (goes : ℕ → Bool) (tell : X → X) (test new_test : X → Bool)
     (rows : List X) → RowsPass goes tell test new_test rows
     → count_by new_test (rows_anew goes tell rows) ≡ count_by test rows
@@ -227,7 +229,7 @@ count_all_anew goes tell test new_test rows pass =
     ∙ count_anew goes tell test new_test rows (length rows) pass
     ∙ ap (count_by test) (take_all (length rows) rows (omega arith))
 
--- A row passes exactly where one passed.
+-- Some row passes exactly if some row passed before.
 pub any_anew : {X : Type 0} (goes : ℕ → Bool) (tell : X → X) (test new_test : X → Bool)
     (rows : List X) → RowsPass goes tell test new_test rows
     → list_any new_test (rows_anew goes tell rows) ≡ list_any test rows

@@ -1,4 +1,4 @@
--- Flags that are raised from scopes to those above them, from the last scope to root.
+-- Flags are raised from scopes to those above them, from the last scope to root.
 use Rattle.run_model.proofs.Common.{◌≡◌, ◌⊎◌, ◌<◌, ◌≤◌, ◌+◌, ◌==◌, ◌&&◌, ℕ, zero, suc, Bool, true}
 use Rattle.run_model.proofs.Common.{false, cond, List, [], length, Option, Some, None, slice_get}
 use Rattle.run_model.proofs.Common.{inl, inr, refl, sym, ap, subst, ◌∙◌, arith, range_with_len}
@@ -16,7 +16,7 @@ use Rattle.state_renewal.specs.Marks.{is_flagged, is_above_flagged}
 use Rattle.state_renewal.proofs.Keeps.{number_get, line_self, line_passes}
 use Rattle.task_group.proofs.Admits.{same_test}
 
--- The last k scopes raised their flags.
+-- The last k scopes have raised their flags.
 pub record AreRaised (rows : List Scope) (before : List Bool) (k : ℕ) (flags : List Bool)
     : Type 0 where
   pub size : length flags ≡ length rows

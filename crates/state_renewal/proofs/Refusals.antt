@@ -1,4 +1,5 @@
--- An event that names only what goes on is refused alike in both states, but for names and room.
+-- Both states refuse an event that refers only to what goes on in the same way, except for taken
+-- names and full stores.
 use Rattle.run_model.proofs.Common.{◌≡◌, ◌&&◌, ◌==◌, ℕ, Bool, true, false, List, [], length}
 use Rattle.run_model.proofs.Common.{Option, Some, None, refl, sym, ap, ◌∙◌, arith, option_map}
 use Rattle.run_model.proofs.Common.{option_map_or, is_none, nat_lt, position, not, bytes_eq}
@@ -244,7 +245,8 @@ pub allowed_anew : (part : Part) (p : State) (e : Event) → AreBoth part p
     → allowed (state_anew part p) (event_anew part e) ≡ true
 allowed_anew part p e both is may = allowed_at part p e both is (allowed_place p e may) ∙ may
 
--- It is allowed in the old state exactly where it is in the new one, and has its place in the old.
+-- The old state allows it exactly if the new one does, and its names and rows are free in the old
+-- one.
 pub allowed_same : (part : Part) (p : State) (e : Event) → AreBoth part p
     → names_part part e ≡ true
     → allowed p e ≡ (allowed (state_anew part p) (event_anew part e) && has_place p e)

@@ -1,4 +1,4 @@
--- What the rules say of the rows of a state that is renewed.
+-- Facts about the rows of a renewed state that follow from the rules.
 use Rattle.run_model.proofs.Common.{◌≡◌, ◌<◌, ◌≤◌, ◌-◌, ◌^◌, ℕ, suc, Bool, true, false, List, []}
 use Rattle.run_model.proofs.Common.{◌∷◌, drop, take, length, Option, Some, None, slice_get, refl}
 use Rattle.run_model.proofs.Common.{sym, ap, subst, ◌∙◌, arith, length-drop, AllByRecursion}
@@ -74,7 +74,7 @@ links_known p rules n row found = link_known p rules n row found row.retry_of re
 
 -- ---- the image
 
--- A store of the layout has room for so many rows.
+-- This many rows fit into a store of the layout.
 pub room_there : (layout : Layout) (p : State) → IsConsistent p
     → fits_in layout (renewed p) ≡ true
     → (length (drop 1 (renewed p).tree.scopes) ≤ most_scopes layout - 1)
@@ -169,7 +169,7 @@ head_by clock count scopes groups tasks = record {
   tasks = tasks;
 }
 
--- The head of the renewed state, by how many are kept.
+-- The head of the renewed state, by the numbers of kept rows.
 pub head_is : (p : State) (clock count scopes groups tasks : ℕ) → clock ≡ p.tree.clock
     → count ≡ p.count → scopes ≡ length (renewed p).tree.scopes
     → groups ≡ length (renewed p).work.groups → tasks ≡ length (renewed p).work.tasks
@@ -184,7 +184,7 @@ head_is p clock count scopes groups tasks is_clock is_count is_scopes is_groups 
     ∙ ap (λ n. head_by p.tree.clock p.count (length (drop 1 (renewed p).tree.scopes))
     (length (renewed p).work.groups) n) is_tasks
 
--- Where the rows of groups and of tasks point, in so many rows.
+-- The rows to which groups and tasks refer exist among this many rows.
 pub scopes_known : (p : State) (w : WorkState) (many : ℕ) → IsConsistent p → w ≡ p.work
     → many ≡ length p.tree.scopes → (g : ℕ) (row : Group) → HasRow w.groups g row
     → row.scope < many
@@ -205,14 +205,14 @@ pub no_memory : {T : Type 0} (r : Result T Fault) (e : Fault) → IsErrAnd r (λ
 no_memory (Ok x) e told is = tt
 no_memory (Err y) e told is = told ∙ is
 
--- What holds of the flags that were made, where there are marks by them, holds of the marks.
+-- A fact about the flags, if there are marks made from them, is one about the marks.
 pub of_marks : {V : Type 0} (items : V → List Bool) (P : List Bool → Type 0) (r : Result V Fault)
     (marks : List Bool) → MatchResult r (λ v. marks ≡ items v) (λ e. ⊥)
     → IfOk r (λ v. P (items v)) → P marks
 of_marks items P (Ok v) marks is holds = subst P (sym is) holds
 of_marks items P (Err e) marks is holds = absurd is
 
--- The marks by the flags that were made are those of the state.
+-- The marks made from these flags are those of the state.
 pub marks_made : (p : State) (tree : TreeState) (w v u : WorkState)
     (scopes s_lent groups g_lent tasks : List Bool) → tree ≡ p.tree → w ≡ p.work → v ≡ p.work
     → u ≡ p.work → s_lent ≡ scopes → g_lent ≡ groups → length scopes ≡ length tree.scopes

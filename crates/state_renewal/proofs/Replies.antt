@@ -1,4 +1,4 @@
--- A command, a start or a finish that names what goes on is answered alike by both stores.
+-- Both stores answer a command, a start or a finish about what goes on in the same way.
 use Rattle.run_model.proofs.Common.{◌≡◌, ◌+◌, ℕ, Bool, true, false, length, Option, Some, None}
 use Rattle.run_model.proofs.Common.{slice_get, refl, sym, ap, ◌∙◌, arith, ok_or, option_and_then}
 use Rattle.run_model.proofs.Common.{option_map, option_map_or, if◌then◌else◌, Result, Ok, Err}

@@ -1,4 +1,4 @@
--- Rows of which some go on, told anew: what is done to the rows is done to those that go on.
+-- Rows, some of which go on, by their new numbers: a change of the rows is a change of those.
 use Rattle.run_model.proofs.Common.{◌≡◌, ◌<◌, ℕ, zero, suc, Bool, true, false, List, [], ◌∷◌, ◌++◌}
 use Rattle.run_model.proofs.Common.{length, map, Some, slice_get, refl, sym, ap, ◌∙◌, arith}
 use Rattle.run_model.proofs.Common.{Option, None, option_map, option_map_or, length-map}
@@ -94,7 +94,7 @@ anew_map goes tell change rows same =
 
 -- ---- rows by number
 
--- The row of the new number is the old one told anew, and there is none where there was none.
+-- The row with the new number is the old one by the new numbers. If there was none, there is none.
 pub anew_get : {X : Type 0} (goes : ℕ → Bool) (tell : X → X) (rows : List X) (n : ℕ)
     → goes n ≡ true
     → slice_get (rows_anew goes tell rows) (new_number goes n)
@@ -103,7 +103,7 @@ anew_get goes tell rows n is =
     slice_get-map tell (kept goes rows) (new_number goes n)
     ∙ ap (option_map tell) (kept_get goes rows n is)
 
--- What is asked of the row of the new number, where each row is asked alike.
+-- The answer about the row with the new number, if each row has the same answer.
 pub row_anew : {X Y : Type 0} (new old : Option X → Y) (goes : ℕ → Bool) (tell : X → X)
     (rows : List X) (n : ℕ) → new None ≡ old None
     → ((row : X) → slice_get rows n ≡ Some row → new (Some (tell row)) ≡ old (Some row))
@@ -116,7 +116,7 @@ row_anew {X = X} new old goes tell rows n none some is =
     by_row None at = none
     by_row (Some row) at = some row at
 
--- A test of the row of the new number.
+-- A test of the row with the new number.
 pub test_anew : {X : Type 0} (test : X → Bool) (goes : ℕ → Bool) (tell : X → X) (rows : List X)
     (n : ℕ) → ((row : X) → test (tell row) ≡ test row) → goes n ≡ true
     → option_map_or test (slice_get (rows_anew goes tell rows) (new_number goes n)) false
@@ -150,7 +150,7 @@ number_agrees f g (suc n) same =
     ∙ ap (one_more_if (g n))
     (number_agrees f g n (λ k less. same k (omega (arith, less))))
 
--- Rows that are told the same are the same.
+-- Rows that change in the same way are the same.
 pub told_same : {X : Type 0} (goes : ℕ → Bool) (f g : X → X) (rows : List X)
     → ((n : ℕ) (row : X) → slice_get rows n ≡ Some row → f row ≡ g row)
     → map f (kept goes rows) ≡ map g (kept goes rows)

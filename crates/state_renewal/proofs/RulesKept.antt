@@ -1,4 +1,4 @@
--- A consistent state is consistent when it is renewed.
+-- If a state is consistent, so is the renewed state.
 use Rattle.run_model.proofs.Common.{◌≡◌, ◌⊎◌, ◌<◌, ℕ, Bool, true, false, length, Option, Some}
 use Rattle.run_model.proofs.Common.{None, slice_get, refl, sym, ap, subst, ◌∙◌, arith, option_map}
 use Rattle.run_model.proofs.Common.{option_and_then, IsSome, IsTrue, is_some, none-some, same_Some}

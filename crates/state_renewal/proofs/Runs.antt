@@ -1,4 +1,4 @@
--- Events that name what goes on lead both stores the same way.
+-- Events that refer only to what goes on lead both stores in the same way.
 use Rattle.run_model.proofs.Common.{◌≡◌, Bool, true, false, List, [], ◌∷◌, map, Some, None, refl}
 use Rattle.run_model.proofs.Common.{ap, subst, ◌∙◌, option_and_then, if◌then◌else◌, and_parts}
 use Rattle.run_model.proofs.Common.{none-some, same_Some, allowed, run, Event, IsConsistent, State}
@@ -13,7 +13,7 @@ use Rattle.state_renewal.proofs.Goes.{Goes, hangs}
 use Rattle.state_renewal.proofs.GoesStill.{goes_still}
 use Rattle.state_renewal.proofs.Steps.{step_anew}
 
--- Of a state, and of what goes on of it: both keep the rules, and what goes on hangs together.
+-- The state and the part of it that goes on both keep the rules, and the part is closed.
 pub record Both (part : Part) (p : State) : Type 0 where
   pub old : IsConsistent p
   pub new : IsConsistent (state_anew part p)
@@ -33,7 +33,7 @@ both_step part p e both is may = record {
   go = goes_still part p e both.go is;
 }
 
--- The new store is led as the old one is, and both keep what they had.
+-- The new store is led as the old one is, and both keep the rules.
 pub record IsLed (part : Part) (p : State) (events : List Event) (q : State) : Type 0 where
   pub run : run (state_anew part p) (map (event_anew part) events) ≡ Some (state_anew part q)
   pub both : Both part q

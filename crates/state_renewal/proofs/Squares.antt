@@ -1,4 +1,4 @@
--- What a change makes of what goes on is what goes on of what it makes.
+-- Changing a state and then taking the part that goes on gives the same as changing the part.
 use Rattle.run_model.proofs.Common.{◌≡◌, ℕ, Bool, true, false, List, [], ◌∷◌, ◌++◌, length, Option}
 use Rattle.run_model.proofs.Common.{Some, None, slice_get, refl, sym, ap, ◌∙◌, arith}
 use Rattle.run_model.proofs.Common.{option_and_then, option_map, option_map_or, if◌then◌else◌}

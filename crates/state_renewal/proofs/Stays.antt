@@ -1,4 +1,4 @@
--- What is kept is as it was.
+-- Kept rows stay as they were.
 use Rattle.run_model.proofs.Common.{◌≡◌, ℕ, true, is_some, ap, option_map, IsConsistent, HasRow}
 use Rattle.run_model.proofs.Common.{State, first_ready}
 use Rattle.run_model.specs.declared.groups.Group.{Group}

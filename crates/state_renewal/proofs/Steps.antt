@@ -1,4 +1,4 @@
--- What an event makes of what goes on is what goes on of what it makes.
+-- An event changes the part that goes on in the same way as the whole state.
 use Rattle.run_model.proofs.Common.{◌≡◌, ◌+◌, ℕ, true, false, List, [], ◌∷◌, length, map, Some}
 use Rattle.run_model.proofs.Common.{None, refl, ap, ◌∙◌, arith, AllByRecursion, Event}
 use Rattle.run_model.proofs.Common.{IsConsistent, State, TreeState, WorkState, after_task_end}

@@ -1,4 +1,4 @@
--- What a renewal leaves of a store that was renewed before is what it leaves of the old one.
+-- A renewal leaves the same of a store that was renewed before as of the old one.
 use Rattle.run_model.proofs.Common.{◌≡◌, ◌==◌, ◌&&◌, ◌||◌, ℕ, zero, suc, Bool, true, false, not}
 use Rattle.run_model.proofs.Common.{List, [], ◌∷◌, length, map, Option, Some, None, slice_get, inl}
 use Rattle.run_model.proofs.Common.{inr, refl, sym, ap, ◌∙◌, option_map, option_map_or, and_left}

@@ -1,4 +1,4 @@
--- What is asked of groups and tasks that go on is answered alike.
+-- Questions about groups and tasks that go on have the same answers.
 use Rattle.run_model.proofs.Common.{◌≡◌, ◌==◌, ◌&&◌, ℕ, Bool, true, false, not, List, [], ◌∷◌}
 use Rattle.run_model.proofs.Common.{cond, length, map, take, Option, Some, None, slice_get, refl}
 use Rattle.run_model.proofs.Common.{sym, ap, ◌∙◌, arith, AllByRecursion, range_with_len}

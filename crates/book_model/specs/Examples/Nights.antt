@@ -308,7 +308,7 @@ below_a_done_scope =
     ∷ (start, started_late 10 0 "copy" "a")
     ∷ []
 
--- Two jobs, of which one fails.
+-- Two jobs, one of which fails.
 abbrev pub two_jobs : Night
 two_jobs =
     (group "g" "root", group_made 0 1)
@@ -321,7 +321,7 @@ two_jobs =
     ∷ (finish 1, finished 9)
     ∷ []
 
--- One of two tasks runs when the runner stops.
+-- One of two tasks is running when the program crashes.
 abbrev pub stopped_night : Night
 stopped_night =
     (group "g" "root", group_made 0 1)
@@ -331,7 +331,7 @@ stopped_night =
     ∷ (start, started 6 0 "copy" "a")
     ∷ []
 
--- A group's task fails below a scope that is done.
+-- A task fails in a group below a scope that is done.
 abbrev pub error_below_a_done_scope : Night
 error_below_a_done_scope =
     (derive "p" "root" Cause, scope_made 1)
@@ -342,7 +342,7 @@ error_below_a_done_scope =
     ∷ (fail 0 "bad", finished 7)
     ∷ []
 
--- A bare group whose tasks live in another group's scope.
+-- A bare group whose tasks belong to another group's scope.
 abbrev pub bare_group_in_a_groups_scope : Night
 bare_group_in_a_groups_scope =
     (group "g" "root", group_made 0 1)
@@ -360,7 +360,7 @@ bare_group_in_a_groups_scope =
     ∷ (set_limit "h" 3, refused refusal.Waited)
     ∷ []
 
--- A limit is set again once all tasks have finished.
+-- A limit is set again after all tasks have finished.
 abbrev pub limit_set_again : Night
 limit_set_again =
     (group "g" "root", group_made 0 1)
@@ -390,7 +390,7 @@ nested_groups =
     ∷ (start, started 7 1 "copy" "y")
     ∷ []
 
--- The state of a store that was opened so many times more.
+-- The state of a store after this many more openings.
 abbrev pub reopened : ℕ → Night → State
 reopened zero night = state_of night
 reopened (suc n) night = step (reopened n night) Restart
