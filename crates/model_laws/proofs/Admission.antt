@@ -1,4 +1,4 @@
--- Running tasks stay admitted, and groups that were waited for stay idle.
+-- Running tasks stay admitted, and groups that were waited for get no unfinished task.
 use Rattle.run_model.proofs.Common.{◌≡◌, ◌≢◌, ◌<◌, ◌≤◌, ◌+◌, ◌==◌, ◌&&◌, ℕ, zero, suc, Bool, true}
 use Rattle.run_model.proofs.Common.{false, List, [], ◌∷◌, ◌++◌, length, take, Option, Some, None}
 use Rattle.run_model.proofs.Common.{slice_get, inl, inr, refl, sym, ap, ◌∙◌, arith}

@@ -1,4 +1,4 @@
--- What an accepted call leaves.
+-- The effect of an accepted call.
 use Rattle.run_model.proofs.Common.{◌≡◌, ℕ, Bool, true, false, if◌then◌else◌, Option, Some, None}
 use Rattle.run_model.proofs.Common.{Result, Ok, Err, refl, sym, ap, ◌∙◌, Event, State, refusals}
 use Rattle.run_model.proofs.Common.{decide, is_repeated, is_full, if_room, and_then, event_of}
@@ -20,7 +20,7 @@ pub state_of_event : (s : Session) (o : Option Event)
 state_of_event s None = refl
 state_of_event s (Some event) = refl
 
--- The state that a decision leaves.
+-- The state after a decision.
 pub decided_state : (s : Session) (r : Result (Option Event) Refusal) (o : Option Event)
     → r ≡ Ok o → (with_event s (result_unwrap_or r None)).state ≡ state_after s.state o
 decided_state s r o decided =
@@ -28,7 +28,7 @@ decided_state s r o decided =
     decided
     ∙ state_of_event s o
 
--- This is decided, answered and left.
+-- The decision, the answer and the state after them.
 pub record Decision (s : Session) (call : Command) (a : Answer) (q : State) : Type 0 where
   pub event : Option Event
   pub decided : decide s.state s.log call ≡ Ok event

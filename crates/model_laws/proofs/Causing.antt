@@ -1,4 +1,4 @@
--- Which kinds of scope a command cancels, and which take a cause.
+-- The kinds of scope that a command can cancel, and those that take a cause.
 use Rattle.run_model.proofs.Common.{◌≡◌, ℕ, true, false, List, Option, Some, None, slice_get, inl}
 use Rattle.run_model.proofs.Common.{inr, refl, ap, option_map, option_map_or, not-false, State}
 use Rattle.run_model.proofs.Common.{allowed, is_cancellable, refusals, takes_cause, each_fails}

@@ -1,4 +1,4 @@
--- Rows that stay at their places: what is left to show of the rules.
+-- Rows that stay at their places, and the rules that are then left to show.
 use Rattle.run_model.proofs.Common.{◌≡◌, ◌≤◌, ℕ, true, false, Some, slice_get, refl, both_ways}
 use Rattle.run_model.proofs.Common.{root, at_row, IsConsistent, AreAdmitted, AreErrors, HasRow}
 use Rattle.run_model.proofs.Common.{State, TreeState, WorkState, is_running, is_unfinished}
@@ -62,7 +62,7 @@ rows_change p e u v hit layout groups tasks admitted errors kept = record {
   links = links_kept p.work v tasks kept.links;
 }
 
--- Hits alone came.
+-- Only hits were added.
 pub hits_change : (p : State) (e : ℕ) (u : TreeState) → IsHit e p.tree u → IsConsistent p
     → IsConsistent (record { count = e; tree = u; work = p.work })
 hits_change p e u hit kept =

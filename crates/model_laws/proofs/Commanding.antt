@@ -1,10 +1,10 @@
--- What a command's event is not.
+-- The events that a command can't make.
 use Rattle.run_model.proofs.Common.{◌≡◌, false, refl, Event, event_of, State}
 use Rattle.run_model.specs.declared.commands.Command.{Command}
 use Rattle.run_model.specs.declared.commands.Command.TheVariants as command
 use Rattle.model_laws.specs.Kinds.{is_finish, is_restart, is_start}
 
--- It is one that a command can ask for.
+-- The event is one that a command can make.
 pub record IsAsked (e : Event) : Type 0 where
   pub start : is_start e ≡ false
   pub finish : is_finish e ≡ false

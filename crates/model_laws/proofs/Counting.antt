@@ -25,7 +25,7 @@ count_failing test row rows fails =
     count_cons test row rows ∙ ap (λ (b : Bool). one_if b + count_by test rows) fails in
     omega (arith, counted)
 
--- A row that no longer passes is one less.
+-- If one row no longer passes, the count is less by one.
 pub count_lost : {X : Type 0} (test : X → Bool) (change : X → X) (n : ℕ) (rows : List X) (row : X)
     → slice_get rows n ≡ Some row → test row ≡ true → ((r : X) → test (change r) ≡ false)
     → count_by test (at_row change n rows) + 1 ≡ count_by test rows

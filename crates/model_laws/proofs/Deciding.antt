@@ -1,4 +1,4 @@
--- What is allowed is decided, where names are distinct and the log has room.
+-- An allowed event is decided, if names are distinct and its record fits into the log.
 use Rattle.run_model.proofs.Common.{◌&&◌, ◌≡◌, ℕ, true, false, not, Option, Some, None, slice_get}
 use Rattle.run_model.proofs.Common.{refl, ap, ◌∙◌, le_trans, option_map_or, and_parts, not-false}
 use Rattle.run_model.proofs.Common.{Event, State, WorkState, AreNumbered, is_recorded, allowed}

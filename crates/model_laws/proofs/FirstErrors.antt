@@ -1,4 +1,4 @@
--- A group keeps an error exactly where a task of it was lost, and where it ended its scope is hit.
+-- A group has an error exactly if a task of it ended in one, and if it has ended, its scope is hit.
 use Rattle.run_model.proofs.Common.{◌≡◌, ◌≢◌, ◌↔◌, ◌<◌, ◌==◌, ◌&&◌, ◌||◌, ℕ, zero, suc, Bool, true}
 use Rattle.run_model.proofs.Common.{false, List, [], ◌∷◌, ◌++◌, length, Option, Some, None}
 use Rattle.run_model.proofs.Common.{slice_get, inl, inr, refl, sym, ap, ◌∙◌, arith, list_any}

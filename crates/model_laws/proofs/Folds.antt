@@ -57,7 +57,8 @@ option_map_twice change twice true true (Some x) = ap Some (twice x)
 option_map_twice change twice true false (Some x) = refl
 option_map_twice change twice false b (Some x) = refl
 
--- A change that does no more when it comes again is made where a key names the row.
+-- A change that has no further effect when it is repeated is made exactly at the rows that a key
+-- names.
 pub fold_reads : {X : Type 0} (change : X → X) → ((x : X) → change (change x) ≡ change x)
     → (key : ℕ → Option ℕ) (ns : List ℕ) (rows : List X) (m : ℕ)
     → slice_get (fold (λ changed n. at_key change (key n) changed) rows ns) m
@@ -80,7 +81,7 @@ any_kept pass a ns true false e = ap (λ b. b || list_any pass ns) e
 any_kept pass a ns false true e = refl
 any_kept pass a ns false false e = refl
 
--- A number passes among those that are kept where a row passes both.
+-- A number passes among the kept ones if a row passes both tests.
 pub any_picked : {X : Type 0} (test pass : ℕ → Bool) (both : X → Bool) (rows : List X) (a : ℕ)
     → ((n m : ℕ) (row : X) → slice_get rows n ≡ Some row → m ≡ a + n
     → (pass m && test m) ≡ both row)
@@ -104,7 +105,7 @@ none_before test m a (suc n) less =
     (ne_eqb a m (omega (arith, less)))
     ∙ none_before test m (a + 1) n (omega (arith, less))
 
--- A number is kept exactly where it passes the test.
+-- A number is kept exactly if it passes the test.
 pub number_picked : (test : ℕ → Bool) (m a n : ℕ) → a ≤ m → m < a + n
     → list_any (λ k. k == m) (filter test (range_with_len a n)) ≡ test m
 number_picked test m a zero low high = absurd (omega (arith, low, high))

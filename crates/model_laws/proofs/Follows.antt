@@ -1,5 +1,5 @@
--- What any event leaves of a tree: the rows that were there, perhaps with a hit of this event more,
--- and perhaps a row more at the end.
+-- The effect of any event on a tree: the old rows stay, perhaps with a hit of this event, and there
+-- may be one more row at the end.
 use Rattle.run_model.proofs.Common.{◌≡◌, ◌⊎◌, ◌<◌, ◌≤◌, ℕ, nat_le, List, [], ◌∷◌, ◌++◌, length}
 use Rattle.run_model.proofs.Common.{map, Option, Some, None, slice_get, inl, inr, refl, sym, subst}
 use Rattle.run_model.proofs.Common.{ap, ◌∙◌, arith, option_map, option_map_or, option_or, leb-true}
@@ -21,7 +21,7 @@ pub record IsOf (e now : ℕ) (hit : Hit) : Type 0 where
   pub event : hit.event ≡ e
   pub moment : hit.moment ≤ now
 
--- The hit that was there stays, and one that was not there is of event e.
+-- The old hit stays, or there was none and the new one is of event e.
 pub record HitFollows (e now : ℕ) (old new : Option Hit) : Type 0 where
   pub stays : (hit : Hit) → old ≡ Some hit → new ≡ Some hit
   pub comes : (hit : Hit) → new ≡ Some hit → (old ≡ Some hit) ⊎ IsOf e now hit
@@ -51,7 +51,7 @@ or_else_follows e now (Some own) hit of = hit_same e now (Some own)
 
 -- ---- rows
 
--- The row is the same, but for a hit.
+-- The row is the same, apart from a hit.
 pub record RowFollows (e now : ℕ) (old new : Scope) : Type 0 where
   pub kind : new.kind ≡ old.kind
   pub parent : new.parent ≡ old.parent
@@ -94,12 +94,12 @@ tick_follows e now row = by_due (hit_due e now row.kind) (due_of e now row.kind)
 
 -- ---- trees
 
--- A row that was not there: it has a lesser parent, and at most a hit of event e.
+-- A new row: its parent has a lower number, and it has at most a hit of event e.
 pub record IsNewRow (e now s : ℕ) (row : Scope) : Type 0 where
   pub parent : row.parent < s
   pub hit : HitFollows e now None row.hit
 
--- Each row is there again, but for a hit, and a row that was not there is new.
+-- Each old row is still there, apart from a hit, and every other row is new.
 pub record RowsFollow (e now : ℕ) (old new : List Scope) : Type 0 where
   pub kept : (s : ℕ) (a : Scope) → slice_get old s ≡ Some a
       → (b : Scope) × (slice_get new s ≡ Some b) × RowFollows e now a b

@@ -1,4 +1,4 @@
--- What is decided as an event that has a record is a command that can be given.
+-- If a command is decided as an event that has a record, the command can be given.
 use Rattle.run_model.proofs.Common.{◌≡◌, ◌<◌, ◌≤◌, ◌+◌, ◌^◌, ℕ, Bool, true, not, ◌&&◌, nat_lt}
 use Rattle.run_model.proofs.Common.{List, Some, Ok, refl, sym, ap, ◌∙◌, arith, leb-true, lt-ltb}
 use Rattle.run_model.proofs.Common.{and_parts, and_from, Event, State, is_name, is_recorded}

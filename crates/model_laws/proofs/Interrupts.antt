@@ -1,4 +1,4 @@
--- What a restart makes of the rows.
+-- The effect of a restart on the rows.
 use Rattle.run_model.proofs.Common.{◌≡◌, ◌+◌, ◌==◌, ◌&&◌, ℕ, Bool, true, false, List, [], ◌∷◌}
 use Rattle.run_model.proofs.Common.{length, map, fold, Option, Some, None, slice_get, refl, sym}
 use Rattle.run_model.proofs.Common.{ap, ◌∙◌, arith, list_any, option_map, option_map_or}
@@ -268,7 +268,7 @@ none_runs : (o : Option Task)
 none_runs None = refl
 none_runs (Some row) = not_running row.stage
 
--- A restart leaves what the law says.
+-- A restart leaves the state that the law describes.
 pub restarted : (p : State) → IsRestart p (step p event.Restart)
 restarted p = record {
   counted = refl;

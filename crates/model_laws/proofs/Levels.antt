@@ -1,4 +1,4 @@
--- A hit of the same event as others, and equal to them: what was done stays as it ended.
+-- A hit of the same event as others, and equal to them: scopes that were done keep their endings.
 use Rattle.run_model.proofs.Common.{◌≡◌, ◌⊎◌, ◌<◌, ℕ, Bool, true, false, cond, List, Option, Some}
 use Rattle.run_model.proofs.Common.{None, slice_get, inl, inr, refl, sym, ap, ◌∙◌, arith, ◌≢◌}
 use Rattle.run_model.proofs.Common.{option_map, option_and_then, IfSome, option_or, cases_eq}
@@ -163,7 +163,7 @@ ordered_hit hit s rows ordered =
     ordered_follow hit.event hit.moment rows (at_row (with_hit hit) s rows)
     (cancelled hit.event hit.moment s hit rows of) ordered
 
--- A hit that is level with those there changes no ending.
+-- A hit that is level with the earlier ones changes no ending.
 pub endings_level : (hit : Hit) (s : ℕ) (rows : List Scope) → AreOrdered rows → AreLevel rows hit
     → EndingsStay rows (at_row (with_hit hit) s rows)
 endings_level hit s rows ordered level = stays

@@ -1,4 +1,4 @@
--- Each search of ancestors, in one step from the parent.
+-- Each search upwards is one step from the parent.
 use Rattle.run_model.proofs.Common.{◌≡◌, ◌<◌, ℕ, zero, suc, Bool, true, false, cond, List, [], ◌∷◌}
 use Rattle.run_model.proofs.Common.{Option, Some, None, slice_get, refl, ap, ◌∙◌, arith}
 use Rattle.run_model.proofs.Common.{filter_map, cons_option, option_map, is_root, is_detached}

@@ -1,4 +1,4 @@
--- A task that is a retry names an interrupted task of a lesser number, and stays the only one.
+-- A retry names an interrupted task with a lower number, and is the only retry of it.
 use Rattle.run_model.proofs.Common.{◌≡◌, ℕ, true, false, [], ◌∷◌, ◌++◌, length, Some, slice_get}
 use Rattle.run_model.proofs.Common.{inl, inr, refl, sym, ap, subst, ◌∙◌, ◌==◌, option_map_or}
 use Rattle.run_model.proofs.Common.{both_ways, eq-eqb, slice_get_within, AreLinked, IsRetry}
@@ -32,7 +32,7 @@ links_kept v w tasks old = record {
       old.once n k m x.0 y.0 x.1 y.1 (sym x.2.retry_of ∙ link_a) (sym y.2.retry_of ∙ link_b);
 }
 
--- A change beside the tasks.
+-- A change that leaves the tasks as they are.
 pub links_beside : (v w : WorkState) → w.tasks ≡ v.tasks → AreLinked v → AreLinked w
 links_beside v w same old =
     links_kept v w (rw same (alike_same IsSameTask v.tasks task_same)) old
@@ -44,7 +44,7 @@ retried_by w n m row found link =
     any_passes_from_place (is_retry_of m) w.tasks n row found
     (ap (λ o. option_map_or (λ k. k == m) o false) link ∙ eq-eqb m m refl)
 
--- One task more, which may be the retry of a task that was not retried.
+-- One more task, which may be the retry of a task that wasn't retried before.
 pub links_pushed : (w : WorkState) (new : Task)
     → ((m : ℕ) → new.retry_of ≡ Some m
     → (old : Task) × HasRow w.tasks m old × IsRetry (length w.tasks) new m old)

@@ -1,4 +1,4 @@
--- What is made is seen: scopes, groups and tasks.
+-- New scopes, groups and tasks are shown.
 use Rattle.run_model.proofs.Common.{◌≡◌, ◌+◌, ℕ, Bool, true, false, List, [], ◌∷◌, ◌++◌, length}
 use Rattle.run_model.proofs.Common.{Option, Some, None, slice_get, unwrap_or, refl, sym, ap, subst}
 use Rattle.run_model.proofs.Common.{◌∙◌, option_map_or, take-append_seam, not-false, State}
@@ -115,7 +115,7 @@ phase_of_fresh w n row found = rw found refl
 same_task : (n m : ℕ) (a b : Phase) → answer.Task n a ≡ answer.Task m b → (n ≡ m) × (a ≡ b)
 same_task n m a b e = (cc, cc)
 
--- A row at the end is seen, in the phase that is answered.
+-- A new row at the end is shown in the phase of the answer.
 pub record Submitted (p : State) (row : Task) (n : ℕ) (told : Phase) (q : State) : Type 0 where
   pub seen : task_look_of q n
       ≡ Some (task_seen row.group row.job row.argument told row.retry_of)

@@ -1,4 +1,4 @@
--- The row of a name, and the name of a row.
+-- The row with a name, and the name of a row.
 use Rattle.run_model.proofs.Common.{position, ◌≡◌, ◌<◌, ◌&&◌, not, ℕ, Bool, true, List, length}
 use Rattle.run_model.proofs.Common.{Option, Some, None, slice_get, unwrap_or, refl, sym, ap, arith}
 use Rattle.run_model.proofs.Common.{ltb-true, bytes_eq-Decides, State, has_row, scope_of, group_of}
@@ -10,7 +10,7 @@ use Rattle.model_laws.proofs.Places.{row_at_place, place_of_row}
 
 -- ---- rows with names
 
--- The row that a name is found at has this name.
+-- The row at which a name is found has this name.
 pub named_row : {X : Type 0} (name_of : X → List ℕ) (rows : List X) (name : List ℕ) (n : ℕ)
     → position (λ row. bytes_eq name (name_of row)) rows ≡ Some n
     → (row : X) × (slice_get rows n ≡ Some row) × (name_of row ≡ name)
@@ -23,7 +23,7 @@ abbrev pub AreDistinct : {X : Type 0} → (X → List ℕ) → List X → Type 0
 AreDistinct {X} name_of rows = (m n : ℕ) (a b : X) → slice_get rows m ≡ Some a
     → slice_get rows n ≡ Some b → name_of a ≡ name_of b → m ≡ n
 
--- A row's name is found at the row's number.
+-- The name of a row is found at the number of the row.
 pub place_of_name : {X : Type 0} (name_of : X → List ℕ) (rows : List X) (n : ℕ) (row : X)
     → AreDistinct name_of rows → slice_get rows n ≡ Some row
     → position (λ other. bytes_eq (name_of row) (name_of other)) rows ≡ Some n

@@ -1,4 +1,4 @@
--- Rows stay within the limits, names distinct, and what a row names exists.
+-- Rows stay within the limits, names stay distinct, and rows that others refer to exist.
 use Rattle.run_model.proofs.Common.{◌≡◌, ◌<◌, ℕ, false, [], ◌∷◌, ◌++◌, length, Some, slice_get}
 use Rattle.run_model.proofs.Common.{inl, inr, sym, ◌∙◌, arith, both_ways, slice_get_within}
 use Rattle.run_model.proofs.Common.{most_scopes, most_tasks, root, AreNumbered, is_root, State}

@@ -1,4 +1,5 @@
--- Each group scope stays that of exactly one group, and each group but a bare one keeps its scope.
+-- Each scope of kind Group belongs to exactly one group, and each group that isn't bare keeps its
+-- scope.
 use Rattle.run_model.proofs.Common.{◌≡◌, ◌⊎◌, ◌<◌, ℕ, Bool, true, false, [], ◌∷◌, ◌++◌, length}
 use Rattle.run_model.proofs.Common.{slice_get, inl, inr, sym, ap, ◌∙◌, arith, option_map_or}
 use Rattle.run_model.proofs.Common.{both_ways, slice_get_within, has_kind, is_group_kind}

@@ -33,7 +33,7 @@ fits_room p log made fits =
 
 -- ---- decisions
 
--- What was asked for isn't refused, finds room, and is this event.
+-- The requested event isn't refused, its record fits, and this is the event.
 pub record Leads (p : State) (log : ℕ) (asked event : Event) : Type 0 where
   pub may : list_all (λ t. not t.0) (refusals p asked) ≡ true
   pub room : is_full p log event ≡ false

@@ -12,7 +12,7 @@ use Rattle.model_laws.proofs.Tests.{passing}
 
 -- ---- a row that passes a test
 
--- Where a test of the row of a number holds, there are more rows than that.
+-- If a row passes a test under a number, there are more rows than this number.
 pub passing_within : {X : Type 0} (test : X → Bool) (rows : List X) (n : ℕ)
     → option_map_or test (slice_get rows n) false ≡ true → n < length rows
 passing_within test rows n e =
@@ -21,7 +21,7 @@ passing_within test rows n e =
 
 -- ---- places
 
--- The row at the place that is found passes.
+-- The row at the place that is found passes the test.
 pub row_at_place : {X : Type 0} (test : X → Bool) (rows : List X) (n : ℕ)
     → position test rows ≡ Some n
     → (row : X) × (slice_get rows n ≡ Some row) × (test row ≡ true)
@@ -30,7 +30,7 @@ row_at_place test (r ∷ rows) n at =
     let known = position-Some test (r ∷ rows) n r at in
     (get_or (r ∷ rows) n r, slice_get-get_or (r ∷ rows) n r known.0, known.1)
 
--- A row that alone passes is found at its place.
+-- If only one row passes the test, it is found at its place.
 pub place_of_row : {X : Type 0} (test : X → Bool) (rows : List X) (n : ℕ) (row : X)
     → slice_get rows n ≡ Some row → test row ≡ true
     → ((m : ℕ) (other : X) → slice_get rows m ≡ Some other → test other ≡ true → m ≡ n)

@@ -13,7 +13,7 @@ use Rattle.model_laws.specs.Queues.{admitted_tasks}
 
 -- ---- ranks
 
--- Each number that passes a test is one more before those that follow it.
+-- Each number that passes a test adds one to the count before the numbers after it.
 pub record Ranks (test : ℕ → Bool) (rank : ℕ → ℕ) (len : ℕ) : Type 0 where
   pub counts : (n : ℕ) → n < len → test n ≡ true → rank (n + 1) ≡ rank n + 1
   pub skips : (n : ℕ) → n < len → test n ≡ false → rank (n + 1) ≡ rank n

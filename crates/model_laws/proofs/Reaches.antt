@@ -91,7 +91,7 @@ hit_there rows n hit r at same =
     let found : own_hit rows r.0 ≡ r.1.hit = ap (option_and_then (λ row. row.hit)) at in
     ap is_some (sym found ∙ ap (own_hit rows) (eqb-true r.0 n same)) ∙ hit
 
--- Where a scope that was hit is among these rows, one of them has a hit.
+-- If a scope that was hit is one of these rows, one of them has a hit.
 pub hit_among : (all : List Scope) (n : ℕ) (rows : List (ℕ × Scope))
     → AllByRecursion (IsRow all) rows
     → IsSome (own_hit all n) → is_on n rows ≡ true → has_hit rows ≡ true

@@ -1,4 +1,4 @@
--- What a refused step leaves.
+-- The effect of a refused step.
 use Rattle.run_model.proofs.Common.{◌≡◌, ◌+◌, ℕ, [], ◌∷◌, Option, Some, None, Result, Ok, Err}
 use Rattle.run_model.proofs.Common.{slice_get, refl, sym, ap, ◌∙◌, option_map, option_and_then}
 use Rattle.run_model.proofs.Common.{ok_or, Event, State, first_ready, decide, decide_start}

@@ -1,4 +1,4 @@
--- A task that was retried is not retried again.
+-- A task that was retried isn't retried again.
 use Rattle.run_model.proofs.Common.{◌≡◌, ℕ, true, false, List, [], ◌∷◌, ◌++◌, length, Option, Some}
 use Rattle.run_model.proofs.Common.{None, slice_get, refl, ap, subst, ◌∙◌, option_map}
 use Rattle.run_model.proofs.Common.{option_map_or, both_ways, false_from_ne_true, not-false}

@@ -1,4 +1,4 @@
--- Hits stay on scopes that can be canceled, of the past, and as deadlines want them.
+-- Only scopes that can be canceled have hits, which are in the past and agree with the deadlines.
 use Rattle.run_model.proofs.Common.{◌≡◌, ◌≤◌, ℕ, Bool, true, false, List, Option, Some, None}
 use Rattle.run_model.proofs.Common.{slice_get, inl, inr, refl, sym, ap, ◌∙◌, arith, option_map_or}
 use Rattle.run_model.proofs.Common.{option_and_then, option_or, is_some, nat_le, IsSome}
@@ -21,7 +21,7 @@ pub record IsRightHit (n clock : ℕ) (of : Kind) (hit : Hit) : Type 0 where
   pub moment : hit.moment ≤ clock
   pub deadline : hit.reason ≡ DeadlineExceeded → own_deadline of ≡ Some hit.moment
 
--- What the rules on hits and deadlines say of one row.
+-- The rules about hits and deadlines, for one row.
 pub record IsRightScope (n clock : ℕ) (row : Scope) : Type 0 where
   pub hit : (hit : Hit) → row.hit ≡ Some hit → IsRightHit n clock row.kind hit
   pub come : (moment : ℕ) → own_deadline row.kind ≡ Some moment → moment ≤ clock → IsSome row.hit

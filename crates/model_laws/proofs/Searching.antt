@@ -1,4 +1,4 @@
--- The least number that passes a test, and the least ready task.
+-- The lowest number that passes a test, and the ready task with the lowest number.
 use Rattle.run_model.proofs.Common.{◌≡◌, ◌<◌, ◌≤◌, ◌+◌, ℕ, zero, suc, Bool, true, false, ◌&&◌}
 use Rattle.run_model.proofs.Common.{length, Option, Some, None, find, cond, inl, inr, refl, sym}
 use Rattle.run_model.proofs.Common.{ap, subst, ◌∙◌, arith, range_with_len, none-some, same_Some}

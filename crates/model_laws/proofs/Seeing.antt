@@ -1,4 +1,4 @@
--- What a question says of a row.
+-- The answers to questions about a row.
 use Rattle.run_model.proofs.Common.{◌≡◌, ℕ, Some, slice_get, refl, option_map, State, is_admitted}
 use Rattle.run_model.proofs.Common.{phase_by, group_look_of, task_look_of}
 use Rattle.run_model.specs.declared.scopes.Scope.{Scope}

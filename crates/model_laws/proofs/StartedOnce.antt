@@ -1,4 +1,4 @@
--- A task that was started is not started again.
+-- A task that was started isn't started again.
 use Rattle.run_model.proofs.Common.{◌≡◌, ℕ, true, false, List, [], ◌∷◌, ◌++◌, Option, Some, None}
 use Rattle.run_model.proofs.Common.{slice_get, refl, sym, ap, subst, ◌∙◌, ◌&&◌, option_map}
 use Rattle.run_model.proofs.Common.{option_map_or, and_parts, both_ways, false_from_ne_true}
@@ -55,7 +55,7 @@ anew : (w : WorkState) (k n : ℕ) (o : Option Task) → Begun w.tasks n
 anew w k n None has = has
 anew w k n (Some old) has = pushed w.tasks (retried_row k old) n has
 
--- An event leaves a task that was started so.
+-- A task that was started still is after any event.
 pub begun_by : (p : State) (event : Event) (n : ℕ) → Begun p.work.tasks n
     → Begun (step p event).work.tasks n
 begun_by p (event.Derive name parent kind) n has = has
@@ -79,7 +79,7 @@ begun_by p event.Restart n has = (
   restarted_stage has.0.stage has.2,
 )
 
--- So do many.
+-- The same after any run.
 pub still : (events : List Event) (p q : State) (n : ℕ) → Begun p.work.tasks n
     → run p events ≡ Some q → Begun q.work.tasks n
 still [] p q n has led = subst (λ r. Begun r.work.tasks n) (same_Some p q led) has
@@ -100,7 +100,7 @@ startable p n may =
     (slice_get p.work.tasks n) ready in
     (row.0, row.1, (and_parts (is_fresh row.0.stage) (is_admitted p.work n row.0) row.2).0)
 
--- After its start it was started.
+-- After its start, the task was started.
 pub starts : (p : State) (n : ℕ) → allowed p (event.Start n) ≡ true
     → Begun (step p (event.Start n)).work.tasks n
 starts p n may =
@@ -121,7 +121,7 @@ never_again q n then =
     then.2
     (ap (λ r. is_fresh r.stage) (same_Some then.0 twice.0 (sym then.1 ∙ twice.1)) ∙ twice.2))
 
--- Once started, a task is not started again.
+-- A task that was once started isn't started again.
 pub started_once : (p q : State) (n : ℕ) (events : List Event) → allowed p (event.Start n) ≡ true
     → run (step p (event.Start n)) events ≡ Some q → allowed q (event.Start n) ≡ false
 started_once p q n events may led =

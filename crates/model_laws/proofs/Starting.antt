@@ -1,4 +1,4 @@
--- The state of a store that was formatted: root alone.
+-- The state of a store that was formatted: only root.
 use Rattle.run_model.proofs.Common.{◌≡◌, ◌≤◌, ℕ, [], inl, inr, refl, sym, ap, ◌∙◌, arith}
 use Rattle.run_model.proofs.Common.{both_ways, none-some, most_scopes, root, IsConsistent, HasRow}
 use Rattle.run_model.proofs.Common.{is_root, own_deadline, is_group_kind, formatted, new_tree}

@@ -1,4 +1,4 @@
--- What a start and a finish lead to.
+-- The results of a start and a finish.
 use Rattle.run_model.proofs.Common.{◌≡◌, ◌==◌, ℕ, true, false, length, Option, Some, None, Ok, sym}
 use Rattle.run_model.proofs.Common.{ap, ◌∙◌, eqb-true, lt-ltb, unwrap_or, option_map_or, ok_or}
 use Rattle.run_model.proofs.Common.{not-false, Event, State, first_ready, is_running, has_stage}
@@ -35,7 +35,7 @@ first_ready_from p n may =
 abbrev pub start_of : State → Event
 start_of p = event.Start (unwrap_or (first_ready p.work) (length p.work.tasks))
 
--- What is decided of it is of the first ready task.
+-- A start is decided as that of the first ready task.
 pub start_first : (p : State) (log : ℕ) (o : Option Event) → decide_start p log ≡ Ok o
     → (n : ℕ) × (first_ready p.work ≡ Some n) × (if_room p log (event.Start n) ≡ Ok o)
 start_first p log o e =

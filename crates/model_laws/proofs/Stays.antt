@@ -116,7 +116,7 @@ endings_same rows s hit done = done
 pub endings_join : (a b c : List Scope) → EndingsStay a b → EndingsStay b c → EndingsStay a c
 endings_join a b c first second s hit done = second s hit (first s hit done)
 
--- Whatever event e leaves of the rows, where each hit is of an earlier one.
+-- The rows after event e, if each earlier hit is of an earlier event.
 pub endings_follow : (e now : ℕ) (old new : List Scope) → AreOrdered old → AreEarlier old e
     → RowsFollow e now old new → EndingsStay old new
 endings_follow e now old new ordered earlier follows s =

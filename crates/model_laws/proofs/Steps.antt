@@ -1,4 +1,4 @@
--- What each event leaves of the tree follows from what was there.
+-- The tree after each event follows from the tree before it.
 use Rattle.run_model.proofs.Common.{◌≡◌, ◌<◌, ℕ, Bool, true, ◌&&◌, List, [], ◌∷◌, length, Option}
 use Rattle.run_model.proofs.Common.{Some, None, not, arith, option_map_or, and_parts, leb-false}
 use Rattle.run_model.proofs.Common.{ltb-true, Event, State, TreeState, WorkState, running_tasks}

@@ -74,7 +74,7 @@ submitted p g job argument is room kept =
     (links_pushed p.work (new_task g job argument None) (λ m link. absurd (none-some m link))
     (λ m link. absurd (none-some m link)) kept.links) kept
 
--- What a retry of a task that is there leaves.
+-- The effect of a retry of an existing task.
 pub retry_found : (w : WorkState) (n : ℕ) (row : Task) → HasRow w.tasks n row
     → after_retry n w
     ≡ record w { tasks = w.tasks ++ retried_row n row ∷ [] }

@@ -1,4 +1,4 @@
--- What is waited for and what is started is seen.
+-- A group that was waited for, and a task that was started, are shown as such.
 use Rattle.run_model.proofs.Common.{◌≡◌, ◌+◌, ℕ, Bool, true, false, List, Option, Some, None}
 use Rattle.run_model.proofs.Common.{Result, Ok, Err, slice_get, refl, sym, ap, subst, ◌∙◌}
 use Rattle.run_model.proofs.Common.{option_map, option_and_then, ok_or, none-some, same_Some}
@@ -103,7 +103,7 @@ accepted_start : (r : Result Started Refusal) (started : Started)
 accepted_start (Ok x) started e = cc
 accepted_start (Err why) started e = cc
 
--- What is answered, and the task that it is read off.
+-- The answer, and the task whose row it shows.
 pub record Begins (p : State) (started : Started) (n : ℕ) : Type 0 where
   pub row : Task
   pub found : slice_get p.work.tasks n ≡ Some row
@@ -119,7 +119,7 @@ begins p started n first e =
     let row = told_row p n (slice_get p.work.tasks n) started told in
     record { row = row.0; found = row.1; told = row.2 }
 
--- The first ready task is started, and the answer is read off its row.
+-- The first ready task is started, and the answer shows its row.
 pub record Starts (s : Session) (started : Started) (q : State) : Type 0 where
   pub task : ℕ
   pub begun : Begins s.state started task

@@ -1,4 +1,4 @@
--- An image has one version and one state, and its bytes are few.
+-- An image has one version and one state, and a limited number of bytes.
 use Rattle.run_model.proofs.Common.{◌≡◌, ℕ, List, [], ◌∷◌, ◌++◌, drop, Option, Some}
 use Rattle.run_model.proofs.Common.{sym, ap, ◌∙◌, append_assoc, flat_map, same_Some}
 use Rattle.run_model.proofs.Common.{append-nil, root, State}

@@ -1,4 +1,4 @@
--- Rows that are tested as they come.
+-- Rows that are tested one by one.
 use Rattle.run_model.proofs.Common.{◌≡◌, ℕ, zero, suc, ◌+◌, cond, Bool, true, false, List, [], ◌∷◌}
 use Rattle.run_model.proofs.Common.{◌++◌, length, take, Option, Some, None, slice_get, refl, sym}
 use Rattle.run_model.proofs.Common.{ap, ◌∙◌, subst, arith, append_assoc, IsTrue, flat_map}

@@ -1,11 +1,11 @@
--- A way to read a value off the front of some bytes, and the way to write it that undoes it.
+-- A reader of a value from the beginning of some bytes, and the writer that is its inverse.
 use Rattle.run_model.proofs.Common.{◌≡◌, ℕ, ◌&&◌, cond, Bool, true, false, List, ◌++◌, Option}
 use Rattle.run_model.proofs.Common.{Some, None, refl, sym, ap, ◌∙◌, subst, append_assoc}
 use Rattle.run_model.proofs.Common.{option_map, IsTrue, same_Some, none-some}
 use Rattle.std.specs.Prelude.{IfSome}
 use Rattle.row_view.specs.Fields.{Reader, ◌>>=◌, one, two, three}
 
--- What is read off the front is a spelling of a value that passes the test.
+-- Whatever is read is the spelling of a value that passes the test.
 pub record Takes
     {A : Type 0} (write : A → List ℕ) (test : A → Bool) (bytes : List ℕ) (x : A × List ℕ)
     : Type 0 where
@@ -25,7 +25,7 @@ pub record Codec
   pub takes : (bytes : List ℕ) (x : A × List ℕ) → read bytes ≡ Some x → Takes write test bytes x
   pub again : (a : A) (rest : List ℕ) → IsTrue (test a) → read (write a ++ rest) ≡ Some (a, rest)
 
--- What was read, if anything was, passes the test.
+-- A value that was read passes the test.
 pub read_passes :
     {A X : Type 0} {read : Reader A} {write : A → List ℕ} {test : A → Bool}
     (codec : Codec read write test) (bytes : List ℕ) (shown : X → A × List ℕ) (found : Option X) →
@@ -35,20 +35,20 @@ read_passes codec bytes shown (Some x) e = (codec.takes bytes (shown x) (sym e))
 
 -- ---- options and tests
 
--- A chain that gave something went through each of its parts.
+-- A chain of readers that returned a value went through each of them.
 pub through :
     {A B : Type 0} (m : Option A) (f : A → Option B) (y : B) → (m >>= f) ≡ Some y →
     (x : A) × (m ≡ Some x) × (f x ≡ Some y)
 through (Some x) f y e = (x, refl, e)
 through None f y e = absurd (none-some y e)
 
--- The other way round than `cond_some`.
+-- The converse of `cond_some`.
 pub some_else :
     {A : Type 0} (b : Bool) (x y : A) → cond b None (Some x) ≡ Some y → (b ≡ false) × (x ≡ y)
 some_else true x y e = absurd (none-some y e)
 some_else false x y e = (refl, same_Some x y e)
 
--- What a choice gave came from one of the two.
+-- The result of a choice came from one of the two.
 pub chosen :
     {X G : Type 0} (b : Bool) (x y z : X) →
     (b ≡ true → x ≡ z → G) → (b ≡ false → y ≡ z → G) → cond b x y ≡ z → G

@@ -1,4 +1,4 @@
--- Each field is read exactly where it is spelled.
+-- Each field is read exactly if the bytes begin with it.
 use Rattle.run_model.proofs.Common.{◌^◌, length-append, ◌≡◌, ℕ, ◌<◌, ◌≤◌, ◌==◌, nat_lt, cond, Bool}
 use Rattle.run_model.proofs.Common.{true, false, List, [], ◌∷◌, ◌++◌, length, take, drop, Option}
 use Rattle.run_model.proofs.Common.{Some, None, refl, sym, ap, ◌∙◌, subst, arith, IsTrue, w16, w64}
@@ -19,7 +19,7 @@ use Rattle.row_view.proofs.NumberLaws.{number_read}
 
 -- ---- numbers
 
--- A number that was read is spelled at the front.
+-- The bytes begin with the spelling of a number that was read.
 pub number_spelled :
     (w : Width) (bytes : List ℕ) (x : ℕ × List ℕ) → number_at w bytes ≡ Some x →
     (bytes ≡ to_be_bytes w x.0 ++ x.1) × (x.0 ≡ from_be_bytes w (to_be_bytes w x.0))

@@ -1,4 +1,4 @@
--- An image has no more bytes than the greatest of its version and layout.
+-- An image has no more bytes than the greatest one of its version and layout.
 use Rattle.run_model.proofs.Common.{◌≡◌, ℕ, suc, true, ◌+◌, ◌*◌, ◌-◌, ◌≤◌, List, [], ◌∷◌, ◌++◌}
 use Rattle.run_model.proofs.Common.{length, drop, Some, slice_get, refl, ap, ◌∙◌, subst, arith}
 use Rattle.run_model.proofs.Common.{length-append, length-drop, IsTrue, is_some, flat_map}

@@ -1,4 +1,4 @@
--- Bytes put one after the other are put at once.
+-- Writing bytes one after another is writing them at once.
 use Rattle.std.proofs.Common.{◌≡◌, ℕ, ◌+◌, ◌≤◌, List, [], ◌++◌, length, take, drop, sym, ap, ◌∙◌}
 use Rattle.std.proofs.Common.{arith, append-nil, append_assoc, length-append}
 use Rattle.std.proofs.lemmas.List.{length-take-le, drop-drop, take-append-drop}

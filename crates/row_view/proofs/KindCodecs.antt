@@ -1,4 +1,4 @@
--- Kinds are read exactly where they are spelled.
+-- Kinds are read exactly if the bytes begin with them.
 use Rattle.run_model.proofs.Common.{◌≡◌, ℕ, ◌==◌, true, List, [], ◌∷◌, ◌++◌, Some, refl, ap}
 use Rattle.run_model.proofs.Common.{IsTrue, same_Some, none-some, is_recorded_kind}
 use Rattle.run_model.proofs.Common.{is_name, is_text, kind_bytes, and_from}

@@ -1,4 +1,4 @@
--- Tests of truth, rows before a place, and links that are tested as they come.
+-- Tests that return truth values, rows before a place, and links that are tested one by one.
 use Rattle.run_model.proofs.Common.{◌≡◌, ℕ, zero, suc, ◌<◌, ◌==◌, ◌&&◌, ◌||◌, not, Bool, true}
 use Rattle.run_model.proofs.Common.{false, List, [], ◌∷◌, take, Option, Some, None, slice_get}
 use Rattle.run_model.proofs.Common.{refl, sym, ap, ◌∙◌, arith, ◌↔◌, list_any, option_map_or}
@@ -69,7 +69,7 @@ some_at {X = X} test (r ∷ rows) any = by_first (test r) refl (λ e. some_at te
 
 -- ---- links
 
--- What a link test asks: it names a row before, which can be retried, and no row before names it.
+-- The test of a link: it names an earlier row that can be retried, and no earlier row names it.
 pub record IsLinkRight (before : List Task) (row : Task) (m : ℕ) : Type 0 where
   pub old : Task
   pub found : slice_get before m ≡ Some old

@@ -1,4 +1,4 @@
--- Numbers: what is read is what was written.
+-- Numbers are read back as they were written.
 use Rattle.run_model.proofs.Common.{◌≡◌, ℕ, ◌<◌, ◌≤◌, List, length, get_or, take, drop, Some}
 use Rattle.run_model.proofs.Common.{arith, inl, inr, cases_lt, get_or-take, get_or_past}
 use Rattle.run_model.proofs.Common.{length-take-le, length-take, bytes_eq-Decides, w64}
@@ -19,7 +19,7 @@ module _ (n : ℕ) (bytes : List ℕ) (small : (i : ℕ) → get_or bytes i 0 < 
   below_256 : (i : ℕ) → get_or (take n bytes) i 0 < 256
   below_256 i = elim (cases_lt i n) [ inl before ↦ within i before | inr behind ↦ past i behind ]
 
--- The number whose bytes are those at the front is read.
+-- The number whose bytes come first is read.
 pub number_read :
     (w : Width) (bytes front : List ℕ) (n : ℕ) → front ≡ take (byte_len w) bytes →
     n ≡ from_be_bytes w front → to_be_bytes w n ≡ front →

@@ -1,4 +1,4 @@
--- What readers of several forms unfold, by one name each.
+-- The definitions that readers with several forms unfold, under one name each.
 
 use Rattle.std.specs.Prelude.{⊤}
 use Rattle.row_view.specs.RowReading.{hit_at, hit_by, hit_fields_at}

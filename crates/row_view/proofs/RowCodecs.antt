@@ -1,4 +1,4 @@
--- Rows of groups and tasks, and heads, are read exactly where they are spelled.
+-- Rows of groups and tasks, and heads, are read exactly if the bytes begin with them.
 use Rattle.run_model.proofs.Common.{◌≡◌, ℕ, zero, suc, ◌<◌, ◌==◌, ◌^◌, nat_lt, cond, Bool, true}
 use Rattle.run_model.proofs.Common.{false, List, [], ◌∷◌, ◌++◌, ◌+◌, ◌≤◌, length, Option, Some}
 use Rattle.run_model.proofs.Common.{None, refl, ap, ◌∙◌, subst, arith, append_assoc, IsTrue}

@@ -1,4 +1,4 @@
--- The fields of rows are read exactly where they are spelled.
+-- The fields of rows are read exactly if the bytes begin with them.
 use Rattle.run_model.proofs.Common.{◌≡◌, ℕ, ◌<◌, ◌==◌, ◌^◌, Bool, true, List, [], ◌∷◌, ◌++◌}
 use Rattle.run_model.proofs.Common.{Option, Some, None, refl, sym, ap, arith, IsTrue, nat_lt, w64}
 use Rattle.run_model.proofs.Common.{to_be_bytes, same_Some, none-some, ltb-true, lt-ltb}

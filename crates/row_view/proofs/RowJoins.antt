@@ -1,4 +1,4 @@
--- Rows that were put field by field.
+-- Rows that were written field by field.
 use Rattle.std.proofs.Common.{◌≡◌, ℕ, ◌+◌, ◌≤◌, List, ◌++◌, length, ◌∙◌, ap, arith, length-append}
 use Rattle.row_view.specs.Writing.{put_at}
 use Rattle.row_view.proofs.Joins.{put_then, put_three}

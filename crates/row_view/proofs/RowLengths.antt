@@ -1,4 +1,4 @@
--- How many bytes a row has at most.
+-- The greatest number of bytes in a row.
 use Rattle.run_model.proofs.Common.{◌≡◌, ℕ, ◌+◌, ◌≤◌, Bool, true, false, length, Option, Some}
 use Rattle.run_model.proofs.Common.{None, refl, arith, IsTrue, can_be_hit, is_moment, text_bytes}
 use Rattle.run_model.proofs.Common.{optional_bytes, kind_bytes, to_be_bytes, w16, w64}

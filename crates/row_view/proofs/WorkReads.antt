@@ -1,4 +1,4 @@
--- The work that is read is the one whose rows the bytes begin with.
+-- The work that is read is the one with whose rows the bytes begin.
 use Rattle.run_model.proofs.Common.{◌≡◌, ℕ, zero, suc, ◌<◌, ◌≤◌, ◌&&◌, nat_le, true, List, [], ◌∷◌}
 use Rattle.run_model.proofs.Common.{◌++◌, length, take, Option, Some, None, slice_get, inl, inr}
 use Rattle.run_model.proofs.Common.{refl, sym, ap, ◌∙◌, subst, arith, IsTrue, is_some, flat_map}
@@ -269,14 +269,14 @@ work_takes layout head bytes w rest e =
           (t.spelled ∙ ap (λ l. flat_map (task_bytes version) l ++ tasks.0.1) (sym t.all));
     })
 
--- Where nothing is read, the bytes begin with the rows of no work.
+-- If nothing is read, the bytes begin with the rows of no work.
 pub no_work_stands : (layout : Layout) (head : ImageHead) (bytes : List ℕ)
     → work_at layout head bytes ≡ None → (w : WorkState) (rest : List ℕ)
     → AreWorkRows layout head bytes w rest → ⊥
 no_work_stands layout head bytes none w rest are =
     none-some (w, rest) (sym none ∙ work_again layout head bytes w rest are)
 
--- Where they begin with the rows of no work, nothing is read.
+-- If they begin with the rows of no work, nothing is read.
 pub nothing_read : (layout : Layout) (head : ImageHead) (bytes : List ℕ)
     → ((w : WorkState) (rest : List ℕ) → AreWorkRows layout head bytes w rest → ⊥)
     → work_at layout head bytes ≡ None

@@ -1,4 +1,4 @@
--- What a crash after some calls leaves is not changed by later calls.
+-- Later calls don't change what a crash after earlier calls leaves.
 use Rattle.std.proofs.Common.{◌≤◌, ◌↔◌, ℕ, List, sym, ◌∙◌}
 use Rattle.run_disk.specs.Writes.{Write, History, and_write, and_sync}
 use Rattle.run_disk.specs.History.{IsImage}

@@ -1,4 +1,4 @@
--- What a disk in memory reads, and what each call does to it.
+-- The reads of a disk in memory, and the effect of each call on it.
 use Rattle.std.proofs.Common.{◌≡◌, ◌⊎◌, ◌<◌, ◌≤◌, ◌+◌, ◌-◌, ℕ, false, List, [], ◌∷◌, ◌++◌, Ok}
 use Rattle.std.proofs.Common.{Err, length, get_or, take, drop, refl, sym, ◌∙◌, ap, subst, inl}
 use Rattle.std.proofs.Common.{inr, arith, nat_le, unwrap_or, ◌^◌, Result, OnOk, OnErr}
@@ -26,7 +26,7 @@ use Rattle.run_disk.proofs.MomentLemmas.{is_unsynced-quiet, byte_after-later_wri
 use Rattle.run_disk.proofs.MomentLemmas.{is_unsynced-later_write, byte_after-later_sync}
 use Rattle.run_disk.proofs.MomentLemmas.{is_unsynced-later_sync, is_unsynced-synced}
 
--- what reads give has the disk's size, and at each place the byte of that place
+-- what reads return has the disk's size, and at each place the byte of that place
 pub now_size : (h : History) (k : ℕ) → length (bytes_after h k) ≡ length h.first
 now_size h k = length-map-range_with_len (byte_after Take h k) 0 (length h.first)
 
@@ -36,7 +36,7 @@ now_byte h k i below =
     get_or-map-range_with_len (byte_after Take h k) 0 (length h.first) i i 0 below
     (omega arith)
 
--- bytes with these places are what reads give
+-- bytes with these places are what reads return
 pub are_now : (h : History) (k : ℕ) (x : List ℕ) → length x ≡ length h.first
     → ((i : ℕ) → i < length h.first → get_or x i 0 ≡ byte_after Take h k i) → x ≡ bytes_after h k
 are_now h k x size bytes =

@@ -1,4 +1,4 @@
--- What a later call changes of what a crash after an earlier one leaves: nothing.
+-- A later call doesn't change what a crash after an earlier one leaves.
 use Rattle.run_model.proofs.Common.{◌≡◌, ◌<◌, ◌≤◌, ◌+◌, ℕ, Bool, true, false, not, ◌&&◌, ◌||◌}
 use Rattle.run_model.proofs.Common.{List, [], ◌∷◌, None, ◌++◌, get_or, slice_index_or, refl, sym}
 use Rattle.run_model.proofs.Common.{◌∙◌, ap, inl, inr, arith, nat_le, nat_lt, unwrap_or, list_any}

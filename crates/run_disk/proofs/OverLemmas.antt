@@ -1,9 +1,9 @@
--- What a disk over another shows.
+-- A disk over another one shows the same.
 use Rattle.std.proofs.Common.{ℕ, refl}
 use Rattle.run_disk.specs.Disk.{DiskState}
 use Rattle.run_disk.specs.Over.{Gap, ShowsSame, over}
 
--- It shows what the disk below does.
+-- It shows the same as the disk below.
 pub shows_below : (gap : Gap) (first : ℕ) (below : DiskState) (calls failed : ℕ)
     → ShowsSame (over gap first below calls failed) below
 shows_below gap first below calls failed = record {

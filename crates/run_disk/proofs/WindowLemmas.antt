@@ -1,4 +1,4 @@
--- A window of a disk: what a crash leaves there, and what reads give there.
+-- A window of a disk: what a crash leaves there, and what reads return there.
 use Rattle.run_model.proofs.Common.{◌≡◌, ◌<◌, ◌≤◌, ◌+◌, ◌-◌, ℕ, List, length, get_or, take, drop}
 use Rattle.run_model.proofs.Common.{◌++◌, sym, ◌∙◌, ap, inl, inr, arith, unwrap_or}
 use Rattle.run_model.proofs.Common.{cases_lt}

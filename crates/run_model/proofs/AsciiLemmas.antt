@@ -25,7 +25,7 @@ text_below b h = grind (arith, nat_tests, common_steps)
 name_below : (b : ℕ) → is_name_byte b ≡ true → b < 128
 name_below b h = grind (arith, nat_tests, common_steps)
 
--- Bytes of which each is a text byte are ASCII.
+-- Bytes, each of which is a text byte, are ASCII.
 pub text_bytes_are_ascii : (bytes : List ℕ) → list_all is_text_byte bytes ≡ true → IsAscii bytes
 text_bytes_are_ascii bytes h = IsAscii-from_all bytes (all_below is_text_byte text_below bytes h)
 
@@ -41,7 +41,7 @@ name_is_ascii bytes h =
     let all : list_all is_name_byte bytes ≡ true = grind (arith, common_steps) in
     IsAscii-from_all bytes (all_below is_name_byte name_below bytes all)
 
--- A reading that fails where bytes are no UTF-8 alone doesn't fail of ASCII.
+-- A reader that fails only if bytes aren't UTF-8 doesn't fail for ASCII.
 pub ascii_is_read : {X E : Type 0} (P : X → Type 0) (Q : E → Type 0) (bytes : List ℕ)
     (r : Result X E) → MatchResult r P (λ e. ¬ (IsUtf8 bytes) × Q e) → IsAscii bytes → IsOk r
 ascii_is_read P Q bytes (Ok text) told ascii = refl

@@ -1,4 +1,4 @@
--- The names that most proofs cite, passed on from one place. Declares nothing.
+-- The names that most proofs cite, re-exported from one place. This file declares nothing.
 pub use Rattle.std.proofs.Common.{Bool, Err, Greater, Less, List, None, Ok, Option, Result, Some}
 pub use Rattle.std.proofs.Common.{[], add-one, ap, append-nil, append_assoc, arith, cond, drop}
 pub use Rattle.std.proofs.Common.{false, fold, get_or, inl, inr, le_trans, length, length-append}

@@ -1,4 +1,4 @@
--- Names that are distinct, and searches that find none.
+-- Distinct names, and searches that find no name.
 use Rattle.std.proofs.Common.{◌≡◌, ◌<◌, ◌≤◌, ℕ, Bool, true, false, List, [], ◌∷◌, ◌++◌, length}
 use Rattle.std.proofs.Common.{get_or, Some, None, slice_get, inl, inr, refl, sym, ap, ◌∙◌, arith}
 use Rattle.std.specs.List.{position_or_len}
@@ -10,7 +10,7 @@ use Rattle.std.proofs.lemmas.Option.{get_or_from_slice_get, slice_get_within, sl
 use Rattle.std.proofs.lemmas.Slice.Eq.{bytes_eq-Decides}
 use Rattle.run_model.proofs.RowLemmas.{push_cases}
 
--- A row that no row of its name comes before keeps names distinct.
+-- A row keeps names distinct if no row before it has its name.
 pub names_pushed : {X : Type 0} (name : X → List ℕ) (rows : List X) (new : X)
     → ((s t : ℕ) (a b : X) → slice_get rows s ≡ Some a → slice_get rows t ≡ Some b
     → name a ≡ name b → s ≡ t)
@@ -47,7 +47,7 @@ unfound test rows none s a found =
     ap test (sym (get_or_from_slice_get rows s a a found))
     ∙ fails_before_first test rows s a (omega (arith, past, less))
 
--- Where a search for a name finds none, no row has the name.
+-- If a search for a name finds none, no row has the name.
 pub name_is_free : {X : Type 0} (name : X → List ℕ) (new : List ℕ) (rows : List X)
     → is_none (position (λ row. bytes_eq new (name row)) rows) ≡ true
     → (s : ℕ) (a : X) → slice_get rows s ≡ Some a → name a ≡ new → ⊥
@@ -56,7 +56,7 @@ name_is_free name new rows none s a found same =
     (unfound (λ row. bytes_eq new (name row)) rows none s a found)
     ((bytes_eq-Decides new (name a)).1 (sym same))
 
--- Where no row passes, a search finds none. Some row is a default for places that there aren't.
+-- If no row passes, a search finds none. `d` stands for a row at places without one.
 pub unpassed : {X : Type 0} (d : X) (test : X → Bool) (rows : List X)
     → ((s : ℕ) (a : X) → slice_get rows s ≡ Some a → test a ≡ true → ⊥)
     → is_none (position test rows) ≡ true

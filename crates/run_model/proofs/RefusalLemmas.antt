@@ -1,4 +1,4 @@
--- What it says that no test of a list of refusals holds.
+-- The result if no test in a list of refusals holds.
 use Rattle.std.proofs.Common.{◌≡◌, Bool, true, false, not, ◌&&◌, if◌then◌else◌, List, [], ◌∷◌}
 use Rattle.std.proofs.Common.{Result, Ok, Err, refl, ap, ◌∙◌}
 use Rattle.std.proofs.lemmas.Bool.{and_from, and_parts, not-true, not_from_false}
@@ -25,12 +25,12 @@ none_holds [] passes = refl
 none_holds (t ∷ tests) passes =
     and_from _ _ (not_from_false t.0 passes.0) (none_holds tests passes.1)
 
--- Where the first test asks that something isn't so, it is so.
+-- If the first test asks that something isn't true, it is true.
 pub is_first : (b rest : Bool) → (not (not b) && rest) ≡ true → b ≡ true
 is_first true rest none = refl
 is_first false rest none = none
 
--- Where no test holds, the answer is what stands after them.
+-- If no test holds, the result is the one after the tests.
 pub unless_none : {X : Type 0} (tests : List (Bool × Refusal)) (answer : Result X Refusal)
     → list_all (λ t. not t.0) tests ≡ true → unless tests answer ≡ answer
 unless_none [] answer none = refl
@@ -44,7 +44,7 @@ one_passes : {X : Type 0} (holds : Bool) (why : Refusal) (rest : Result X Refusa
 one_passes true why rest x e = cc
 one_passes false why rest x e = (refl, e)
 
--- And only there it is an Ok.
+-- Only then it is an Ok.
 pub unless_Ok : {X : Type 0} (tests : List (Bool × Refusal)) (answer : Result X Refusal) (x : X)
     → unless tests answer ≡ Ok x → (list_all (λ t. not t.0) tests ≡ true) × (answer ≡ Ok x)
 unless_Ok [] answer x e = (refl, e)
@@ -53,7 +53,7 @@ unless_Ok (t ∷ tests) answer x e =
     let rest = unless_Ok tests answer x one.1 in
     (and_from _ _ (not_from_false t.0 one.0) rest.0, rest.1)
 
--- The tests by themselves, and then the answer.
+-- First the tests, and then the answer.
 pub unless_tested : {X : Type 0} (tests : List (Bool × Refusal)) (answer : Result X Refusal)
     → unless tests answer ≡ and_then (tested tests) (λ _. answer)
 unless_tested [] answer = refl

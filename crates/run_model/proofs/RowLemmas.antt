@@ -1,4 +1,4 @@
--- Rows that are changed at one place, pushed at the end, or changed all alike.
+-- Rows that are changed at one place, added at the end, or changed all in the same way.
 use Rattle.std.proofs.Common.{◌≡◌, ◌≢◌, ◌⊎◌, ◌<◌, ℕ, zero, suc, List, [], ◌∷◌, ◌++◌, length, map}
 use Rattle.std.proofs.Common.{Some, slice_get, inl, inr, refl, sym, ap, arith}
 use Rattle.std.proofs.lemmas.Option.{none-some, same_Some}
@@ -14,7 +14,7 @@ row_there (r ∷ rows) (suc n) less = row_there rows n (omega (arith, less))
 
 -- ---- at one place
 
--- The changed row, where there is one.
+-- The changed row, if there is one.
 pub slice_get-at_row_same : {X : Type 0} (change : X → X) (n : ℕ) (rows : List X)
     → slice_get (at_row change n rows) n ≡ option_map change (slice_get rows n)
 slice_get-at_row_same change n [] = refl
@@ -36,7 +36,7 @@ length-at_row change n [] = refl
 length-at_row change zero (row ∷ rows) = refl
 length-at_row change (suc n) (row ∷ rows) = ap suc (length-at_row change n rows)
 
--- What a function that the change leaves alone makes of the rows, it makes of the changed ones.
+-- A function of the rows that ignores the change has the same result for the changed rows.
 pub map-at_row : {X Y : Type 0} (f : X → Y) (change : X → X) (n : ℕ) (rows : List X)
     → ((row : X) → f (change row) ≡ f row) → map f (at_row change n rows) ≡ map f rows
 map-at_row f change n [] same = refl
@@ -44,7 +44,7 @@ map-at_row f change zero (row ∷ rows) same = ap (λ y. y ∷ map f rows) (same
 map-at_row f change (suc n) (row ∷ rows) same =
     ap (λ ys. f row ∷ ys) (map-at_row f change n rows same)
 
--- Where a row of the changed rows comes from.
+-- The origin of a row in the changed rows.
 pub record RowChanged
     {X : Type 0} (change : X → X) (n m : ℕ) (rows : List X) (row : X) : Type 0 where
   pub old : X
@@ -90,7 +90,7 @@ pub slice_get-push_last : {X : Type 0} (rows : List X) (row : X)
 slice_get-push_last [] row = refl
 slice_get-push_last (r ∷ rows) row = slice_get-push_last rows row
 
--- A row of pushed rows was there before, or is the new one.
+-- A row of the longer list was there before, or is the new one.
 pub push_cases : {X : Type 0} (rows : List X) (new : X) (m : ℕ) (row : X)
     → slice_get (rows ++ new ∷ []) m ≡ Some row
     → (slice_get rows m ≡ Some row) ⊎ ((m ≡ length rows) × (row ≡ new))
@@ -103,7 +103,7 @@ push_cases (r ∷ rows) new (suc m) row found =
 
 -- ---- all alike
 
--- Where a row of the mapped rows comes from.
+-- The origin of a row in the mapped rows.
 pub map_cases : {X Y : Type 0} (f : X → Y) (m : ℕ) (rows : List X) (row : Y)
     → slice_get (map f rows) m ≡ Some row
     → (old : X) × (slice_get rows m ≡ Some old) × (row ≡ f old)

@@ -1,5 +1,5 @@
--- A hit beside others of the same event: what ended a scope stays, as hits that are alike end it
--- alike.
+-- A hit next to equal ones of the same event: what ended a scope stays, since equal hits end it in
+-- the same way.
 use Rattle.run_model.proofs.Common.{◌≡◌, ◌⊎◌, ◌<◌, ℕ, Bool, true, false, cond, List, Option, Some}
 use Rattle.run_model.proofs.Common.{None, slice_get, Less, Greater, inl, inr, refl, sym, subst, ap}
 use Rattle.run_model.proofs.Common.{◌∙◌, arith, option_map, option_and_then, IfSome, option_or}
@@ -262,7 +262,7 @@ endings_stay_alike e clock s cause rows ordered past later =
     let hit = new_hit e clock Canceled cause in
     ending_stays hit s rows ordered (are_level e clock cause rows past later)
 
--- So the marks can go down from this hit.
+-- So the marks can spread down from this hit.
 pub struck_alike : (t : TreeState) (e s : ℕ) (cause : Option (List ℕ)) → AreOrdered t.scopes
     → ArePastHits t.clock t.scopes
     → AreEarlierOrAlike t.scopes e (unwrap_or cause (reason_text Canceled))

@@ -1,4 +1,4 @@
--- The test of both row lists tells whether the rules between them hold.
+-- The test of both lists of rows returns whether the rules between them hold.
 use Rattle.run_model.proofs.Common.{◌≡◌, ◌⊎◌, ℕ, ◌||◌, Bool, true, false, List, Option, Some, None}
 use Rattle.run_model.proofs.Common.{slice_get, inl, inr, refl, sym, ap, ◌∙◌, ◌↔◌, IsTrue, IsSome}
 use Rattle.run_model.proofs.Common.{is_some, list_any, option_map_or, eqb-true, eq-eqb, false≢true}

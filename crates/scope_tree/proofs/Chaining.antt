@@ -1,4 +1,4 @@
--- Chains that grow by a place.
+-- Chains to which a place is added.
 use Rattle.run_model.proofs.Common.{◌≡◌, ◌≢◌, ◌+◌, ◌<◌, ◌≤◌, ℕ, List, [], ◌∷◌, ◌++◌, length, Option}
 use Rattle.run_model.proofs.Common.{Some, None, slice_get, get_or, set, inl, inr, refl, sym, subst}
 use Rattle.run_model.proofs.Common.{ap, ◌∙◌, arith, length-append, length-set, get_or-set_same}
@@ -59,7 +59,7 @@ heads_fixed : (heads : List (Option ℕ)) (key : Option ℕ) (n : ℕ)
 heads_fixed heads None n = refl
 heads_fixed heads (Some k) n = length-set heads k (Some n)
 
--- The heads were lent, and are given back with a place hung.
+-- The heads were lent, and are returned after a place was added to its chain.
 pub heads_back : (heads lent new rest : List (Option ℕ)) (key : Option ℕ) (n n' len : ℕ)
     → lent ≡ heads → new ≡ hung lent key n' → n' ≡ n → len ≡ length heads
     → take len (new ++ rest) ≡ hung heads key n

@@ -25,7 +25,7 @@ earlier_than_next e now old new follows earlier s hit has =
       | inr of ↦ omega (arith, of.event)
     ]
 
--- So it is where hits of event e stand on groups' scopes already.
+-- The same if hits of event e are already on scopes of groups.
 pub alike_than_next : (e now : ℕ) (cause : List ℕ) (old new : List Scope)
     → RowsFollow e now old new → AreEarlierOrAlike old e cause → AreEarlier new (e + 1)
 alike_than_next e now cause old new follows later s hit has =
@@ -36,7 +36,7 @@ alike_than_next e now cause old new follows later s hit has =
       | inr of ↦ omega (arith, of.event)
     ]
 
--- One more hit on a group's scope, with this cause, is alike.
+-- One more hit on the scope of a group, with this cause, is equal to the others.
 pub alike_again : (t : TreeState) (e s : ℕ) (cause : Option (List ℕ))
     → has_kind is_group_kind t s ≡ true
     → AreEarlierOrAlike t.scopes e (unwrap_or cause (reason_text Canceled))
@@ -72,7 +72,7 @@ alike_again t e s cause group later n row hit found has =
         )
     by_own old here at (Some own) is came = later n old hit at (is ∙ came)
 
--- Where each hit is earlier, none is of event e.
+-- If each hit is earlier, none is of event e.
 pub earlier_is_alike : (rows : List Scope) (e : ℕ) (cause : List ℕ) → AreEarlier rows e
     → AreEarlierOrAlike rows e cause
 earlier_is_alike rows e cause earlier s row hit found has =

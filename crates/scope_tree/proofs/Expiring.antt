@@ -1,4 +1,4 @@
--- One advance: deadlines that pass, the soonest first, each after the hits before it.
+-- One advance: deadlines pass, the earliest first, and each hit comes after those before it.
 use Rattle.run_model.proofs.Common.{◌≡◌, ◌≢◌, ◌⊎◌, ◌+◌, ◌*◌, ◌<◌, ◌≤◌, ℕ, zero, suc, true, false}
 use Rattle.run_model.proofs.Common.{List, [], ◌∷◌, length, map, Option, Some, None, slice_get}
 use Rattle.run_model.proofs.Common.{unwrap_or, inl, inr, refl, sym, ap, ◌∙◌, subst, arith}
@@ -104,7 +104,7 @@ rows_again hit (suc n) (row ∷ rows) x own = ap (λ l. row ∷ l) (rows_again h
 
 -- ---- the deadlines that passed so far
 
--- Each row is as it was, or as the event leaves it.
+-- Each row is as it was, or as it is after the event.
 pub record Passing (start rows : List Scope) (links marks : List (Option ℕ)) (due : List ℕ)
     (event now : ℕ) : Type 0 where
   pub size : length rows ≡ length start
@@ -275,7 +275,7 @@ hit_stays e now row x own = by_due (hit_due e now row.kind)
     by_due None = refl
     by_due (Some h) = hit_again h row row.hit x refl own
 
--- Where no deadline that waits has come, each row is as the event leaves it.
+-- If no waiting deadline has come, each row is as it is after the event.
 pub all_passed : (start rows : List Scope) (links marks : List (Option ℕ)) (due : List ℕ)
     (event now : ℕ) → Passing start rows links marks due event now
     → ((n : ℕ) → Among n due → due_at event now rows n ≡ None) → rows ≡ map (tick event now) start

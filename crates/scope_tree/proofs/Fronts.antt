@@ -1,4 +1,4 @@
--- Lists that are changed at one place, or from the front on.
+-- Lists that are changed at one place, or from the beginning on.
 use Rattle.run_model.proofs.Common.{◌≡◌, ◌<◌, ℕ, zero, suc, List, [], ◌∷◌, ◌++◌, length, take}
 use Rattle.run_model.proofs.Common.{get_or, ap, ◌∙◌, arith, take-append_seam, at_row}
 use Rattle.std.proofs.Math.ListN.{set}

@@ -66,7 +66,7 @@ module _ (k k' : ℕ → ℕ) (len i c : ℕ) (below : IsParent i c) (swapped : 
         let d : k c ≤ k j = h.rest c j pair lt (λ f. omega arith) in omega arith;
   }
 
--- The first entry has the least key.
+-- The first entry has the lowest key.
 pub heap_least : (k : ℕ → ℕ) (len most j : ℕ) → j < most → IsHeap k len → j < len → k 0 ≤ k j
 heap_least k len zero j below h lt = absurd (omega arith)
 heap_least k len (suc most) zero below h lt = omega arith

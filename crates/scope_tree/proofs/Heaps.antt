@@ -73,7 +73,7 @@ pub known_at : (rows : List Scope) (xs : List ℕ) (i : ℕ) → AreKnown rows x
     → get_or xs i 0 < length rows
 known_at rows xs i known within = known (get_or xs i 0) (i, within, refl)
 
--- An entry that rises to its place.
+-- An entry that moves up to its place.
 pub record Rising (rows : List Scope) (old new : List ℕ) (i : ℕ) : Type 0 where
   pub inside : i < length new
   pub same : SameNumbers old new
@@ -102,7 +102,7 @@ rises rows old new next i p h above less is =
           }) h.inside less h.up);
     }
 
--- An entry that sinks to its place.
+-- An entry that moves down to its place.
 pub record Sinking (rows : List Scope) (old new : List ℕ) (i : ℕ) : Type 0 where
   pub inside : i < length new
   pub few : length new ≤ MOST_SCOPES

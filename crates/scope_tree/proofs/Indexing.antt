@@ -1,4 +1,4 @@
--- Rows that change, and what stands beside them.
+-- Rows that change, and their indexes.
 use Rattle.run_model.proofs.Common.{◌≡◌, ◌<◌, ◌≤◌, ℕ, false, List, [], ◌∷◌, ◌++◌, length, take}
 use Rattle.run_model.proofs.Common.{Option, inl, inr, refl, sym, subst, ap, ◌∙◌, arith}
 use Rattle.run_model.proofs.Common.{none-some, length-append, cases_eq, slice_get_within, at_row}
@@ -145,7 +145,7 @@ reached_hit hit s rows reaches ordered ordered' were = record {
       }
     ]
 
--- The rows and the marks are lent to change, and given back.
+-- The rows and the marks are lent to be changed, and returned.
 pub kept_lent : (of : Numbered) (rows : List Scope) (marks marks' : List (Option ℕ))
     (names links : Places) (due : List ℕ) (reaches : List Reach) (m u : ℕ)
     → IsIndexed of marks names links due reaches m u → rows ≡ of.rows → marks' ≡ marks
@@ -194,7 +194,7 @@ pub same_numbered : (capacity capacity' : ℕ) (rows rows' : List Scope) → cap
     → numbered capacity' rows' ≡ numbered capacity rows
 same_numbered capacity capacity' rows rows' a b = rw (a, b) refl
 
--- Rows that are lent, changed and given back are the changed ones.
+-- Rows that are lent, changed and returned are the changed rows.
 pub numbered_back : (change : List Scope → List Scope) (capacity : ℕ)
     (rows lent changed rest : List Scope) (len : ℕ) → lent ≡ rows → changed ≡ change lent
     → len ≡ length changed

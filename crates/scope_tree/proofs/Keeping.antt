@@ -1,4 +1,4 @@
--- What the changes keep of the rows: parents have lesser numbers, and hits are of the past.
+-- Facts that the changes of the rows keep: parents have lower numbers, and hits are in the past.
 use Rattle.run_model.proofs.Common.{◌≡◌, ◌≤◌, ℕ, zero, suc, true, false, nat_le, List, [], ◌∷◌}
 use Rattle.run_model.proofs.Common.{◌++◌, map, Option, Some, None, slice_get, inl, inr, refl, sym}
 use Rattle.run_model.proofs.Common.{subst, ap, ◌∙◌, arith, option_map, option_map_or, option_or}

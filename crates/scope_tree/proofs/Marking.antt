@@ -1,4 +1,4 @@
--- What a mark says of a first hit, and the mark that a row has from above.
+-- The first hit that a mark names, and the mark that a row has from above.
 use Rattle.run_model.proofs.Common.{◌≡◌, ◌<◌, ℕ, Bool, true, false, cond, List, length, Option}
 use Rattle.run_model.proofs.Common.{Some, None, slice_get, refl, option_map, IfSome}
 use Rattle.run_model.proofs.Common.{none-some, option_and_then_some, slice_get_within, is_root}
@@ -21,7 +21,7 @@ own_hit_within rows n hit own =
     option_and_then_some (λ row. row.hit) (slice_get rows n) hit own
     (λ row found has. slice_get_within rows n row found)
 
--- The mark of a scope that is done names the scope of the hit that ended it.
+-- The mark of a done scope names the scope whose hit ended it.
 pub marked_ending : (rows : List Scope) (marks : List (Option ℕ)) (s n : ℕ)
     → AreMarked rows marks → s < length rows → mark_of marks s ≡ Some n
     → ending rows s ≡ own_hit rows n

@@ -1,4 +1,4 @@
--- The scope of a name, along its chain.
+-- The scope with a name, found along its chain.
 use Rattle.run_model.proofs.Common.{◌≡◌, ◌≢◌, ◌<◌, ◌≤◌, ℕ, Bool, true, false, cond, List, [], ◌∷◌}
 use Rattle.run_model.proofs.Common.{◌++◌, length, map, Option, Some, None, slice_get, get_or, inl}
 use Rattle.run_model.proofs.Common.{inr, refl, sym, subst, ap, ◌∙◌, arith, nat_lt, is_none}

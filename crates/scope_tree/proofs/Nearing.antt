@@ -1,4 +1,4 @@
--- The reach of a scope, from its parent's, and what no change of the rows takes from it.
+-- The reach of a scope follows from its parent's, and no change of the rows changes it.
 use Rattle.run_model.proofs.Common.{◌≡◌, ◌<◌, ℕ, zero, suc, Bool, true, false, cond, List, length}
 use Rattle.run_model.proofs.Common.{Option, Some, None, slice_get, get_or, refl, sym, ap, ◌∙◌}
 use Rattle.run_model.proofs.Common.{arith, [], ◌∷◌, ◌++◌, inl, inr, false≢true}
@@ -17,7 +17,7 @@ use Rattle.scope_tree.proofs.Searching.{value_above}
 
 -- ---- other rows of the same kinds and parents
 
--- Each row is there again, with its kind and its parent.
+-- Each row is still there, with its kind and its parent.
 pub record Again (new : List Scope) (s : ℕ) (row : Scope) : Type 0 where
   pub to : Scope
   pub found : slice_get new s ≡ Some to
@@ -127,8 +127,8 @@ deadline_below rows s row up ordered found below is =
     (cond b None (deadline_of rows row.parent)))) below
     ∙ ap (λ o. cond (is_detached row.kind) None (earlier (own_deadline row.kind) o)) (sym is))
 
--- A scope below root has the sooner of its own deadline and its parent's, if it isn't detached, and
--- holds its values itself where it has one.
+-- A scope below root that isn't detached has the earlier of its own deadline and its parent's. It
+-- is its own holder if it holds a value.
 pub new_reach_is : (rows : List Scope) (s : ℕ) (row : Scope) (up reach : Reach)
     → AreOrdered rows → slice_get rows s ≡ Some row → is_root row.kind ≡ false
     → IsReach rows row.parent up
@@ -179,7 +179,7 @@ follows_again e now old new follows s row found =
     let it = follows.kept s row found in
     record { to = it.0; found = it.1; kind = it.2.kind; parent = it.2.parent }
 
--- The reach of a scope that is there.
+-- The reach of an existing scope.
 pub reach_at : (rows : List Scope) (reaches : List Reach) (s : ℕ) (reach : Reach)
     → AreReached rows reaches → s < length rows → reach ≡ get_or reaches s reach
     → IsReach rows s reach
@@ -187,7 +187,7 @@ reach_at rows reaches s reach reached known is =
     reached.right s reach
     (slice_get_read reaches (length reaches) s reach refl (omega (arith, reached.same, known)) is)
 
--- What an event makes of the rows takes nothing from the reaches.
+-- The change of the rows by an event leaves the reaches right.
 pub reached_follow : (e now : ℕ) (old new : List Scope) (reaches : List Reach)
     → RowsFollow e now old new → AreOrdered old → AreOrdered new → length new ≡ length old
     → AreReached old reaches → AreReached new reaches

@@ -1,16 +1,16 @@
--- What the tests of a derive answer, by what they find.
+-- The results of the tests of a derive.
 use Rattle.run_model.proofs.Common.{◌<◌, if◌then◌else◌, is_none, None, Ok, Err, Some, ◌≡◌, ℕ, Bool}
 use Rattle.run_model.proofs.Common.{true, false, not, List, [], ◌∷◌, length, Option, is_some, refl}
 use Rattle.run_model.proofs.Common.{lt-ltb, has_row, tested, TreeState, scope_named}
 use Rattle.run_model.specs.declared.refusals.Refusal.{Refusal}
 use Rattle.run_model.specs.declared.refusals.Refusal.TheVariants as refusal
 
--- the answer of one test
+-- the result of one test
 pub one_told : (holds is : Bool) (why : Refusal) → is ≡ holds
     → (if holds then Err why else Ok tt) ≡ tested ((is, why) ∷ [])
 one_told holds is why same = rw same refl
 
--- the answer of a name's test under a parent that is there
+-- the result of the test of a name, if the parent exists
 pub name_told : (t : TreeState) (name : List ℕ) (parent : ℕ) (taken : Bool)
     → parent < length t.scopes → is_some (scope_named t name) ≡ taken
     → (if taken then Err refusal.NameTaken else Ok tt)

@@ -1,4 +1,4 @@
--- A new tree: root alone.
+-- A new tree, which has only root.
 use Rattle.run_model.proofs.Common.{◌≡◌, ◌≤◌, ℕ, zero, suc, List, [], ◌∷◌, ◌++◌, Some, slice_get}
 use Rattle.run_model.proofs.Common.{refl, arith, none-some, same_Some, most_scopes, root}
 use Rattle.run_model.proofs.Common.{new_scope}
@@ -8,7 +8,7 @@ use Rattle.run_model.specs.declared.scopes.Scope.{Scope}
 use Rattle.run_model.specs.declared.scopes.Kind.TheVariants as kind
 use Rattle.scope_tree.proofs.Sounding.{AreSound, tree_of}
 
--- The rows where root was pushed after none.
+-- The rows after root was added to none.
 pub root_pushed : (old new : List Scope) (row : Scope) (name : List ℕ) → new ≡ old ++ row ∷ []
     → old ≡ [] → row ≡ new_scope name 0 kind.Root → name ≡ root.name → new ≡ root ∷ []
 root_pushed old new row name pushed none is called = rw (pushed, none, is, called) refl

@@ -1,4 +1,4 @@
--- What the types of fields say of a row, and what each change of a row keeps of it.
+-- Facts about a row that follow from the types of its fields, and that each change of a row keeps.
 use Rattle.run_model.proofs.Common.{◌≡◌, ℕ, true, false, Bool, List, [], ◌∷◌, ◌++◌, map, Option}
 use Rattle.run_model.proofs.Common.{Some, None, slice_get, inl, inr, refl, sym, subst}
 use Rattle.run_model.proofs.Common.{option_map_or, option_or, IsTrue, nat_le, unwrap_or}

@@ -1,4 +1,4 @@
--- Marks that go down from one scope.
+-- Marks that spread down from one scope.
 use Rattle.run_model.proofs.Common.{◌≡◌, ◌≢◌, ◌⊎◌, ℕ, zero, suc, ◌+◌, ◌<◌, ◌≤◌, Bool, true, cond}
 use Rattle.run_model.proofs.Common.{List, [], ◌∷◌, ◌++◌, length, Option, Some, None, set, inl, inr}
 use Rattle.run_model.proofs.Common.{refl, sym, ap, subst, ◌∙◌, arith, is_some, is_none, slice_get}
@@ -145,7 +145,7 @@ module _ (links : List (Option ℕ)) (old new : List (Option ℕ)) (at : ℕ) (w
             ap is_some (get_or-set_other new c t (Some at) None ne) ∙ h
       ]
 
--- A scope has no child left.
+-- No child of the scope is left.
 pub step_end : (links : List (Option ℕ)) (old new : List (Option ℕ)) (at : ℕ) (work : List ℕ)
     (s k : ℕ) → Spreading links old new at work s k → ((t : ℕ) → t < k → Child links t s → ⊥)
     → Spreading links old new at work 0 0
@@ -161,7 +161,7 @@ step_end links old new at work s k here gap = record {
   ];
 }
 
--- The last of the list is taken off, and its children are still to be marked.
+-- The last scope of the list is removed, and its children are still to be marked.
 pub step_pop : (links : List (Option ℕ)) (old new : List (Option ℕ)) (at : ℕ) (work : List ℕ)
     (s : ℕ) → Spreading links old new at (work ++ s ∷ []) 0 0
     → ((t p : ℕ) → Child links t p → t < length links) → Spreading links old new at work s
@@ -188,7 +188,7 @@ counts o = cond (is_none o) 1 0
 count_none : (o : Option ℕ) → o ≡ None → counts o ≡ suc zero
 count_none o h = rw h refl
 
--- A mark takes one off the count.
+-- Each mark lowers the count by one.
 pub one_less : (marks : List (Option ℕ)) (c n : ℕ) → c < length marks → mark_of marks c ≡ None
     → unmarked (set marks c (Some n)) + 1 ≡ unmarked marks
 one_less marks c n within none = omega (
@@ -200,7 +200,7 @@ one_less marks c n within none = omega (
 
 -- ---- the walk over the children of a scope
 
--- At a child, or after the last.
+-- The loop is at a child, or after the last one.
 pub record Walk (links : List (Option ℕ)) (marks marks' : List (Option ℕ)) (work work' : List ℕ)
     (s at : ℕ) (child : Option ℕ) : Type 0 where
   pub k : ℕ
@@ -274,7 +274,7 @@ walk_ends links marks marks' work work' s at walk before was h =
 
 -- ---- the work list
 
--- What holds between two turns.
+-- The facts between two rounds of the loop.
 pub record Turns (links : List (Option ℕ)) (marks marks' : List (Option ℕ)) (work : List ℕ)
     (at : ℕ) : Type 0 where
   pub spread : Spreading links marks marks' at work 0 0

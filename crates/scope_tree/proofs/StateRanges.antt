@@ -1,4 +1,4 @@
--- A state's fields are in range where its rows are typed and keep the rules, and the other way.
+-- The fields of a state are in range exactly if its rows are typed and keep the rules.
 use Rattle.run_model.proofs.Common.{◌≡◌, ◌≤◌, ℕ, zero, suc, ◌+◌, ◌-◌, ◌^◌, true, false, List, []}
 use Rattle.run_model.proofs.Common.{◌∷◌, length, drop, Option, Some, None, slice_get, refl, sym}
 use Rattle.run_model.proofs.Common.{◌∙◌, subst, arith, length-drop, AllByRecursion, IsTrue, nat_lt}

@@ -1,4 +1,4 @@
--- The marks, when one more scope has a hit and the marks have gone down from it.
+-- The marks after one more scope was hit and its mark has spread down.
 use Rattle.run_model.proofs.Common.{◌≡◌, ◌≢◌, ◌⊎◌, ℕ, zero, suc, ◌<◌, ◌≤◌, Bool, true, false, cond}
 use Rattle.run_model.proofs.Common.{List, ◌||◌, length, Option, Some, None, inl, inr, refl, sym}
 use Rattle.run_model.proofs.Common.{ap, subst, ◌∙◌, arith, is_some, slice_get, option_map}
@@ -294,7 +294,7 @@ module _ (rows : List Scope) (old new : List (Option ℕ)) (at : ℕ) (hit : Hit
         (omega (arith, known, length-at_row (with_hit hit) at rows));
   }
 
--- So what is kept beside the rows stays right.
+-- So the indexes of the rows stay right.
 pub kept_struck : (rows : List Scope) (old new links : List (Option ℕ)) (at : ℕ) (hit : Hit)
     → AreKept rows old links → Struck rows at hit → IsSpread links old new at
     → AreKept (at_row (with_hit hit) at rows) new links
@@ -306,7 +306,7 @@ kept_struck rows old new links at hit were struck spread = record {
   linked = were.linked ∙ sym (map-at_row link_of (with_hit hit) at rows (λ row. refl));
 }
 
--- Where the scope was marked before, no mark goes down.
+-- If the scope was marked before, no mark spreads down.
 pub no_spread : (links marks : List (Option ℕ)) (at : ℕ) → is_some (mark_of marks at) ≡ true
     → IsSpread links marks marks at
 no_spread links marks at here = record {

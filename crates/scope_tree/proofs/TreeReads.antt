@@ -160,7 +160,7 @@ tree_takes layout head bytes t rest e =
       spelled = subst (λ r. bytes ≡ flat_map scope_bytes r ++ rows.0.1) behind are.spelled;
     })
 
--- What is read is a sound tree.
+-- The tree that is read is sound.
 pub tree_sound : (layout : Layout) (head : ImageHead) (bytes : List ℕ) (t : TreeState)
     (rest : List ℕ) → tree_at layout head bytes ≡ Some (t, rest) → AreSound t
 tree_sound layout head bytes t rest e =

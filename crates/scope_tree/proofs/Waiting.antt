@@ -1,4 +1,4 @@
--- Deadlines that wait, beside rows that change.
+-- Deadlines that haven't passed, while the rows change.
 use Rattle.run_model.proofs.Common.{◌≡◌, ◌⊎◌, ◌+◌, ◌*◌, ◌<◌, ◌≤◌, ℕ, suc, Bool, true, false, cond}
 use Rattle.run_model.proofs.Common.{nat_le, List, [], ◌∷◌, ◌++◌, length, Option, Some, None}
 use Rattle.run_model.proofs.Common.{slice_get, get_or, is_some, is_none, ◌&&◌, unwrap_or, inl, inr}
@@ -23,7 +23,7 @@ use Rattle.scope_tree.proofs.Heaps.{among_push}
 
 -- ---- a scope's deadline
 
--- Scope n has a deadline by itself.
+-- Scope n has a deadline of its own.
 pub record HasDeadline (rows : List Scope) (n : ℕ) : Type 0 where
   pub row : Scope
   pub moment : ℕ
@@ -98,7 +98,7 @@ undue e clock (kinds.Value key text) none = refl
 undue e clock kinds.Detached none = refl
 undue e clock kinds.Group none = refl
 
--- A kind whose deadline has come: its hit is of this event and at this moment.
+-- If the deadline of a kind has come, its hit is of this event, and at the moment of the deadline.
 pub record HasCome (e : ℕ) (kind : Kind) (hit : Hit) : Type 0 where
   pub own : own_deadline kind ≡ Some hit.moment
   pub event : hit.event ≡ e
@@ -119,7 +119,7 @@ has_come e clock kinds.Group hit due = absurd (none-some hit due)
 
 -- ---- none has come
 
--- Where the first hasn't come, none has.
+-- If the first deadline hasn't come, none has.
 pub none_due : (e clock : ℕ) (rows : List Scope) (due : List ℕ) → AreWaiting rows due
     → length rows ≤ MOST_SCOPES
     → (0 < length due → due_at e clock rows (get_or due 0 0) ≡ None)
@@ -190,7 +190,7 @@ deadline_hit hit s rows n = elim (cases_eq n s) [
     kept None = refl
     kept (Some row) = refl
 
--- Where an own hit of the changed rows comes from.
+-- The origin of a hit in the changed rows.
 pub own_cases : (hit : Hit) (s : ℕ) (rows : List Scope) (n : ℕ) (h : Hit)
     → own_hit (at_row (with_hit hit) s rows) n ≡ Some h
     → (own_hit rows n ≡ Some h) ⊎ ((n ≡ s) × (h ≡ hit) × (own_hit rows s ≡ None))

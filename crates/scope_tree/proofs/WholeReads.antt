@@ -1,4 +1,4 @@
--- An image is read whole by its parts, and what is read so is an image.
+-- An image is read part by part, and whatever is read that way is an image.
 use Rattle.run_model.proofs.Common.{◌≡◌, ◌<◌, ℕ, ◌==◌, ◌&&◌, List, [], ◌++◌, length, drop, Some}
 use Rattle.run_model.proofs.Common.{refl, sym, ap, ◌∙◌, subst, arith, append_assoc, length-drop}
 use Rattle.run_model.proofs.Common.{IsTrue, flat_map, eqb-true, append-nil, cond_some}

@@ -1,4 +1,4 @@
--- An end admits the oldest held task of its group, in the words of the phases.
+-- An end admits the oldest held task of its group, stated for phases.
 use Rattle.run_model.proofs.Common.{◌≡◌, ◌≢◌, ◌<◌, ◌&&◌, List, ℕ, Bool, true, false, cond, length}
 use Rattle.run_model.proofs.Common.{Option, Some, None, slice_get, refl, sym, ap, subst, ◌∙◌}
 use Rattle.run_model.proofs.Common.{arith, option_map, option_map_or, phase_by, group_of_task}

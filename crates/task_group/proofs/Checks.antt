@@ -1,4 +1,4 @@
--- What the tests of a change found of a group's row, and what two of them answer in a row.
+-- Facts about a group's row that the tests of a change found, and the result of two tests in a row.
 use Rattle.run_model.proofs.Common.{◌≡◌, ◌<◌, ◌≤◌, ◌==◌, ℕ, Bool, true, false, List, [], ◌∷◌}
 use Rattle.run_model.proofs.Common.{◌++◌, length, unfinished_in}
 use Rattle.run_model.proofs.Common.{if◌then◌else◌, Option, Some, None, Result, Ok, Err, refl, sym}

@@ -1,4 +1,4 @@
--- A task of any stage comes in, as it is read from an image.
+-- A task at any stage is added, as it is read from an image.
 use Rattle.run_model.proofs.Common.{◌≡◌, ◌+◌, ◌<◌, ◌≤◌, ◌++◌, ◌∷◌, [], ℕ, Bool, true, false, cond}
 use Rattle.run_model.proofs.Common.{List, length, Option, Some, None, inl, inr, slice_get, refl}
 use Rattle.run_model.proofs.Common.{sym, ap, subst, ◌∙◌, arith, ◌==◌, count_by, slice_set, IfSome}

@@ -1,4 +1,4 @@
--- The rows of tasks of which the first so many are those after a restart.
+-- The rows of tasks, the first of which are those after a restart.
 use Rattle.run_model.proofs.Common.{◌≡◌, ◌<◌, ◌≤◌, ◌+◌, ◌∷◌, [], ◌&&◌, ◌||◌, ℕ, zero, suc, cond}
 use Rattle.run_model.proofs.Common.{Bool, true, false, List, length, take, Some, slice_get, refl}
 use Rattle.run_model.proofs.Common.{sym, ap, ◌∙◌, arith, ◌==◌, list_any, option_map, sum_by-cons}

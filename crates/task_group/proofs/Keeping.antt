@@ -1,4 +1,4 @@
--- What each call keeps: the counters, lists, queue and flags say what the rows say.
+-- Each call keeps the counters, lists, queue and flags in agreement with the rows.
 use Rattle.run_model.proofs.Common.{◌≡◌, ◌+◌, ◌-◌, ◌<◌, ◌≤◌, ◌++◌, ◌∷◌, [], ℕ, Bool, true, false}
 use Rattle.run_model.proofs.Common.{List, length, Option, Some, slice_get, refl, sym, ap, ◌∙◌}
 use Rattle.run_model.proofs.Common.{arith, slice_set, IfSome, option_map_or, slice_get_within}

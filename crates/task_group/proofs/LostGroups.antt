@@ -1,4 +1,4 @@
--- Groups that one of the first tasks is an error of.
+-- The groups of which one of the first tasks ended in an error.
 use Rattle.run_model.proofs.Common.{◌≡◌, ◌<◌, ◌≤◌, ℕ, ◌+◌, Bool, true, false, ◌||◌, ◌&&◌, List, []}
 use Rattle.run_model.proofs.Common.{◌∷◌, ◌++◌, length, take, get_or, refl, sym, ap, ◌∙◌, add-one}
 use Rattle.run_model.proofs.Common.{inl, inr, ◌==◌, slice_index_or, slice_set, replicate, list_any}

@@ -1,4 +1,4 @@
--- A task that ends with an error, or without one, ends with the outcome of it.
+-- A task that ends with or without an error ends with the corresponding outcome.
 use Rattle.run_model.proofs.Common.{◌≡◌, ℕ, List, Option, Some, None, ap, WorkState, after_end}
 use Rattle.run_model.proofs.Common.{stage_of, error_of}
 use Rattle.run_model.specs.declared.tasks.Stage.{Stage}

@@ -1,4 +1,4 @@
--- Rows that were put so far, one after the other, each of at most so many bytes.
+-- The rows that have been written so far, one after another, each of at most this many bytes.
 use Rattle.run_model.proofs.Common.{◌≡◌, ◌<◌, ◌≤◌, ℕ, zero, suc, ◌+◌, ◌*◌, List, [], ◌∷◌, ◌++◌}
 use Rattle.run_model.proofs.Common.{length, take, Bool, get_or, refl, sym, ap, ◌∙◌, subst, arith}
 use Rattle.run_model.proofs.Common.{length-append, add-one, IsTrue, flat_map, AllByRecursion}

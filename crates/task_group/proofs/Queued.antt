@@ -1,4 +1,4 @@
--- The queue has the ready tasks, through every change.
+-- The queue holds the ready tasks, through every change.
 use Rattle.run_model.proofs.Common.{◌≡◌, ◌≢◌, ◌+◌, ◌<◌, ◌≤◌, ◌∷◌, [], ℕ, Bool, true, false, List}
 use Rattle.run_model.proofs.Common.{length, Option, Some, None, inl, inr, refl, sym, ap, subst}
 use Rattle.run_model.proofs.Common.{◌∙◌, arith, slice_set, cases_eq, cases_lt, get_or-set_same}

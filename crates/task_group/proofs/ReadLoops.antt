@@ -1,4 +1,4 @@
--- Rows that were read so far: what is left to read is what there was to read.
+-- The rows that have been read so far, and those that are still to be read.
 use Rattle.std.proofs.Common.{◌≡◌, ◌<◌, ◌≤◌, ℕ, suc, ◌+◌, ◌-◌, Bool, true, false, List, [], ◌∷◌}
 use Rattle.std.proofs.Common.{◌++◌, length, Some, None, refl, sym, ap, ◌∙◌, arith, length-append}
 use Rattle.row_view.specs.Fields.{Reader}

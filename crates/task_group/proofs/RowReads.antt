@@ -1,4 +1,4 @@
--- A row that code read at a number, and what a test says of it.
+-- A row that code has read at a number, and facts that a test of it shows.
 use Rattle.run_model.proofs.Common.{◌≡◌, ◌<◌, ℕ, Bool, true, false, ltb, List, length, get_or}
 use Rattle.run_model.proofs.Common.{Option, Some, None, slice_get, refl, sym, ap, ◌∙◌}
 use Rattle.run_model.proofs.Common.{option_map_or, ltb-true, ltb-false, slice_get_past}

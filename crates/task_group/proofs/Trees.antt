@@ -1,4 +1,5 @@
--- A tree of flags: the least leaf is found on the way down, and a change is mended on the way up.
+-- A tree of flags: the lowest leaf is found on the way down, and a change is repaired on the way
+-- up.
 use Rattle.run_model.proofs.Common.{◌≡◌, ◌≢◌, ◌<◌, ◌≤◌, ℕ, zero, suc, ◌+◌, ◌-◌, ◌/◌, ◌%◌, Bool}
 use Rattle.run_model.proofs.Common.{true, false, ◌||◌, List, length, drop, cond, Some, None, inl}
 use Rattle.run_model.proofs.Common.{inr, refl, sym, ap, ◌∙◌, arith, ◌⊎◌, replicate, slice_set}

@@ -1,4 +1,4 @@
--- Words that the proofs use beside those of the definitions.
+-- Definitions that only the proofs use.
 use Rattle.run_model.proofs.Common.{◌≡◌, ◌++◌, ◌∷◌, [], ◌&&◌, ℕ, Bool, false, List, Option, find}
 use Rattle.run_model.proofs.Common.{length, slice_get, range_with_len, option_and_then, option_map}
 use Rattle.run_model.proofs.Common.{option_map_or, WorkState, after_end}

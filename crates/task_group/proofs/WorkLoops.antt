@@ -1,4 +1,4 @@
--- Groups and tasks that are read one after the other are the work whose rows the bytes begin with.
+-- Groups and tasks that are read one after another are the work with whose rows the bytes begin.
 use Rattle.run_model.proofs.Common.{◌≡◌, ◌<◌, ◌≤◌, ℕ, Bool, true, false, not, ◌&&◌, ◌||◌, List, []}
 use Rattle.run_model.proofs.Common.{length, Option, Some, None, refl, sym, ap, ◌∙◌, le-ltb, lt-ltb}
 use Rattle.run_model.proofs.Common.{admits, limit_of, unfinished_in, is_admitted, is_running}
