@@ -243,8 +243,8 @@ pub fn a_store_is_wanted()
         ≡ kind.UnknownArgument ∷ [] }
 {}
 
-/// `migrate` is a command over two stores. After the mark that ends the flags, their names may look
-/// like flags.
+/// `migrate` is a command with two stores, such as `migrate OLD NEW`. After `--`, which ends the
+/// options, the names of the stores may look like options.
 pub fn two_stores_are_named()
     ensures alone { (name : List ℕ)
         → faults_of (name ∷ codes "migrate" ∷ codes "a" ∷ codes "b" ∷ []) ≡ [] }
@@ -256,8 +256,8 @@ pub fn two_stores_are_named()
         → faults_of (name ∷ codes "migrate" ∷ codes "a" ∷ codes "b" ∷ codes "--" ∷ []) ≡ [] }
 {}
 
-/// `renew` is a command over two stores. After the mark that ends the flags, their names may look
-/// like flags.
+/// `renew` is a command with two stores, such as `renew OLD NEW`. After `--`, which ends the
+/// options, the names of the stores may look like options.
 pub fn two_stores_may_be_renewed()
     ensures alone { (name : List ℕ)
         → faults_of (name ∷ codes "renew" ∷ codes "a" ∷ codes "b" ∷ []) ≡ [] }
