@@ -76,7 +76,7 @@ broken_by k s end (x ∷ steps) (r ∷ answers) p broken =
     sym (or_assoc k (is_device_failure r) (list_any is_device_failure answers))
     ∙ broken_by (k || is_device_failure r) (next_session k s x) end steps answers p.1 broken
 
--- ---- why it stops
+-- ---- why the calls end early
 
 fails_later : (old mid new : DiskState) → old.failures ≤ mid.failures → DeviceFails mid new
     → DeviceFails old new

@@ -31,7 +31,7 @@ is_size w = false
 
 -- ---- sizes
 
--- A state that is stored in this layout has room there.
+-- A state that is stored in this layout fits there.
 stored_fits : (layout : Layout) (p : State) (x : List ℕ) → Stores x (renewed_in layout p)
     → fits_in layout (renewed p) ≡ true
 stored_fits layout p x stores =

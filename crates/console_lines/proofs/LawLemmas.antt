@@ -22,7 +22,7 @@ use Rattle.console_lines.proofs.Splits.{whole_lines-append}
 use Rattle.console_lines.proofs.Steps.{replies-append}
 use Rattle.console_lines.proofs.WordLemmas.{rest_is}
 
--- What stands before the first part becomes the front of it.
+-- The bytes before the first part become its beginning.
 put_before : List ℕ → List (List ℕ) → List (List ℕ)
 put_before begun [] = begun ∷ []
 put_before begun (part ∷ parts) = (begun ++ part) ∷ parts

@@ -83,7 +83,7 @@ pub record HasRoom (counts : TaskCounts) : Type 0 where
   pub failure : counts.failure < MOST
   pub interrupted : counts.interrupted < MOST
 
--- The counts with one task more, where there is room for it.
+-- The counts with one more task, if none is the greatest yet.
 abbrev plus_one : Phase → TaskCounts → TaskCounts
 plus_one phase.Success c = record c { total = c.total + 1; success = c.success + 1 }
 plus_one (phase.Failure error) c = record c { total = c.total + 1; failure = c.failure + 1 }
@@ -93,7 +93,7 @@ plus_one _ c = record c { total = c.total + 1 }
 raised_by_one : (n : ℕ) → n < MOST → raised n ≡ n + 1
 raised_by_one n h = omega (arith, h)
 
--- Where there is room, no count stays.
+-- If no count is the greatest yet, each can be raised.
 in_room : (p : Phase) (c : TaskCounts) → HasRoom c → one_more p c ≡ plus_one p c
 in_room phase.Held c h = counts_are (raised_by_one _ h.total) refl refl refl
 in_room phase.Ready c h = counts_are (raised_by_one _ h.total) refl refl refl

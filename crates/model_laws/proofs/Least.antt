@@ -179,7 +179,7 @@ least_of_both all r rows own b at of = by_order (comes_before (r.0, own) b) refl
       ];
     }
 
--- Where there is no first hit, none of the rows was hit.
+-- If there is no first hit, none of the rows was hit.
 none_hit : (all : List Scope) (rows : List (ℕ × Scope)) → AllByRecursion (IsRow all) rows
     → least_hit (filter_map hit_at rows) ≡ None → (n : ℕ) (hit : Hit) → is_on n rows ≡ true
     → own_hit all n ≡ Some hit → ⊥

@@ -81,7 +81,7 @@ abbrev FirstLevel : Hit → Option (ℕ × Hit) → Option (ℕ × Hit) → Type
 FirstLevel hit None new = IfSome new (λ b. b.1 ≡ hit)
 FirstLevel hit (Some a) new = (b : ℕ × Hit) × (new ≡ Some b) × AreAlike hit a b
 
--- What is first from above, beside an own hit that comes.
+-- The first hit from above, next to a hit of the scope's own that is added.
 comes_beside : (hit : Hit) (a b c : ℕ × Hit) → AreAlike hit a b → c.1 ≡ hit
     → AreAlike hit a (first_of (Some b) c)
 comes_beside hit a b c (inl same) is =
@@ -89,7 +89,7 @@ comes_beside hit a b c (inl same) is =
     inl (first_stays hit b c less is ∙ same.0, same.1)
 comes_beside hit a b c (inr are) is = inr (are.0, first_is hit b c are.1 is)
 
--- What comes from above, beside an own hit that was there.
+-- The first hit from above, next to a hit of the scope's own that was there.
 own_beside : (hit : Hit) (b c : ℕ × Hit) → b.1 ≡ hit → IsLevel hit c.1
     → AreAlike hit c (first_of (Some b) c)
 own_beside hit b c is (inl less) = inl (earlier_first hit b c is less, less)

@@ -13,7 +13,7 @@ use Rattle.model_laws.specs.Searches.{earlier, deadline_from, nearest, value_fro
 
 -- ---- the line
 
--- From a row two walks go on alike, where they go on alike from lesser numbers.
+-- From a row two walks go on in the same way, if they do from lower numbers.
 upwards_alike : (rows : List Scope) → AreOrdered rows → (f g : ℕ → List (ℕ × Scope)) (s : ℕ)
     (found : Option Scope) → slice_get rows s ≡ found → ((t : ℕ) → t < s → f t ≡ g t)
     → upwards f s found ≡ upwards g s found

@@ -39,7 +39,7 @@ place_of_name {X} name_of rows n row distinct found =
         let alike = (bytes_eq-Decides (name_of row) (name_of other)).0 same in
         sym (distinct n m row other found there alike)
 
--- The number of the row of this name. Where there is none, it is a number that no row has.
+-- The number of the row with this name. If there is none, it is a number that no row has.
 abbrev pub named : {X : Type 0} → (X → List ℕ) → List X → List ℕ → ℕ
 named name_of rows name =
     unwrap_or (position (λ row. bytes_eq name (name_of row)) rows) (length rows)

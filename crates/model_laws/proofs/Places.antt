@@ -1,4 +1,4 @@
--- The first row that passes a test: where it is, and what it is.
+-- The first row that passes a test, and its place.
 use Rattle.run_model.proofs.Common.{◌++◌, ◌≡◌, ◌<◌, ℕ, Bool, true, false, List, [], ◌∷◌, length}
 use Rattle.run_model.proofs.Common.{get_or, Some, None, slice_get, position, cond, ap, ◌∙◌, arith}
 use Rattle.run_model.proofs.Common.{lt-ltb, ltb, none-some, slice_get_within, slice_get-get_or}

@@ -29,7 +29,7 @@ take_cons : {X : Type 0} (n m : ℕ) (x : X) (xs : List X) → n ≡ suc m
     → take n (x ∷ xs) ≡ x ∷ take m xs
 take_cons n m x xs e = ap (λ (k : ℕ). take k (x ∷ xs)) e
 
--- One more number in front: it is among the first so many where it passes and its rank is below.
+-- One more number comes first: it is one of the first n if it passes and its rank is below.
 one_more : (most here next a : ℕ) (admitted behind : List ℕ) (passes below : Bool)
     → nat_lt here most ≡ below → (passes ≡ true → next ≡ here + 1) → (passes ≡ false → next ≡ here)
     → admitted ≡ take (most - next) behind
@@ -49,7 +49,7 @@ one_more most here next a admitted behind true false low counts skips rest =
 one_more most here next a admitted behind false below low counts skips rest =
     rest ∙ ap (λ (k : ℕ). take (most - k) behind) (skips refl)
 
--- Those of a rank below a bound are the first so many.
+-- The numbers with a rank below a bound are the first ones.
 first_in : (test : ℕ → Bool) (rank : ℕ → ℕ) (most a len all : ℕ) → Ranks test rank all
     → a + len ≡ all
     → filter (λ n. test n && nat_lt (rank n) most) (range_with_len a len)

@@ -55,7 +55,7 @@ chain_rows rows s = before_all (IsRow rows) (line rows s) (line_rows rows (suc s
 
 -- ---- done
 
--- Where one passes the first test, and each that passes it passes the second, one passes that.
+-- If one row passes the first test, and each such row passes the second, one passes the second.
 any_more : {X : Type 0} (P : X → Type 0) (p q : X → Bool) (xs : List X) → AllByRecursion P xs
     → ((x : X) → P x → p x ≡ true → q x ≡ true) → list_any p xs ≡ true → list_any q xs ≡ true
 any_more P p q [] all more passed = passed
@@ -104,7 +104,7 @@ ends_below rows n hit s on =
 
 -- ---- cut off
 
--- Where a row of number n is on the line, it is on the chain unless a detached one is below it.
+-- If row n is on the line, it is on the chain, unless a detached row is below it.
 cut_at : (n : ℕ) (rows : List (ℕ × Scope))
     → AllByRecursion (λ r. (r.0 == n) ≡ true → is_detached r.1.kind ≡ false) rows
     → is_on n (before_detached rows) ≡ (is_on n rows && not (has_detached (below n rows)))

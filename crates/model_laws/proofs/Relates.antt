@@ -49,7 +49,7 @@ RowsRelate Own old new = (s : ℕ) (a : Scope) → slice_get old s ≡ Some a
 
 -- ---- the search, row by row
 
--- What a row of this kind and parent finds: its own hit, beside its parent's.
+-- The first hit of a row of this kind and parent: the first of its own hit and its parent's.
 abbrev found : List Scope → ℕ → Kind → ℕ → Option Hit → Option (ℕ × Hit)
 found rows s kind parent own =
     cond (is_detached kind) None (joined (cond (is_root kind) None (first_hit rows parent)) s own)

@@ -31,7 +31,7 @@ root_right l s row found =
           absurd (none-some moment (ap (λ r. own_deadline r.kind) (sym is) ∙ due));
     }
 
--- There is room for root.
+-- Root fits.
 room_for_root : (l : Layout) → 1 ≤ most_scopes l
 room_for_root Small = omega arith
 room_for_root Large = omega arith

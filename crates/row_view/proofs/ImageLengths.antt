@@ -18,7 +18,7 @@ use Rattle.row_view.specs.Image.{greatest_image, task_most}
 use Rattle.row_view.specs.Keeping.{IsImage}
 use Rattle.row_view.proofs.RowLengths.{scope_len_most, group_len_most, task_len_most}
 
--- Rows that have so many bytes each at most have no more together.
+-- Rows of at most this many bytes each have at most that many together.
 rows_most : {X : Type 0} (write : X → List ℕ) (most : ℕ) (rows : List X)
     → AllByRecursion (λ row. length (write row) ≤ most) rows
     → length (flat_map write rows) ≤ most * length rows

@@ -99,7 +99,7 @@ kind_and_hit made (Some hit) ok hits can =
     let more = hit_len (Some hit) hits in
     omega arith
 
--- The row of a scope that is hit only where it can be has 192 bytes at most.
+-- The row of a scope that has a hit only if its kind can be hit has at most 192 bytes.
 pub scope_len_most :
     (row : Scope) → IsTrue (is_kept_scope row) →
     ((hit : Hit) → row.hit ≡ Some hit → can_be_hit row.kind ≡ true) →

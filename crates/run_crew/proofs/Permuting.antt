@@ -25,7 +25,7 @@ use Rattle.run_crew.proofs.Strays.{has-all}
 no_both : {A : Type 0} (b : Bool) → b ≡ true → b ≡ false → A
 no_both b holds fails = absurd (let e : true ≡ false = sym holds ∙ fails in cc)
 
--- What holds where a test says true, and where it says false.
+-- The facts if a test is true, and if it is false.
 by_test : {A : Type 0} (b : Bool) → (b ≡ true → A) → (b ≡ false → A) → A
 by_test true holds fails = holds refl
 by_test false holds fails = fails refl

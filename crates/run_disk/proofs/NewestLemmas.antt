@@ -23,7 +23,7 @@ unwrap_or-option_or : {T : Type 0} → (a b : Option T) (d : T)
 unwrap_or-option_or None b d = refl
 unwrap_or-option_or (Some x) b d = refl
 
--- one write more: it decides where it reaches the place
+-- one more write decides the byte if it reaches the place
 pub newest-push : (left : Write → List ℕ) (ws : List Write) (w : Write) (i : ℕ)
     → newest left (ws ++ w ∷ []) i ≡ option_or (byte_put w.at (left w) i) (newest left ws i)
 newest-push left [] w i = sym (option_or-none (byte_put w.at (left w) i))

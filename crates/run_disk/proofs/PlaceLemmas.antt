@@ -17,7 +17,7 @@ put_mid-before at n xs ys i below within =
     get_or_append_left (take at xs) (ys ++ drop n (drop at xs)) 0 i inside
     ∙ get_or-take at xs i 0 below
 
--- the part after the front
+-- the part after the prefix
 get_or-from : (at n : ℕ) (xs ys : List ℕ) (j : ℕ) → at ≤ length xs
     → get_or (put_mid at n xs ys) (at + j) 0 ≡ get_or (ys ++ drop n (drop at xs)) j 0
 get_or-from at n xs ys j within =
@@ -44,7 +44,7 @@ put_mid-behind at n xs ys i above within whole =
     ∙ get_or-drop at xs (n + (i - at - n)) 0
     ∙ ap (λ m. get_or xs m 0) rest
 
--- a list with these bytes in the place of so many of its own
+-- a list in which these bytes replace as many of its own
 pub puts_mid : (at : ℕ) (bytes xs : List ℕ) → at + length bytes ≤ length xs
     → Puts at bytes xs (put_mid at (length bytes) xs bytes)
 puts_mid at bytes xs fits = record {

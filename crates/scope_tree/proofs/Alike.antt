@@ -74,7 +74,7 @@ same_hit e m cause h event moment reason text =
     ∙ ap (λ x. record h { event = e; moment = m; reason = x }) reason
     ∙ ap (λ x. record h { event = e; moment = m; reason = Canceled; cause = x }) text
 
--- ---- beside the own hit
+-- ---- hits next to the own hit
 
 -- What ended a scope stays, or is one of these hits as before.
 abbrev Says : Hit → Option (ℕ × Hit) → Option (ℕ × Hit) → Type 0
@@ -85,7 +85,7 @@ Says hit old new =
 abbrev OwnSays : Hit → Option Hit → Option Hit → Type 0
 OwnSays hit old new = (new ≡ old) ⊎ ((old ≡ None) × (new ≡ Some hit))
 
--- The hits beside each other, as their numbers say.
+-- Two hits are ordered as their numbers are.
 first_stays : (hit : Hit) (s : ℕ) (h : Hit) (up : Option (ℕ × Hit)) → ComesBefore h hit
     → IfSome up (λ a. a.1 ≡ hit) → joined up s (Some h) ≡ Some (s, h)
 first_stays hit s h None comes alike = refl

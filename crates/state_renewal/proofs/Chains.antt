@@ -22,13 +22,13 @@ use Rattle.state_renewal.proofs.Hangs.{AreBoth, ScopesHang}
 use Rattle.state_renewal.proofs.RowsAnew.{anew_get, test_anew}
 use Rattle.model_laws.proofs.Reaches.{before_all}
 
--- The scopes that go on, told anew.
+-- The scopes that go on, by the new numbers.
 abbrev pub scopes_anew : Part → List Scope → List Scope
 scopes_anew part rows = rows_anew part.scopes (scope_anew part) rows
 
 -- ---- the line
 
--- A row of a line, told anew.
+-- A row of a line, by the new numbers.
 abbrev pub told_at : Part → ℕ × Scope → ℕ × Scope
 told_at part r = (new_number part.scopes r.0, scope_anew part r.1)
 
@@ -128,7 +128,7 @@ abbrev IsOfPart : Part → Option (ℕ × Hit) → Type 0
 IsOfPart part None = Unit
 IsOfPart part (Some a) = part.scopes a.0 ≡ true
 
--- The least of these hits, told anew, is the least of them told anew.
+-- The least of these hits, by the new numbers, is the least of them by the new numbers.
 record IsLeastTold (part : Part) (hits : List (ℕ × Hit)) : Type 0 where
   told : least_hit (map (hit_told part) hits) ≡ option_map (hit_told part) (least_hit hits)
   of_part : IsOfPart part (least_hit hits)

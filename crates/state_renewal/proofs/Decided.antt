@@ -48,7 +48,7 @@ repeated_same part p (command.Wait group) anew is =
     ∙ test_anew (λ row. row.waited) part.groups (group_anew part) p.work.groups (group_of p group)
     (λ row. refl) on.0
 
--- ---- the room of the log
+-- ---- the free bytes of the log
 
 running_same : (part : Part) (p : State) → IsConsistent p → WorkHangs part p.work
     → running_count (work_anew part p.work).tasks ≡ running_count p.work.tasks

@@ -25,7 +25,7 @@ pub record WithScope (part : Part) (g : ℕ) (row : Group) : Type 0 where
   pub own : row.bare ≡ false → part.scopes row.scope ≡ true → part.groups g ≡ true
   pub gone : part.groups g ≡ false → row.waited ≡ true
 
--- A task goes on exactly where its group does.
+-- A task goes on exactly if its group does.
 abbrev pub WithGroup : Part → ℕ → Task → Type 0
 WithGroup part n row = part.tasks n ≡ part.groups row.group
 

@@ -8,7 +8,7 @@ use Rattle.std.proofs.lemmas.List.Folds.{list_any_more}
 use Rattle.run_model.specs.declared.groups.Group.{Group}
 use Rattle.state_renewal.specs.Marks.{is_flagged}
 
--- The group wasn't waited for, and lives in this scope.
+-- The group wasn't waited for, and this is its scope.
 abbrev pub lives_in : ℕ → Group → Bool
 lives_in s group = not group.waited && group.scope == s
 
@@ -19,7 +19,7 @@ pub record AreHosts (groups : List Group) (before : List Bool) (k : ℕ) (flags 
   pub say : (s : ℕ)
       → is_flagged flags s ≡ (is_flagged before s || list_any (lives_in s) (take k groups))
 
--- One more group passes the test where it does, or one before it did.
+-- Some group up to the next one passes the test if that one does, or one before it.
 one_more : (groups : List Group) (k s : ℕ) (row : Group) (b : Bool)
     → slice_get groups k ≡ Some row → lives_in s row ≡ b
     → list_any (lives_in s) (take (k + 1) groups)

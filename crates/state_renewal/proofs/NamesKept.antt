@@ -9,7 +9,7 @@ use Rattle.state_renewal.proofs.Numbers.{length-kept}
 use Rattle.state_renewal.proofs.RulesKept.{scope_from, group_from, scope_stays, rules_kept}
 use Rattle.state_renewal.proofs.Works.{group_stays}
 
--- Where each row has another name, none is found.
+-- If each row has another name, none is found.
 none_of : {X : Type 0} (name : X → List ℕ) (rows : List X) (wanted : List ℕ)
     → ((j : ℕ) (row : X) → slice_get rows j ≡ Some row → name row ≢ wanted)
     → position (λ r. bytes_eq wanted (name r)) rows ≡ None

@@ -1,4 +1,4 @@
--- Kept rows by their new numbers: where each of them comes from, and where it goes.
+-- Kept rows by their new numbers: the origin and the place of each.
 use Rattle.run_model.proofs.Common.{◌≡◌, ◌⊎◌, ◌<◌, ◌≤◌, ◌==◌, ℕ, zero, suc, Bool, true, false}
 use Rattle.run_model.proofs.Common.{List, [], ◌∷◌, length, map, Some, slice_get, inl, inr, refl}
 use Rattle.run_model.proofs.Common.{sym, ap, subst, ◌∙◌, arith, option_map, nat_lt, cases_eq}
@@ -132,7 +132,7 @@ kept_get goes (r ∷ rows) (suc n) is =
     (new_number (λ n. goes (suc n)) n)
     ∙ kept_get (λ n. goes (suc n)) rows n is
 
--- Where the row of this new number comes from.
+-- The origin of the row with this new number.
 record ComesFrom
     {X : Type 0} (keeps : ℕ → Bool) (rows : List X) (m : ℕ) (row : X) : Type 0 where
   number : ℕ
@@ -184,7 +184,7 @@ length-kept keeps (r ∷ rows) =
     ∙ ap (one_more_if (keeps zero)) (length-kept (λ k. keeps (suc k)) rows)
     ∙ sym (number_after keeps (length rows))
 
--- ---- told anew
+-- ---- rows by the new numbers
 
 -- A kept row of the old ones, and the new row that it becomes.
 pub record IsOf

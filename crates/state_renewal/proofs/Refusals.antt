@@ -216,7 +216,7 @@ allowed_place p (event.Finish n outcome) may = refl
 allowed_place p (event.Wait g) may = refl
 allowed_place p event.Restart may = refl
 
--- Where it has its place, it is allowed of the one exactly where it is of the other.
+-- If its names and rows are free, either state allows it exactly if the other does.
 allowed_at : (part : Part) (p : State) (e : Event) → AreBoth part p → names_part part e ≡ true
     → has_place p e ≡ true → allowed (state_anew part p) (event_anew part e) ≡ allowed p e
 allowed_at part p e both is place = by_event e (refusals_anew part p e both is place)

@@ -127,7 +127,7 @@ row_on rows t s on = by_row (slice_get rows t) refl
         absurd (false≢true (sym (ap (λ o. is_on s (upwards (line_within t rows) t o)) at) ∙ on))
     by_row (Some row) at = (row, at)
 
--- A scope is on the line told anew where it was on the line.
+-- A scope is on the line by the new numbers if it was on the line.
 on_anew : (part : Part) (s : ℕ) (rows : List (ℕ × Scope)) → AllGo part rows → part.scopes s ≡ true
     → is_on (new_number part.scopes s) (map (told_at part) rows) ≡ is_on s rows
 on_anew part s [] all is = refl

@@ -30,7 +30,7 @@ group_at : (w : Work) (n : ℕ) (t : Task) → slice_get w.tasks n ≡ Some t
 group_at w n t found =
     ap (λ (o : Option Task). option_map_or (λ task. task.group) o (length w.groups)) found
 
--- A task is held where it is fresh and not admitted.
+-- A task is held if it is fresh and not admitted.
 held_by : (s : Stage) (b : Bool) → phase_by b s ≡ phase.Held
     → (is_fresh s ≡ true) × (b ≡ false)
 held_by stage.Fresh true e = absurd cc

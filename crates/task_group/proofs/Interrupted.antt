@@ -59,7 +59,7 @@ unfinished_after g row = by row.stage refl
 
 -- ---- the rows
 
--- The first so many rows are those after a restart.
+-- The first n rows are those after a restart.
 abbrev pub interrupted_to : ℕ → List Task → List Task
 interrupted_to zero rows = rows
 interrupted_to (suc n) [] = []
@@ -121,7 +121,7 @@ none_runs : (row : Task) (b : Bool) → is_running row.stage ≡ b
 none_runs row true e = ap (λ (t : Task). is_running t.stage) (ran_row row e)
 none_runs row false e = ap (λ (t : Task). is_running t.stage) (stayed_row row e) ∙ e
 
--- Where all are passed, none runs.
+-- If all rows are passed, no task is running.
 pub to_none : (n : ℕ) (rows : List Task) → length rows ≤ n
     → running_count (interrupted_to n rows) ≡ 0
 to_none zero [] le = refl

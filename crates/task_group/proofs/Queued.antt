@@ -22,7 +22,7 @@ use Rattle.task_group.proofs.Starts.{Starts, starts, start_stays, start_takes, g
 
 -- ---- the queue and the tests of a task
 
--- A task is in the queue where it is fresh and fits.
+-- A task is in the queue if it is fresh and admitted.
 ready_in : (w : Work) (flags : List Bool) → AreQueued w flags
     → (n : ℕ) → is_up flags n ≡ is_ready w n
 ready_in w flags q n = q.right n ∙ ready_same w n

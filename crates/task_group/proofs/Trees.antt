@@ -15,7 +15,7 @@ use Rattle.task_group.specs.Trees.{is_up, IsRight, first_leaf, IsTree, way_down}
 
 -- ---- the leaves below a node
 
--- The last of the nodes that are so many levels below node k.
+-- The last of the nodes that are this many levels below node k.
 abbrev pub last_leaf : ℕ → ℕ → ℕ
 last_leaf zero k = k
 last_leaf (suc levels) k = last_leaf levels (k + k + 1)
@@ -55,7 +55,7 @@ neither true b e = absurd cc
 neither false true e = absurd cc
 neither false false e = (refl, refl)
 
--- Where a node's flag is down, those of all leaves below it are.
+-- If the flag of a node is down, those of all leaves below it are.
 all_down : (leaves : ℕ) (nodes : List Bool)
     → ((k : ℕ) → 1 ≤ k → k < leaves → IsRight nodes k) → (h k : ℕ) → 1 ≤ k
     → last_leaf h k < leaves + leaves → is_up nodes k ≡ false
@@ -167,7 +167,7 @@ way_ends leaves node nodes w past n at = (
       (let more = first_more w.levels node in omega arith),
 )
 
--- Where the root's flag is down, no number is in.
+-- If the flag of the root is down, the queue is empty.
 pub none_in : (leaves : ℕ) (nodes : List Bool) → IsTree leaves nodes → is_up nodes 1 ≡ false
     → IsNext (is_up (drop leaves nodes)) 0 None
 none_in leaves nodes t down = λ k low. get_or-drop leaves nodes k false ∙ there k

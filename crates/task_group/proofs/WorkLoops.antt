@@ -36,7 +36,7 @@ pub seat_of : (w : WorkState) (row : Task) (answer : Bool) → is_running row.st
 seat_of w row answer running fits =
     rw (running, running_unfinished row.stage running, take-length) fits
 
--- A task whose group is there can come if it has a seat, where it needs one, and a right link.
+-- A task can come if its group exists, its link is right, and the limit admits it if it is running.
 pub come_by : (w : WorkState) (row : Task) (seat linked : Bool) → row.group < length w.groups
     → (not (is_running row.stage) || is_admitted w (length w.tasks) row) ≡ seat
     → linked ≡ is_linked w.tasks row

@@ -5,7 +5,7 @@ use Rattle.run_model.specs.declared.refusals.Refusal.TheVariants as refusal
 use Rattle.task_group.proofs.Checks.{opens, tested_then}
 use Rattle.task_group.proofs.groups.Groups.check_go.Goals as goal
 
--- Whether there is room for a task.
+-- Whether one more task fits.
 abbrev room : WorkState → List (Bool × Refusal)
 room w = (not (has_room (most_tasks w.layout) w.tasks), refusal.TooManyTasks) ∷ []
 
