@@ -230,7 +230,7 @@ def few_files(tries: Shared) -> None:
     tries.is_same(f"{kind}: enough", "", (statuses[0], statuses[-1]), (3, 0))
     exits = driver_module(tries, "exits")
     tries.is_same(f"{kind}: a file's name", "", exits.outcome_of(OSError(
-        errno.EMFILE, "Too many", "/a/b")).told, (
+        errno.EMFILE, "Too many", "/a/b")).errors, (
         f"/a/b: Too many (the limit is {resource.getrlimit(resource.RLIMIT_NOFILE)[0]},"
         " ulimit -n)",))
     made, commands = list[str](), driver_module(tries, "jobs")
@@ -467,7 +467,7 @@ def outcomes(tries: Shared) -> None:
             (MemoryError(), 3, "an error that nobody foresaw: MemoryError:; NIGHT_DEBUG=1 shows its"
              " place")):
         it = exits.outcome_of(error)
-        tries.is_same(kind, repr(error), (it.status, it.told), (status, (line,)))
+        tries.is_same(kind, repr(error), (it.status, it.errors), (status, (line,)))
         tries.is_same(f"{kind}: what an alarm gets", repr(error), (it.text(), it.environment()), (
             f"night-run: {line}\n",
             {"NIGHT_STATUS": str(status), "NIGHT_FAILED": "0", "NIGHT_LEFT": "0"}))

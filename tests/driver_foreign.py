@@ -317,7 +317,7 @@ def new_store(tries: Shared) -> None:
         room.run("s", "JOBS", "--nightly")[0], room.errors), (
         3, "night-run: s ends with night 1, and s.log.7 is there: restore s.log*, s.nights and"
         " s.out from the backup that the store is from, or move them away\n"))
-    told = driver_module(tries, "files").told
+    told = driver_module(tries, "files").are_there
     tries.is_same(f"{kind}: many", "", told(list("abcdefg")), "a, b, c, d and 3 more are")
 
 

@@ -142,7 +142,7 @@ def retries_are_due(tries: Shared) -> None:
                   failed_at + 5)
     tries.is_same("a retry that is due", "held",
                   it.choose(facts, 1, failed_at + 5, {("g", "a")}).names, ())
-    facts.unsay(("g", "b"))
+    facts.take_back(("g", "b"))
     tries.is_same("a retry that is due", "its place",
                   it.choose(facts, 1, failed_at + 5, {("g", "a")}).names, (("g", "b"),))
     tries.is_same("a retry that is due", "choice", it.choose(facts, 1, failed_at + 5).names,
@@ -278,7 +278,7 @@ def clocks(tries: Shared) -> None:
     for what, (clock, ticked), now, is_busy, lines, cause in CLOCKS:
         book = facts_module.Book(1, driver_module(tries, "rounds").Round())
         book.scopes["g"] = scope(1, "g", None, "cause", None, None, 1000, False, None)
-        book.said["g"] = "within 5m"
+        book.deadlines["g"] = "within 5m"
         facts, its, made = facts_module.Facts(), deadlines.Deadlines(), batch()
         its.clock, its.ticked = clock, ticked
         if is_busy:
@@ -353,7 +353,7 @@ class Fake:
         self.has_begun = self.is_here = True
         self.is_asked_for = self.late = self.over = self.orphans = False
         self.stopped: float | None = None
-        self.record, self.timeout_said = "its file", "5s"
+        self.record, self.timeout_text = "its file", "5s"
         self.job, self.did = self, list[str]()
         self.__dict__.update(its)
 
@@ -484,7 +484,7 @@ def numbers_of_others(tries: Shared) -> None:
             fcntl.flock(held, fcntl.LOCK_EX)
             for what, began, lives in (("another process", start + 1, True),
                                        ("its own", start, False)):
-                told = tried.Told(process=processes.Process(processes.boot(), other.pid, began))
+                told = tried.Contents(process=processes.Process(processes.boot(), other.pid, began))
                 it = leftovers.Leftover(tried.Named("g", "a", 0), f"{folder}/s", None, told,
                                         os.open(f"{folder}/try", os.O_RDWR))
                 it.signal(signal.SIGKILL)
@@ -692,7 +692,7 @@ def told_ends(tries: Shared) -> None:
             raise BlockingIOError(errno.EAGAIN, os.strerror(errno.EAGAIN))
     except OSError as error:
         tries.is_same("why night can't be started", "no process is to be had",
-                      driver_module(tries, "telling").told_of(error),
+                      driver_module(tries, "telling").error_text(error),
                       f"bin/night: it can't be started: {os.strerror(errno.EAGAIN)}")
     finally:
         night.program = before

@@ -397,7 +397,7 @@ def retries_wait(tries: Shared) -> None:
 
 def retries_wait_on(tries: Shared) -> None:
     """A retry waits for what was left of its wait after the clock was set back, also where its
-    failure is told once more."""
+    failure is written once more."""
     for what in "to another process", "to the same":
         planner = planner_of(tries, "g: retries 1 wait 60s\ng a true\ng b true")
         facts = driver_module(tries, "facts").Facts()
@@ -405,12 +405,12 @@ def retries_wait_on(tries: Shared) -> None:
         facts.busy.add(("g", "b"))
         for now, wanted in (10_010.0, 10_060.0), (5000.0, 5050.0), (5001.0, 5050.0), (5050.0, None):
             if now == 5001.0 and what == "to the same":
-                planner.told[0] = "(not told)"
+                planner.written[0] = "(not written)"
                 facts.changed.add(("g", "a"))
             elif now == 5001.0:
                 planner.close()
             found = planner.choose(facts, 2, now)
-            tries.is_same(f"a failure that is told {what}", now, (len(found.names), found.later),
+            tries.is_same(f"a failure that is written {what}", now, (len(found.names), found.later),
                           (0 if wanted else 1, wanted))
 
 

@@ -30,8 +30,8 @@ class Asking:
                                        stdout=subprocess.PIPE, stderr=subprocess.PIPE,
                                        start_new_session=True)
         assert self.it.stdin and self.it.stdout and self.it.stderr
-        self.lines, self.replies, self.told = self.it.stdin, self.it.stdout, self.it.stderr
-        for file in (self.lines, self.replies, self.told):
+        self.lines, self.replies, self.errors = self.it.stdin, self.it.stdout, self.it.stderr
+        for file in (self.lines, self.replies, self.errors):
             os.set_blocking(file.fileno(), False)
 
     def ask(self, lines: Iterable[str]) -> list[str]:
@@ -99,7 +99,8 @@ class Asking:
     def lost(self) -> NightEnded:
         """How it has ended, and why."""
         status = self.close()
-        return NightEnded(status, self.said if self.said or status else "it ended too early")
+        why = self.error_text if self.error_text or status else "it ended too early"
+        return NightEnded(status, why)
 
     def close(self) -> int:
         """Ends it; the status with which it does."""
@@ -113,9 +114,9 @@ class Asking:
                 self.it.wait(KILLED_SECONDS)
             status = -signal.SIGKILL
         with contextlib.suppress(OSError, ValueError):
-            self.said = (self.told.read() or b"").decode("utf-8", "replace")
-        for file in (self.replies, self.told):
+            self.error_text = (self.errors.read() or b"").decode("utf-8", "replace")
+        for file in (self.replies, self.errors):
             file.close()
         return status
 
-    said = ""
+    error_text = ""

@@ -198,9 +198,9 @@ def way_to(path: str) -> str:
             if links > MOST_LINKS:
                 raise OSError(errno.ELOOP, os.strerror(errno.ELOOP), path)
             judge_owner(found, here, f"it is a link of {name_of(found.st_uid)}'s")
-            said = os.readlink(here)
-            at = "/" if said.startswith("/") else at
-            left.extendleft(reversed(said.split("/")))
+            link = os.readlink(here)
+            at = "/" if link.startswith("/") else at
+            left.extendleft(reversed(link.split("/")))
             continue
         if stat.S_ISDIR(found.st_mode):
             judge_folder(found, here)

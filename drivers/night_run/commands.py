@@ -24,8 +24,8 @@ from .jobs import Job
 from .mounts import Folders, NoAnswer
 from .processes import (boot, group_exists, groups_in, session_exists, session_lives, signal_groups,
                         signal_session)
-from .telling import note_once, told_of
-from .tries import Named, Told, Tries, naming
+from .telling import error_text, note_once
+from .tries import Contents, Named, Tries, naming
 
 SHELL = "/bin/sh"
 # Writes `process $1 PID START` into the file 8, runs the words after $2 in the folder $2, and
@@ -147,11 +147,11 @@ class Command(Running):
                 if self.record is None:
                     tries.forget(it)
         except NotOurs as error:
-            note_once(told_of(error))
+            note_once(error_text(error))
             self.failure = "its output isn't to be trusted"
         except OSError as error:
             if error.errno in LATER:
-                raise NotNow(told_of(error)) from None
+                raise NotNow(error_text(error)) from None
             where = f"{end_of_path(str(error.filename))}: " if error.filename else ""
             self.failure = f"{where}{error.strerror or error}"
         except ValueError as error:
@@ -172,7 +172,7 @@ class Command(Running):
                 tries.forget(it)
                 raise
         except OSError as error:
-            raise NotNow(told_of(error)) from None
+            raise NotNow(error_text(error)) from None
 
     def spawn(self, files: Files, file: int, folder: str, words: list[str],
               given: Mapping[str, str]) -> None:
@@ -192,28 +192,30 @@ class Command(Running):
     def look_back(self) -> None:
         """Takes what the file of the try knows better than its shell's status: by which signal the
         command ended, and that it never began, so that it is to begin later."""
-        told = self.tries.told(self.record) if self.tries and self.record and self.status else None
-        if told is None or self.stopped is not None:
+        found = None
+        if self.tries and self.record and self.status:
+            found = self.tries.contents(self.record)
+        if found is None or self.stopped is not None:
             return
-        if told.ended:
-            self.status = told.ended.status
-        elif told.process is None and self.misses < MOST_MISSES:
+        if found.ended:
+            self.status = found.ended.status
+        elif found.process is None and self.misses < MOST_MISSES:
             self.misses += self.status == NO_SHELL or self.status is not None and self.status < 0
-            self.put_off = told.excuse or "a shell can't begin its command"
+            self.put_off = found.excuse or "a shell can't begin its command"
             if self.tries and self.record:
                 self.tries.forget(self.record)
             self.record = self.elsewhere = self.status = self.took = None
             self.pid = 0
 
-    def adopt(self, told: Told, it: Elsewhere | None, output: str) -> None:
+    def adopt(self, its: Contents, it: Elsewhere | None, output: str) -> None:
         """Makes it a try of an earlier driver that has ended."""
         self.elsewhere, self.output = it, output
         self.is_adopted = self.is_gone = True
-        self.status = told.ended.status if told.ended else -signal.SIGKILL
-        self.took = told.ended.took if told.ended else None
-        if told.ended and self.took is not None:
-            self.began = told.ended.at - self.took
-        self.text = told.command or self.job.command
+        self.status = its.ended.status if its.ended else -signal.SIGKILL
+        self.took = its.ended.took if its.ended else None
+        if its.ended and self.took is not None:
+            self.began = its.ended.at - self.took
+        self.text = its.command or self.job.command
 
     def never(self, end: End) -> None:
         """Makes it one that never begins, and ends so."""

@@ -29,7 +29,7 @@ def look() -> None:
 def why(error: OSError) -> str:
     """The system's words; where it is this process that has too many files open, with the
     limit."""
-    said = error.strerror or str(error)
+    text = error.strerror or str(error)
     if error.errno != errno.EMFILE:
-        return said
-    return f"{said} (the limit is {resource.getrlimit(resource.RLIMIT_NOFILE)[0]}, ulimit -n)"
+        return text
+    return f"{text} (the limit is {resource.getrlimit(resource.RLIMIT_NOFILE)[0]}, ulimit -n)"

@@ -29,7 +29,7 @@ class Outcome:
     """The result of a run."""
 
     status: int
-    told: tuple[str, ...] = ()  # for standard error
+    errors: tuple[str, ...] = ()  # for standard error
     lines: tuple[str, ...] = ()  # for standard output
     failed: int = 0  # commands that failed, were canceled, or are never begun
     left: int = 0  # those that are left
@@ -45,7 +45,7 @@ class Outcome:
 
     def text(self) -> str:
         """All that is known."""
-        return "".join(f"{it}\n" for it in (*(f"night-run: {it}" for it in self.told),
+        return "".join(f"{it}\n" for it in (*(f"night-run: {it}" for it in self.errors),
                                             *self.lines))
 
     def environment(self) -> dict[str, str]:
@@ -57,10 +57,10 @@ def outcome_of(error: BaseException) -> Outcome:
     """The result of a run that this ended."""
     if isinstance(error, Mistake):
         return Outcome(MISTAKE, tuple(str(error).split("\n")))
-    return Outcome(FAULT, (said_of(error),))
+    return Outcome(FAULT, (why_ended(error),))
 
 
-def said_of(error: BaseException) -> str:
+def why_ended(error: BaseException) -> str:
     """Why a run ended, in a line; for an error that nobody foresaw with its place, if that is asked
     for."""
     if isinstance(error, (Fault, NightEnded)):
@@ -115,12 +115,13 @@ def leave(it: Outcome, hooks: Hooks) -> int:
         telling.flush()  # (on a terminal, earlier messages come first)
         why = unprinted(it.lines, hooks.signals)
         if why:
-            before, it = it, replace(it, status=FAULT, told=(*it.told, f"standard output: {why}"))
+            errors = (*it.errors, f"standard output: {why}")
+            before, it = it, replace(it, status=FAULT, errors=errors)
             if before.is_well:
                 hooks.end(it)
     if it.is_well and it.has_run:
         hooks.end(it)
-    for line in it.told:
+    for line in it.errors:
         tell(line)
     telling.flush()
     return it.status

@@ -44,7 +44,7 @@ class Facts:
         self.interrupted.add(name)
         self.changed.add(name)
 
-    def unsay(self, name: Name) -> None:
+    def take_back(self, name: Name) -> None:
         """The end of a command was taken in, and doesn't count."""
         self.ends.pop(name, None)
         self.changed.add(name)
@@ -71,15 +71,15 @@ class Book:
     is_new: bool = False  # whether nothing of it is in the store yet
     free: dict[str, str] = field(default_factory=dict)  # the same for a group without a limit
     tries: collections.Counter[tuple[str, str]] = field(default_factory=collections.Counter)
-    said: dict[str, str] = field(default_factory=dict)  # the deadlines, as the file said them
+    deadlines: dict[str, str] = field(default_factory=dict)  # as the file has them
     last: dict[Name, Task] = field(default_factory=dict)
     retried: set[int] = field(default_factory=set)
 
-    def say(self, base: str, scope: Scope, own: str | None, of_all: str | None) -> None:
+    def set_deadline(self, base: str, scope: Scope, own: str | None, of_all: str | None) -> None:
         """Keeps which deadline a group is stopped by: at one moment that of all groups together
         comes first."""
         is_of_all = self.top is not None and self.top.deadline == scope.deadline
-        self.said[base] = (of_all if is_of_all else own) or PASSED
+        self.deadlines[base] = (of_all if is_of_all else own) or PASSED
 
     def next_name(self, base: str) -> str:
         """A name for a new scope or group, which nothing had before."""
@@ -109,9 +109,9 @@ def book_of(state: State, past: Past, night: int) -> Book:
     for scope in state.scopes:
         if scope.number in below and scope.kind == "cause" and base_of(scope.name) != OF_ALL:
             book.scopes[base_of(scope.name)] = scope
-    top_said = state.said(book.top.name) if book.top else None
+    of_all = state.deadline_words(book.top.name) if book.top else None
     for base, scope in book.scopes.items():
-        book.say(base, scope, state.said(scope.name), top_said)
+        book.set_deadline(base, scope, state.deadline_words(scope.name), of_all)
     last = {it.number: base for base, it in book.scopes.items()}
     for group in state.groups:
         book.limits[group.name] = group.limit
@@ -200,7 +200,7 @@ def read_done(facts: Facts, book: Book, now: float) -> None:
         if scope.done:
             facts.cancel(base, scope.cause or "")
         elif scope.deadline is not None and scope.deadline <= now:
-            facts.cancel(base, book.said.get(base, PASSED))
+            facts.cancel(base, book.deadlines.get(base, PASSED))
 
 
 def when_ended(facts: Facts, lines: Mapping[Tried, Line], names: set[Name]) -> str:

@@ -179,8 +179,8 @@ class Files:
             self.folder.tighten(f"{self.name(Part.LOG)}.{it}")
             its.append(f"{self.shown_of(Part.LOG)}.{it}")
         if its:
-            raise Fault(f"{self.shown} is not there, but {told(its)}: bring the store back, or move"
-                        f" {its[0] if not its[1:] else 'them'} away if you want a new store")
+            raise Fault(f"{self.shown} is not there, but {are_there(its)}: bring the store back, or"
+                        f" move {its[0] if not its[1:] else 'them'} away if you want a new store")
 
     def old_logs(self) -> list[int]:
         """The nights of which a log lies beside the store."""
@@ -192,7 +192,7 @@ class Files:
         return []
 
 
-def told(names: list[str]) -> str:
+def are_there(names: list[str]) -> str:
     """That these are there; the first of them, where they are many."""
     shown, more = names[:MOST_NAMES], names[MOST_NAMES:]
     if more:

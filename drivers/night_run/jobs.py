@@ -67,7 +67,7 @@ class Job:
     priority: int
     uses: tuple[tuple[str, int], ...]  # pools, and how much of each
     timeout: int | None
-    timeout_said: str
+    timeout_text: str
     folder: str | None
     env: tuple[tuple[str, str], ...]
     keeps: bool  # processes that it leaves may live on
@@ -231,7 +231,7 @@ class Jobs:
         return Job(
             *name, self.texts[name], self.needs(name[0], own if own.after else group),
             by.retries or 0, by.wait, by.factor, by.most_wait, own.priority or 0, self.uses(name),
-            timed.timeout, timed.timeout_said,
+            timed.timeout, timed.timeout_text,
             own.folder if own.folder is not None else group.folder,
             tuple({**group.env, **own.env}.items()), own.keeps or group.keeps, group.way,
             () if group.way.via else own.shell or group.shell or self.groups[OF_ALL].shell)
@@ -325,8 +325,8 @@ class Jobs:
         first = next(it for it in ring if isinstance(it, tuple))
         own = self.own.get(first)
         line = own.after_line if own and own.after else self.groups[first[0]].after_line
-        told = ", after ".join(it if isinstance(it, str) else "/".join(it) for it in ring)
-        self.mistake(line or self.lines[first], f"these wait for each other: {told}")
+        shown = ", after ".join(it if isinstance(it, str) else "/".join(it) for it in ring)
+        self.mistake(line or self.lines[first], f"these wait for each other: {shown}")
         return members
 
 

@@ -44,7 +44,8 @@ class Keeper:
                         " that the store is from, or move them away")
         if later:
             raise Fault(f"{shown} is a new store, and {shown}.log.{later[0]} is of another one:"
-                        f" move {shown}.log* away, and {shown}.out if you want to keep what is in it")
+                        f" move {shown}.log* away, and {shown}.out if you want to keep what is in"
+                        " it")
 
     def knows(self, night: int) -> bool:
         return night in self.nights.begun

@@ -35,7 +35,7 @@ from .rounds import base_of
 from .settings import OF_ALL
 from .state import State
 from .telling import note, note_once
-from .tries import Named, Told, Tries, told_by
+from .tries import Contents, Named, Tries, contents_of
 
 LINE = re.compile(rf"([a-z0-9_-]{{1,32}}) ([a-z0-9_-]{{1,32}}) ([0-9]{{1,6}}) (\S+) {PID} {START}")
 OLD_LINE = re.compile(rf"{PID} ([a-z0-9_-]{{1,32}}) ([a-z0-9_-]{{1,32}})")
@@ -47,10 +47,10 @@ class Leftover(Running):
     """A try of an earlier driver. Its shell lives as long as the lock of its file is held; of what
     has no file the system is asked."""
 
-    def __init__(self, it: Named, store: str, job: Job | None, told: Told = Told(),
+    def __init__(self, it: Named, store: str, job: Job | None, contents: Contents = Contents(),
                  file: int = -1) -> None:
-        super().__init__(it.name, told.process.pid if told.process else 0)
-        self.it, self.job, self.told, self.file = it, job, told, file
+        super().__init__(it.name, contents.process.pid if contents.process else 0)
+        self.it, self.job, self.contents, self.file = it, job, contents, file
         self.record = it if file >= 0 else None
         self.tried = Tried(store, base_of(it.group), it.key, it.number)
         self.counts = False  # whether its end is that of its command in this night
@@ -63,11 +63,12 @@ class Leftover(Running):
         if self.file >= 0 and not try_lock(self.file):
             return True
         if self.file >= 0:
-            self.told = told_by(self.it, self.file)
+            self.contents = contents_of(self.it, self.file)
             os.close(self.file)
             self.file = -1
             return False
-        return self.record is None and self.told.process is not None and lives(self.told.process)
+        process = self.contents.process
+        return self.record is None and process is not None and lives(process)
 
     @property
     def is_here(self) -> bool:
@@ -76,7 +77,7 @@ class Leftover(Running):
 
     def has_orphans(self) -> bool:
         """Whether its shell has gone, and something of its group hasn't that may not live on."""
-        process = self.told.process
+        process = self.contents.process
         may_leave = self.job is not None and self.job.keeps and self.stopped is None
         if process is None or may_leave or process.boot != boot() or self.has_shell() \
                 or not session_exists(self.pid):
@@ -88,7 +89,7 @@ class Leftover(Running):
 
     def is_there(self) -> bool:
         """Whether it still runs, here or elsewhere. What its client's status 0 says is so."""
-        ended = self.told.ended
+        ended = self.contents.ended
         is_ok = ended is not None and not ended.status and self.stopped is None
         return self.is_here or self.elsewhere is not None and not is_ok \
             and not self.elsewhere.is_over()
@@ -106,15 +107,15 @@ class Leftover(Running):
 
     def is_in_sight(self) -> bool:
         """Whether the process that its file names is to be seen here, and still the same."""
-        return self.told.process is not None and lives(self.told.process)
+        return self.contents.process is not None and lives(self.contents.process)
 
     def began(self, log: Log) -> float | None:
         """When its command began, if that lives, or is known to have ended; as the log says it, if
         it does."""
-        said = log.began((self.it.group, self.it.key, self.it.number))
-        if said is not None:
-            return said
-        ended, process = self.told.ended, self.told.process
+        logged = log.began((self.it.group, self.it.key, self.it.number))
+        if logged is not None:
+            return logged
+        ended, process = self.contents.ended, self.contents.process
         if ended:
             return ended.at - ended.took if ended.took is not None else None
         return time.time() - age(process) if process and self.has_shell() else None
@@ -122,7 +123,7 @@ class Leftover(Running):
     # --- its end
 
     def is_overdue(self) -> bool:
-        process, job = self.told.process, self.job
+        process, job = self.contents.process, self.job
         return job is not None and job.timeout is not None and process is not None \
             and age(process) >= job.timeout and self.has_shell()
 
@@ -147,13 +148,13 @@ class Leftover(Running):
         """Whether it is known how it ended, once nothing of it is there."""
         if self.stopped is not None:
             return self.why is not None
-        return self.told.ended is not None or bool(self.elsewhere and self.elsewhere.end())
+        return self.contents.ended is not None or bool(self.elsewhere and self.elsewhere.end())
 
 
     def adopted(self, job: Job, output: str) -> Command:
         """A command of this driver that has ended as this one did."""
         made = Command(job, self.it.group, self.it.number, -1, "")
-        made.adopt(self.told, self.elsewhere, output)
+        made.adopt(self.contents, self.elsewhere, output)
         made.record, made.stopped, made.why = self.record, self.stopped, self.why
         return made
 
@@ -194,7 +195,7 @@ class Leftovers:
         one counts where its group is one of these, of this night, and its store is this one."""
         its, self.its = self.its, []
         for it in its:
-            since = it.told.since
+            since = it.contents.since
             it.counts = it.record is not None and it.it.group in ours and since is not None \
                 and (since <= state.count or past.is_of_a_store_made_anew)
             is_over = not it.is_here
@@ -284,17 +285,17 @@ def taken(tries: Tries, it: Named, store: str, jobs: Jobs) -> Leftover:
     file, end = tries.open(it), time.monotonic() + PATIENCE
     while True:
         has_gone = try_lock(file)
-        told = told_by(it, file)
-        if has_gone or told.process:
+        contents = contents_of(it, file)
+        if has_gone or contents.process:
             break
         if time.monotonic() >= end:
             raise Fault(f"{tries.folder.shown_of(it.file)} is locked by another program")
         time.sleep(0.005)
-    left = Leftover(it, store, jobs.all.get(it.name), told, file)
+    left = Leftover(it, store, jobs.all.get(it.name), contents, file)
     if has_gone:
         left.has_shell()  # (which closes its file: there may be many)
-    if told.is_stopped:
-        left.stop(told.why)
+    if contents.is_stopped:
+        left.stop(contents.why)
     return left
 
 
@@ -321,7 +322,7 @@ def of_an_older_driver(files: Files, jobs: Jobs) -> Iterator[Leftover]:
         named = Named(name[0], name[1], int(name[2]))
         if name[0] != OF_ALL and process.pid > NO_COMMAND and lives(process):
             found.append(Leftover(named, files.path, jobs.all.get(named.name),
-                                  Told(process=process)))
+                                  Contents(process=process)))
     if not found:
         files.remove(Part.PIDS)
     yield from found

@@ -44,25 +44,25 @@ class Lock:
         self.own = -1
         self.strange_since: float | None = None
 
-    def said(self) -> str:
+    def text(self) -> str:
         with contextlib.suppress(OSError):
             return self.files.read(Part.LOCK).decode("ascii", "replace")
         return ""
 
     def size(self) -> int:
         """How many bytes the store had when a driver had it last, or 0 where nothing says it."""
-        found = SIZE.search(self.said())
+        found = SIZE.search(self.text())
         return int(found[1]) if found else 0
 
     def named(self) -> Process | None:
         """The process that the file names, if it lives."""
-        found = HOLDER.search(self.said())
+        found = HOLDER.search(self.text())
         named = Process(found[1], int(found[2]), int(found[3])) if found else None
         return named if named and lives(named) else None
 
     def holder(self) -> Process | None:
         """The driver that runs, as far as its line and the system say."""
-        return None if A_CANCEL in self.said().splitlines() else self.named()
+        return None if A_CANCEL in self.text().splitlines() else self.named()
 
     def take(self) -> bool:
         """Takes the store for this driver; False where another one has it."""
@@ -70,7 +70,7 @@ class Lock:
         driver_since = began  # since when no cancel is seen to have it
         while not self.take_now():
             now = time.monotonic()
-            if A_CANCEL in self.said().splitlines() or self.strange_since is not None:
+            if A_CANCEL in self.text().splitlines() or self.strange_since is not None:
                 driver_since = now
             if now >= driver_since + PATIENCE or now >= began + OF_CANCELS:
                 return False
@@ -90,7 +90,7 @@ class Lock:
         if file is None:
             self.look_for_strangers()
             return False
-        if os.fstat(file).st_size > MOST or not OURS.match(self.said()):
+        if os.fstat(file).st_size > MOST or not OURS.match(self.text()):
             os.close(file)
             raise Fault(f"{self.files.shown_of(Part.LOCK)} is not night-run's: move it away, or"
                         " choose another name for the store")
@@ -106,7 +106,7 @@ class Lock:
             self.strange_since = time.monotonic()
         elif time.monotonic() >= self.strange_since + PATIENCE:
             self.strange_since = None
-            self.files.put(Part.LOCK, self.said().encode())
+            self.files.put(Part.LOCK, self.text().encode())
 
     def sign(self, as_what: str = "") -> None:
         """Writes who has the lock, and the store's size."""

@@ -513,7 +513,7 @@ class Driver:
         self.left.its = self.left.its if is_asked else []
         while True:
             for it in [it for it in self.commands.values() if it.poll(self.grace)]:
-                self.facts.unsay(it.name)  # (its end isn't acked)
+                self.facts.take_back(it.name)  # (its end isn't acked)
                 self.forget(it)
             self.commands = {name: it for name, it in self.commands.items() if it.has_begun}
             self.left.its = [it for it in self.left.there() if not it.is_late(self.grace)]

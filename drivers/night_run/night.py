@@ -52,19 +52,19 @@ class NightEnded(Exception):
     """A run of `night` has ended, with a status below 0 if a signal ended it, and with this on
     standard error."""
 
-    def __init__(self, status: int, told: str = "") -> None:
+    def __init__(self, status: int, errors: str = "") -> None:
         super().__init__(status)
-        self.status, self.told = status, told
+        self.status, self.errors = status, errors
 
     def is_in_use(self) -> bool:
         """Whether another program had the store, even an `inspect` that reads it for a moment."""
-        return "in use by another program" in self.told
+        return "in use by another program" in self.errors
 
     def __str__(self) -> str:
-        told = "; ".join(it.removeprefix("night: ") for it in self.told.splitlines())
+        why = "; ".join(it.removeprefix("night: ") for it in self.errors.splitlines())
         how = f"ended with status {self.status}" if self.status >= 0 else \
             f"was ended by signal {-self.status} ({signal.strsignal(-self.status)})"
-        return f"{told}; `night` {how}".removeprefix("; ")
+        return f"{why}; `night` {how}".removeprefix("; ")
 
 
 class SessionFull(Exception):
@@ -94,13 +94,13 @@ def ran(*words: str, seconds: float = WHOLE_SECONDS,
                                   errors="replace", stdout=subprocess.PIPE, stderr=subprocess.PIPE,
                                   start_new_session=True)
         try:
-            printed, told = communicated(it, seconds, meanwhile)
+            printed, errors = communicated(it, seconds, meanwhile)
         except subprocess.TimeoutExpired:
             kill(it, words[-1])
             raise NightEnded(-signal.SIGKILL, f"no end within {seconds:.0f} s") from None
         if not it.returncode:
             return printed
-        ended = NightEnded(it.returncode, told)
+        ended = NightEnded(it.returncode, errors)
         was_killed = it.returncode < 0 and words[0] == "inspect"
         if not (ended.is_in_use() or was_killed) or busy == MOST_BUSY - 1:
             break
@@ -164,7 +164,7 @@ class Session:
                 stderr=subprocess.PIPE, bufsize=0, start_new_session=True,
                 env={**os.environ, **of_session(store).environment()})
         assert self.it.stdin and self.it.stdout and self.it.stderr
-        self.lines, self.replies, self.told = self.it.stdin, self.it.stdout, self.it.stderr
+        self.lines, self.replies, self.errors = self.it.stdin, self.it.stdout, self.it.stderr
         os.set_blocking(self.replies.fileno(), False)
         self.poll = select.poll()
         self.poll.register(self.replies, select.POLLIN)
@@ -243,10 +243,10 @@ class Session:
             if not self.outlasts():
                 raise NightEnded(-signal.SIGKILL, f"no end within {SECONDS:.0f} s")
             return self.close()
-        told = self.told.read().decode("utf-8", "replace")
+        errors = self.errors.read().decode("utf-8", "replace")
         self.free()
         if status:
-            raise NightEnded(status, told)
+            raise NightEnded(status, errors)
 
     def abandon(self) -> None:
         """Ends it in whatever state it is, because its `night` has the store's lock."""
@@ -275,6 +275,6 @@ class Session:
         self.free()
 
     def free(self) -> None:
-        for it in (self.lines, self.replies, self.told):
+        for it in (self.lines, self.replies, self.errors):
             with contextlib.suppress(OSError):
                 it.close()

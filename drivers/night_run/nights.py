@@ -16,7 +16,7 @@ from dataclasses import dataclass, field
 
 from .beside import Part
 from .files import Files
-from .telling import note_once, told_of
+from .telling import error_text, note_once
 
 MOMENT = r"([0-9]{1,12}(?:\.[0-9]{1,3})?)"
 NIGHT = re.compile(rf"night ([0-9]{{1,9}}) round ([0-9]{{1,9}}) begun {MOMENT} last (?:{MOMENT}|-)")
@@ -83,4 +83,4 @@ def write_nights(files: Files, nights: Nights) -> None:
     try:
         files.put(Part.NIGHTS, nights.text().encode("ascii"))
     except OSError as error:
-        note_once(told_of(error))
+        note_once(error_text(error))

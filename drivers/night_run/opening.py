@@ -136,7 +136,7 @@ class Maker:
         scope = self.book.scopes[base] = self.scope(name, self.below(), base)
         own, of_all = (str(its.deadline) if its and its.deadline else None for its in (
             self.jobs.groups.get(base), self.jobs.groups[OF_ALL]))
-        self.book.say(base, scope, own, of_all)
+        self.book.set_deadline(base, scope, own, of_all)
         self.book.gone.pop(base, None)
         self.book.groups.pop(base, None)
 
@@ -180,11 +180,11 @@ class Maker:
 def deadline_changed(state: State, scope: Scope, wanted: Deadline | None) -> bool:
     if scope.name not in state.by_name:
         return False
-    said = state.said(scope.name)
-    if said is None and state.has_own_deadline(scope.number):
+    written = state.deadline_words(scope.name)
+    if written is None and state.has_own_deadline(scope.number):
         # (of an older driver, which didn't keep the words)
         return wanted is None
-    return (str(wanted) if wanted else None) != said
+    return (str(wanted) if wanted else None) != written
 
 
 def set_limits(session: Session, book: Book, jobs: Jobs, bases: Iterable[str]) -> None:

@@ -36,8 +36,8 @@ class Choice:
 
 
 class Planner:
-    """The decisions over one file of commands. It keeps the process. If it can't be told a change,
-    such as that a group is no longer done, the process is started again."""
+    """The decisions over one file of commands. It keeps the process. After a change that can't be
+    written to it, such as that a group is no longer done, it starts another process."""
 
     def __init__(self, jobs: Jobs) -> None:
         self.jobs, self.names = jobs, list(jobs.all)
@@ -63,10 +63,10 @@ class Planner:
         """Nothing is written any more."""
         self.asking = None
         self.facts: Facts | None = None
-        self.told: list[str] = [""] * len(self.names)
+        self.written: list[str] = [""] * len(self.names)
         self.sizes: dict[int, int] = {}
         self.done: set[str] = set()
-        self.running: set[Name] = set()  # what it was told that is busy
+        self.running: set[Name] = set()  # those that were written as busy
         self.busy: set[Name] = set()
         self.held: set[Name] = set()
         self.choice: Choice | None = None
@@ -133,7 +133,7 @@ class Planner:
             status = self.asking.close()
             if status < 0:
                 raise wrong(" ".join(answer))
-            raise NightEnded(status, self.asking.said or f"it answered {' '.join(answer)}")
+            raise NightEnded(status, self.asking.error_text or f"it answered {' '.join(answer)}")
 
     def heard(self, lines: list[str]) -> Answer:
         """The answer to these lines. One that contradicts the facts is a fault: no other try begins
@@ -161,11 +161,11 @@ class Planner:
         self.done |= facts.done.keys()
         for name in names:
             at = self.numbers[name]
-            told = self.fact(facts, self.jobs.all[name], at, held)
-            if told != self.told[at]:
-                lines.append(told)
-                self.told[at] = told
-                is_busy = told.startswith("busy ")
+            line = self.fact(facts, self.jobs.all[name], at, held)
+            if line != self.written[at]:
+                lines.append(line)
+                self.written[at] = line
+                is_busy = line.startswith("busy ")
                 (self.running.add if is_busy else self.running.discard)(name)
         self.facts, self.busy, self.held = facts, set(facts.busy), held
         facts.changed.clear()
@@ -188,7 +188,7 @@ class Planner:
         if name in held and not has_failed and (job.cleans_up or job.group not in facts.done):
             return f"busy {at}"
         count = facts.failures.get(name, 0)
-        moment = self.told_moment(name, facts.failed_at[name])
+        moment = self.moment_of(name, facts.failed_at[name])
         return f"failed {at} {moment} {job.retries + 1 if end.is_canceled else count}"
 
     def has_failed(self, facts: Facts, job: Job, end: End) -> bool:
@@ -197,8 +197,8 @@ class Planner:
         return end.is_canceled or not end.is_ok and facts.failures.get(job.name, 0) > job.retries
 
     def room(self, facts: Facts, most: int) -> list[str]:
-        """The lines for pools that have another size. What has its place though it isn't told as
-        busy makes a pool smaller, and what has none any more makes it larger."""
+        """The lines for pools that have another size. What has its place though it isn't written
+        as busy makes a pool smaller, and what has none any more makes it larger."""
         sizes = {0: most, **{pool: self.jobs.limit(group) or 0
                              for group, pool in self.pools.items()},
                  **{pool: self.jobs.pools[name] for name, pool in self.named.items()}}
@@ -218,7 +218,7 @@ class Planner:
         job = self.jobs.all.get(name)
         return found + [(self.named[pool], amount) for pool, amount in (job.uses if job else ())]
 
-    def clock(self, now: float, is_told: bool) -> list[str]:
+    def clock(self, now: float, has_news: bool) -> list[str]:
         """The line for the moment, if something else is written or a retry is due. If the clock is
         set back, the moment stands still until the clock has caught up. If it is set ahead, as from
         1970, the moment goes on by the longest wait at most, since it has 12 digits."""
@@ -228,12 +228,12 @@ class Planner:
             self.offset = (self.offset or 0) + moment - found
             self.choice = None
         later = self.choice.later if self.choice else None
-        if not is_told and self.choice is not None and (later is None or now < later):
+        if not has_news and self.choice is not None and (later is None or now < later):
             return []
         self.moment = moment
         return [f"now {moment}"]
 
-    def told_moment(self, name: Name, when: float) -> int:
+    def moment_of(self, name: Name, when: float) -> int:
         """How the moment of a failure is written: always as it was written first, even if the
         machine's clock was set since then."""
         if name not in self.failed_at or self.failed_at[name][0] != when:

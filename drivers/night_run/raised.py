@@ -29,8 +29,8 @@ class Alarm:
 def is_given(files: Files, it: Alarm, is_run: bool) -> bool:
     """Whether this one was given, and a command run for it, if one is to be run now."""
     with contextlib.suppress(OSError), contextlib.closing(files.below(Part.TRIES)) as folder:
-        said = folder.read(NAME).decode("ascii", "replace")
-        return it.last is not None and said in (it.line(True), *(() if is_run else (
+        found = folder.read(NAME).decode("ascii", "replace")
+        return it.last is not None and found in (it.line(True), *(() if is_run else (
             it.line(False),)))
     return False
 

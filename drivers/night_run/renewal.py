@@ -26,7 +26,7 @@ from .past import Past, write_past
 from .planner import Planner
 from .rounds import base_of, named
 from .state import ENDED, State
-from .telling import note, tell, told_of
+from .telling import error_text, note, tell
 
 
 def renew(files: Files, log: Log, past: Past, planner: Planner, wake: int,
@@ -38,12 +38,12 @@ def renew(files: Files, log: Log, past: Past, planner: Planner, wake: int,
             advance(session, now_of(state))
             past = keep(files, log, past, planner.jobs, state, state.count)
             give_back(session, state, past.night, needed(log, past, planner, state))
-        said = ran("renew", "--in-place", files.path, seconds=RENEWAL_SECONDS,
+        printed = ran("renew", "--in-place", files.path, seconds=RENEWAL_SECONDS,
                    meanwhile=meanwhile).rstrip("\n")
-        note(f"{files.shown}: {said}")
+        note(f"{files.shown}: {printed}")
         return past, True
     except (Fault, NightEnded, OSError) as fault:
-        why = told_of(fault) if isinstance(fault, OSError) else fault
+        why = error_text(fault) if isinstance(fault, OSError) else fault
         tell(f"{files.shown} is nearly full, and can't be renewed, so it is used as it is: {why}")
         return past, False
 

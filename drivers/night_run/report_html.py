@@ -14,8 +14,8 @@ from collections.abc import Iterator
 from .escapes import plain
 from .report_axis import Axis
 from .report_style import STYLE
-from .report_words import (by_group, clock, commands, counts, facts, kind_of, line_shown, moment,
-                           of_all, span, told, tries_told, verdict, when_told, why_done)
+from .report_words import (by_group, clock, commands, counts, facts, in_words, kind_of, line_shown,
+                           moment, of_all, period, span, tries_in_words, verdict, why_done)
 from .rows import Group, Report, Row, Try
 
 SIGNS = {"good": "\u2713", "bad": "\u2717", "open": "\u25d1", "busy": "\u25b6"}
@@ -37,9 +37,9 @@ def inside(part: str) -> str:
 
 def tag(name: str, *parts: str, **attributes: str) -> Html:
     """An element. An attribute's name may have a `_` at its end, and `_` in it stands for `-`."""
-    said = "".join(f' {key.rstrip("_").replace("_", "-")}="{escaping.escape(plain(value))}"'
+    given = "".join(f' {key.rstrip("_").replace("_", "-")}="{escaping.escape(plain(value))}"'
                    for key, value in attributes.items())
-    return Html(f"<{name}{said}>{''.join(map(inside, parts))}</{name}>")
+    return Html(f"<{name}{given}>{''.join(map(inside, parts))}</{name}>")
 
 
 def html(report: Report) -> str:
@@ -60,13 +60,13 @@ def html(report: Report) -> str:
 def banner(report: Report) -> Html:
     kind, words = verdict(report)
     found = counts(report.rows)
-    said = [told(found)] if len(found) > 1 else []
-    said.append(f"{report.store}, night {report.night}, {when_told(report)}")
+    below = [in_words(found)] if len(found) > 1 else []
+    below.append(f"{report.store}, night {report.night}, {period(report)}")
     whole = of_all(report)
     if whole:
-        said += [f"all groups: {it}" for it in (*facts(whole), *why_done(whole))]
+        below += [f"all groups: {it}" for it in (*facts(whole), *why_done(whole))]
     return tag("header", tag("div", tag("span", SIGNS[kind], class_="sign", aria_hidden="true"),
-                             tag("div", tag("h1", words), *(tag("p", it) for it in said))),
+                             tag("div", tag("h1", words), *(tag("p", it) for it in below))),
                class_=f"verdict {kind}")
 
 
@@ -85,7 +85,7 @@ def failures(report: Report) -> Iterator[Html]:
 
 def failure(row: Row) -> Html:
     parts = [tag("div", tag("h3", f"{row.group} {row.key}"), tag("b", row.end, class_="why"),
-                 tag("span", tries_told(row), class_="soft"), class_="head"),
+                 tag("span", tries_in_words(row), class_="soft"), class_="head"),
              tag("p", tag("code", f"$ {line_shown(row.command)}"))]
     if row.tail:
         parts.append(tag("pre", Html("\n".join(inside(line_shown(it)) for it in row.tail))))
@@ -118,10 +118,10 @@ def groups(report: Report, axis: Axis) -> Iterator[Html]:
     yield tag("section", bar(report.rows), legend(report.rows), class_="card")
     whole = of_all(report)
     for group, rows in by_group(report):
-        said = [*(tag("span", it, class_="soft") for it in facts(group, whole)),
+        about = [*(tag("span", it, class_="soft") for it in facts(group, whole)),
                 *(tag("span", it, class_="why") for it in why_done(group))]
-        yield tag("section", tag("div", tag("h3", group.name), tag("span", told(counts(rows))),
-                                 *said, class_="head"),
+        yield tag("section", tag("div", tag("h3", group.name), tag("span", in_words(counts(rows))),
+                                 *about, class_="head"),
                   bar(rows), times(report, group, rows, axis), class_="card group")
 
 
@@ -134,7 +134,7 @@ def bar(rows: collections.abc.Sequence[Row]) -> Html:
     found = counts(rows)
     parts = [tag("span", class_=phase_class(phase), style=f"flex:{count}",
                  title=f"{count} {phase}") for phase, count in found.items()]
-    return tag("div", *parts, class_="bar", role="img", aria_label=told(found))
+    return tag("div", *parts, class_="bar", role="img", aria_label=in_words(found))
 
 
 def legend(rows: collections.abc.Sequence[Row]) -> Html:
@@ -160,7 +160,7 @@ def line(report: Report, group: Group, row: Row, axis: Axis) -> Html:
         parts.append(tag("span", class_="deadline", title="deadline",
                          style=f"left:{axis.at(group.deadline):.2f}%"))
     return tag("div", tag("span", row.key, class_="key"), tag("div", *parts, class_="track"),
-               tag("span", said_of(row), class_="said"), class_="time")
+               tag("span", end_shown(row), class_="said"), class_="time")
 
 
 def tried(it: Try, now: float, axis: Axis) -> Iterator[Html]:
@@ -169,12 +169,12 @@ def tried(it: Try, now: float, axis: Axis) -> Iterator[Html]:
         return
     took = now - it.began if it.took is None else it.took
     left, right = axis.at(it.began), axis.at(it.began + took)
-    said = f"try {it.number}: {clock(it.began)}, {span(took)}, {it.end or 'running'}"
-    yield tag("span", class_=phase_class(kind_of(it)), title=said,
+    title = f"try {it.number}: {clock(it.began)}, {span(took)}, {it.end or 'running'}"
+    yield tag("span", class_=phase_class(kind_of(it)), title=title,
               style=f"left:{left:.2f}%;width:{right - left:.2f}%")
 
 
-def said_of(row: Row) -> str:
+def end_shown(row: Row) -> str:
     """How a command stands, next to its line."""
     again = f", {len(row.tries)} tries" if len(row.tries) > 1 else ""
     if row.phase == "waiting":

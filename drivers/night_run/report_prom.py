@@ -45,8 +45,8 @@ def prom(report: Report) -> str:
         ("command_last_success_timestamp_seconds", "When the command ended ok in this night.",
          [it for labels, row in commands for it in known(labels, success_of(row))]),
     )
-    return "".join(family(f"night_run_{name}", said, samples)
-                   for name, said, samples in families if samples)
+    return "".join(family(f"night_run_{name}", text, samples)
+                   for name, text, samples in families if samples)
 
 
 def known(labels: Labels, value: float | None) -> list[Sample]:
@@ -86,8 +86,8 @@ def duration(row: Row) -> float | None:
     return ended[-1].took if ended else None
 
 
-def family(name: str, said: str, samples: list[Sample]) -> str:
-    lines = [f"# HELP {name} {said}", f"# TYPE {name} gauge"]
+def family(name: str, text: str, samples: list[Sample]) -> str:
+    lines = [f"# HELP {name} {text}", f"# TYPE {name} gauge"]
     for labels, value in samples:
         shown = ",".join(f'{key}="{label(it)}"' for key, it in labels.items())
         lines.append(f"{name}{{{shown}}} {number(value)}")

@@ -10,8 +10,8 @@ import textwrap
 from collections.abc import Iterator
 
 from .escapes import plain
-from .report_words import (by_group, counts, facts, line_shown, of_all, told, tries_told, verdict,
-                           when_told, why_done)
+from .report_words import (by_group, counts, facts, in_words, line_shown, of_all, period,
+                           tries_in_words, verdict, why_done)
 from .rows import Report, Row
 
 COLUMNS = 72
@@ -28,8 +28,8 @@ def text(report: Report) -> str:
 
 def lines(report: Report) -> Iterator[str]:
     yield from wrapped(verdict(report)[1])
-    yield from wrapped(f"{plain(report.store)}, night {report.night}, {when_told(report)}")
-    yield from wrapped(told(counts(report.rows)))
+    yield from wrapped(f"{plain(report.store)}, night {report.night}, {period(report)}")
+    yield from wrapped(in_words(counts(report.rows)))
     failed = [it for it in report.rows if it.phase == "failed"]
     if failed:
         yield from headed("Failed")
@@ -55,7 +55,7 @@ def named(row: Row) -> str:
 
 def failure(row: Row) -> Iterator[str]:
     """A failure: its end, its tries, its command, its last lines, and the path of all of them."""
-    yield from wrapped(f"{named(row)} ({tries_told(row)})")
+    yield from wrapped(f"{named(row)} ({tries_in_words(row)})")
     yield from wrapped(line_shown(row.command), "  $ ", "    ")
     for it in row.tail:
         yield from wrapped(line_shown(it).expandtabs(), "  | ", "  | ")
@@ -78,12 +78,12 @@ def unlucky(report: Report) -> Iterator[str]:
 
 def groups(report: Report) -> Iterator[str]:
     whole = of_all(report)
-    said = [*facts(whole), *why_done(whole)] if whole else []
-    if said:
-        yield from wrapped(f"all groups: {'; '.join(said)}")
+    its = [*facts(whole), *why_done(whole)] if whole else []
+    if its:
+        yield from wrapped(f"all groups: {'; '.join(its)}")
     for group, rows in by_group(report):
-        said = [told(counts(rows)), *facts(group, whole), *why_done(group)]
-        yield from wrapped(f"{group.name}: {'; '.join(said)}")
+        its = [in_words(counts(rows)), *facts(group, whole), *why_done(group)]
+        yield from wrapped(f"{group.name}: {'; '.join(its)}")
 
 
 def wrapped(line: str, first: str = "", later: str = "  ") -> list[str]:

@@ -36,7 +36,7 @@ def counts(rows: Iterable[Row]) -> dict[str, int]:
     return {phase: found[phase] for phase in PHASES if found[phase]}
 
 
-def told(found: dict[str, int]) -> str:
+def in_words(found: dict[str, int]) -> str:
     """Counts in words, such as `2 ok, 1 failed`."""
     return ", ".join(f"{count} {phase}" for phase, count in found.items()) or "none"
 
@@ -58,8 +58,8 @@ def verdict(report: Report) -> tuple[str, str]:
         return "busy", f"Running: {well} of {total} done"
     if well < total:
         return "open", f"Unfinished: {total - well} of {total} are left"
-    said = f"{commands(total)} ok" if found.get("ok", 0) == total else told(found)
-    return ("good", f"All is well: {said}") if total else ("open", "No commands")
+    shown = f"{commands(total)} ok" if found.get("ok", 0) == total else in_words(found)
+    return ("good", f"All is well: {shown}") if total else ("open", "No commands")
 
 
 def by_group(report: Report) -> list[tuple[Group, list[Row]]]:
@@ -111,7 +111,7 @@ def last_end(rows: Iterable[Row]) -> float | None:
     return max(ends, default=None)
 
 
-def tries_told(row: Row) -> str:
+def tries_in_words(row: Row) -> str:
     """A command's tries in words, such as `3 tries, the last at 03:12:04 for 1h02m`."""
     if not row.tries:
         return "not tried"
@@ -144,7 +144,7 @@ def span(seconds: float) -> str:
     return f"{whole // 3600}h{whole % 3600 // 60:02}m"
 
 
-def when_told(report: Report) -> str:
+def period(report: Report) -> str:
     """From when to when: up to the last end, or up to now if something hasn't ended."""
     is_over = verdict(report)[0] != "busy"
     end = (last_end(report.rows) if is_over else None) or report.now

@@ -71,19 +71,19 @@ class Deadline:
     """A deadline, as the file says it."""
 
     word: str
-    said: str
+    text: str
 
     def moment(self, now: int) -> int:
         """The first whole second at which it has passed, for a group that is made now."""
         if self.word == "within":
-            return now + seconds_of(self.said)
-        if ":" in self.said[:3]:
-            return next_time(datetime.time.fromisoformat(self.said), now)
-        when = datetime.datetime.fromisoformat(re.sub(r"[Zz]$", "+00:00", self.said))
+            return now + seconds_of(self.text)
+        if ":" in self.text[:3]:
+            return next_time(datetime.time.fromisoformat(self.text), now)
+        when = datetime.datetime.fromisoformat(re.sub(r"[Zz]$", "+00:00", self.text))
         return int(when.timestamp())
 
     def __str__(self) -> str:
-        return f"{self.word} {self.said}"
+        return f"{self.word} {self.text}"
 
 
 @dataclass(frozen=True)
@@ -113,7 +113,7 @@ class Settings:
     uses: dict[str, int] = field(default_factory=dict)
     uses_line: int = 0
     timeout: int | None = None
-    timeout_said: str = ""
+    timeout_text: str = ""
     folder: str | None = None
     env: dict[str, str] = field(default_factory=dict)
     stops: bool = False
@@ -267,7 +267,7 @@ class Reader:
     def read_timeout(self) -> None:
         value = self.value("the timeout")
         self.once("timeout", self.its.timeout is not None)
-        self.its.timeout, self.its.timeout_said = seconds_of(value), value
+        self.its.timeout, self.its.timeout_text = seconds_of(value), value
         if not self.its.timeout:
             raise Wrong("a timeout has a second at least")
 

@@ -56,8 +56,8 @@ class Shown:
         if word == "ok":
             return Standing(OK)
         if word in ("failed", "canceled"):
-            told = end or canceled(facts.done.get(name[0], ""))
-            return Standing(CANCELLED if told.is_canceled else FAILED, told.text)
+            cause = end or canceled(facts.done.get(name[0], ""))
+            return Standing(CANCELLED if cause.is_canceled else FAILED, cause.text)
         if word == "given-up":
             return self.never_begun(self.jobs.all[name])
         if end is not None:

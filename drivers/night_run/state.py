@@ -112,10 +112,10 @@ class State:
     def by_name(self) -> dict[str, Scope]:
         return {it.name: it for it in self.scopes}
 
-    def said(self, name: str) -> str | None:
+    def deadline_words(self, name: str) -> str | None:
         """The words with which the file gave a scope its own deadline."""
-        said = self.by_name.get(role_name(name, Role.SAID))
-        return said.value if said else None
+        found = self.by_name.get(role_name(name, Role.SAID))
+        return found.value if found else None
 
     def has_own_deadline(self, number: int) -> bool:
         parent = self.scopes[number].parent

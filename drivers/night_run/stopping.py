@@ -28,14 +28,14 @@ class Stopper:
         if not it.has_begun or it.poll(self.grace) or not (it.is_here or it.is_asked_for):
             return
         if it.is_overdue():
-            self.stop(it, failed(f"timeout {it.job.timeout_said}"))
+            self.stop(it, failed(f"timeout {it.job.timeout_text}"))
         self.press_one(it, cause, cuts_off)
 
     def press_left(self, it: Leftover, end: End | None, cause: str | None, cuts_off: bool) -> None:
         """Ends what an earlier driver left, if it has to; `end` is how its command has ended in
         this night."""
         if it.is_overdue() and it.job:
-            self.stop(it, failed(f"timeout {it.job.timeout_said}"))
+            self.stop(it, failed(f"timeout {it.job.timeout_text}"))
         elif it.has_orphans():
             it.clear(self.grace)
         elif end and end.is_canceled:

@@ -23,7 +23,7 @@ from typing import TYPE_CHECKING
 from .beside import Part, name_of
 from .escapes import plain
 from .lock import OTHERS, PATIENCE, try_lock
-from .telling import note_once, told_of
+from .telling import error_text, note_once
 
 if TYPE_CHECKING:
     from .files import Files
@@ -67,7 +67,7 @@ def replace(files: Files) -> None:
                 files.forget_pages()  # (after a failed sync they may be more than the disk has)
                 files.put(Part.STORE, whole(file), lambda: has_lease(file))
     except OSError as error:
-        note_once(told_of(error))
+        note_once(error_text(error))
     finally:
         os.close(file)
 

@@ -29,7 +29,7 @@ def kind_of(phase: str) -> str:
     return phase if phase in KINDS else "left"
 
 
-def said(row: rows.Row) -> str:
+def how_it_stands(row: rows.Row) -> str:
     """How a command stands, in one line."""
     if row.phase in (NEVER, NOT_NEEDED):
         return f"{row.phase}, because {row.end}"
@@ -46,7 +46,7 @@ def retry(end: str) -> str:
 
 
 def list_lines(report: rows.Report) -> list[str]:
-    return [f"{it.group} {it.key}: {said(it)}" for it in report.rows if it.phase != OK]
+    return [f"{it.group} {it.key}: {how_it_stands(it)}" for it in report.rows if it.phase != OK]
 
 
 def failures(report: rows.Report) -> list[str]:
@@ -56,7 +56,8 @@ def failures(report: rows.Report) -> list[str]:
         if it.phase in WELL:
             continue
         is_shown = it.output and it.phase in (FAILED, CANCELLED)
-        lines.append(f"{it.group} {it.key}: {said(it)}" + (f"; {it.output}" if is_shown else ""))
+        where = f"; {it.output}" if is_shown else ""
+        lines.append(f"{it.group} {it.key}: {how_it_stands(it)}{where}")
         lines += [f"    {plain(line)}" for line in (it.tail if is_shown else ())]
     return lines
 
@@ -72,8 +73,8 @@ def changed(jobs: Jobs, report: rows.Report, lines: Mapping[Tried, Line]) -> lis
 
 def total(report: rows.Report, ran_now: int) -> str:
     found = collections.Counter(kind_of(it.phase) for it in report.rows)
-    told = ", ".join(f"{found[it]} {it}" for it in KINDS if found[it])
-    return f"{commands(len(report.rows))}: {told or 'none'}; {ran_now} run this time"
+    shown = ", ".join(f"{found[it]} {it}" for it in KINDS if found[it])
+    return f"{commands(len(report.rows))}: {shown or 'none'}; {ran_now} run this time"
 
 
 def nothing_to_do(report: rows.Report, when: str) -> str:

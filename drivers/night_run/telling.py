@@ -59,7 +59,7 @@ def tell_once(text: str) -> None:
         tell(text)
 
 
-def told_of(error: OSError) -> str:
+def error_text(error: OSError) -> str:
     """An error of the system, with the file that it is about."""
     return f"{error.filename}: {why(error)}" if error.filename else why(error)
 

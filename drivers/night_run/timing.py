@@ -36,7 +36,7 @@ class Deadlines:
                 self.clock = now
                 batch.add(f"advance {now}")
         for group, scope in passed:
-            facts.cancel(group, said(book, group))
+            facts.cancel(group, deadline_words(book, group))
             batch.add(f"scope {scope.name}", partial(take_cause, facts, group))
         return bool(passed)
 
@@ -70,10 +70,10 @@ def cause_of(book: Book, facts: Facts, group: str, now: float) -> str | None:
     scope = book.scopes.get(group)
     cause = facts.done.get(group)
     if cause is None and scope and scope.deadline is not None and scope.deadline <= now:
-        return said(book, group)
+        return deadline_words(book, group)
     return cause
 
 
-def said(book: Book, group: str) -> str:
+def deadline_words(book: Book, group: str) -> str:
     """A group's deadline, as the file of commands has it."""
-    return book.said.get(group, PASSED)
+    return book.deadlines.get(group, PASSED)

@@ -22,6 +22,7 @@ from __future__ import annotations
 import contextlib
 import os
 import re
+import time
 from collections.abc import Iterator
 from dataclasses import dataclass
 
@@ -32,7 +33,7 @@ from .files import Files
 from .lock import try_lock
 from .processes import PID, START, Process, lives, this_process
 from .rounds import base_of
-from .telling import note_once, told_of
+from .telling import error_text, note_once
 
 # How many bytes the lines of the driver and of the shell have.
 HALF = 512
@@ -76,7 +77,7 @@ class Ended:
 
 
 @dataclass(frozen=True)
-class Told:
+class Contents:
     """The contents of the file of a try. One that can't be read says nothing."""
 
     since: int | None = None  # how many events the store had; None where its end doesn't count
@@ -97,15 +98,15 @@ def head_of(it: Named, since: int | None, stopped: str = "") -> bytes:
     return text.encode("ascii", "replace").ljust(HALF, b"\n")
 
 
-def said(it: Named, data: bytes, changed: float) -> Told:
+def parsed(it: Named, data: bytes, changed: float) -> Contents:
     """What these bytes say of a try, in a file that was last changed at this moment."""
     ours = lines_of(data[:HALF])
     head = next((found for found in map(HEAD.fullmatch, ours) if found), None)
     if head is None or Named(head[1], head[2], int(head[3])) != it:
-        return Told()
+        return Contents()
     stopped = next((found[1] for found in map(STOPPED.fullmatch, ours) if found), None)
     before, process, after = parted(lines_of(data[HALF:2 * HALF]))
-    return Told(int(head[4]) if head[4] != NOT_COUNTED else None, stopped is not None,
+    return Contents(int(head[4]) if head[4] != NOT_COUNTED else None, stopped is not None,
                 read_end(stopped) if stopped and stopped != CUT_OFF else None, process,
                 ended_by(process, after, changed) if process else None,
                 data[2 * HALF:].decode("utf-8", "surrogateescape"), " ".join(before)[:200])
@@ -182,15 +183,15 @@ class Tries:
     def open(self, it: Named) -> int:
         return self.folder.open(it.file, os.O_RDWR)
 
-    def told(self, it: Named) -> Told | None:
+    def contents(self, it: Named) -> Contents | None:
         """What the file says now; None where it can't be read."""
         try:
             file = self.open(it)
         except OSError as error:
-            note_once(told_of(error))
+            note_once(error_text(error))
             return None
         try:
-            return told_by(it, file)
+            return contents_of(it, file)
         finally:
             os.close(file)
 
@@ -208,13 +209,13 @@ class Tries:
         try:
             file = self.open(it)
             try:
-                since = told_by(it, file).since if counts else None
+                since = contents_of(it, file).since if counts else None
                 with self.folder.named(it.file):
                     os.pwrite(file, head_of(it, since, stopped), 0)
             finally:
                 os.close(file)
         except OSError as error:
-            note_once(told_of(error))
+            note_once(error_text(error))
 
     def forget(self, it: Named) -> None:
         """Removes the file of a try whose end is recorded, or doesn't count."""
@@ -255,12 +256,12 @@ class Tries:
         except NotOurs:
             raise
         except OSError as error:
-            note_once(told_of(error))
+            note_once(error_text(error))
 
 
-def told_by(it: Named, file: int) -> Told:
+def contents_of(it: Named, file: int) -> Contents:
     found = os.fstat(file)
-    return said(it, os.pread(file, found.st_size, 0), found.st_mtime)
+    return parsed(it, os.pread(file, found.st_size, 0), found.st_mtime)
 
 
 def running_now(files: Files) -> set[Name]:
@@ -276,7 +277,7 @@ def running_now(files: Files) -> set[Name]:
 
 def runs(folder: Folder, it: Named) -> bool:
     with contextlib.suppress(OSError):
-        process = said(it, folder.read(it.file), 0.0).process
+        process = parsed(it, folder.read(it.file), 0.0).process
         return process is not None and lives(process)
     return False
 

@@ -4,8 +4,8 @@ from __future__ import annotations
 
 import os
 import time
-from collections.abc import Mapping
-from dataclasses import dataclass, replace
+from collections.abc import Iterable, Mapping
+from dataclasses import dataclass, field, replace
 
 from . import Name, rows
 from .ends import INTERRUPTED
@@ -106,10 +106,10 @@ def remembered(files: Files, jobs: Jobs, night: int, known: Mapping[Name, Standi
 def without_past(files: Files, planner: Planner, why: str) -> rows.Report:
     """A night as the store alone has it: of what it says nothing of, nothing is known."""
     view = look(files, planner, Past())
-    said = {*view.facts.ends, *view.facts.interrupted, *view.facts.busy}
+    known = {*view.facts.ends, *view.facts.interrupted, *view.facts.busy}
     made = report(files, planner.jobs, view)
     return replace(made, rows=tuple(
-        it if (it.group, it.key) in said else replace(it, phase=NOT_KNOWN, end=why)
+        it if (it.group, it.key) in known else replace(it, phase=NOT_KNOWN, end=why)
         for it in made.rows))
 
 

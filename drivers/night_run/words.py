@@ -328,7 +328,7 @@ def shown(files: Files, planner: Planner, words: argparse.Namespace) -> list[str
 
 def wish_of(words: argparse.Namespace) -> Wish:
     its = {Wish.FAILED: words.failed, Wish.AGAIN: words.again, Wish.NIGHTLY: words.nightly}
-    return next((wish for wish, is_said in its.items() if is_said), Wish.REST)
+    return next((wish for wish, is_given in its.items() if is_given), Wish.REST)
 
 
 def as_json(row: rows.Row) -> dict[str, object]:
@@ -402,11 +402,11 @@ class Run:
         if isinstance(error, NightEnded) and error.is_in_use():
             # (nothing of this run is to be printed)
             return self.rest.before(dataclasses.replace(
-                it, told=(*it.told, *strangers.holders(self.files))))
+                it, errors=(*it.errors, *strangers.holders(self.files))))
         try:
             made = self.known() if self.is_alone else None
         except Exception as another:  # (that nobody foresaw either)
-            return dataclasses.replace(it, told=(*it.told, exits.said_of(another)))
+            return dataclasses.replace(it, errors=(*it.errors, exits.why_ended(another)))
         if made is None:
             return self.rest.before(it)
         ran = len(self.driver.ran) if self.driver else 0
@@ -512,14 +512,14 @@ class Run:
         driver.left.settle(state, self.past, ours)
         self.tell_missing(facts.interrupted)
         has_work = not is_over or driver.begins_night or self.rest.is_due or bool(
-            driver.forgiven or driver.left) or not has_mark and self.is_unsaid(book, facts)
+            driver.forgiven or driver.left) or not has_mark and self.has_unwritten_end(book, facts)
         if has_work:
             driver.before = self.renewed(driver, state)
         return has_work
 
-    def is_unsaid(self, book: Book, facts: Facts) -> bool:
-        """Whether a deadline has passed over something that is left, and the store has yet to be
-        told."""
+    def has_unwritten_end(self, book: Book, facts: Facts) -> bool:
+        """Whether a deadline has passed over something that is left, and the store doesn't
+        have it yet."""
         return any(group in facts.done and not scope.done and any(
             it not in facts.ends for it in self.jobs.members.get(group, ()))
             for group, scope in book.scopes.items())
