@@ -1,0 +1,176 @@
+"""Whole nights that are attacked: drivers of one store that begin at the same moment, a clock that
+is set ahead and back, and runs of `night`, `night plan` above all, that are killed at random.
+
+A night under attack goes on, or ends with a reason on standard error. The next one finishes it, and
+no command that ended well begins again.
+"""
+
+from __future__ import annotations
+
+import collections
+import contextlib
+import os
+import random
+import re
+import signal
+import subprocess
+import time
+
+from driver_room import Room, Shared, children, hit, job, kill, name_of, nights_in
+from running import bytes_of
+
+IN_USE = re.compile(r"night-run: s: in use by another night-run.*\n")
+YEAR = 365 * 86_400
+# How far the clock is set, in seconds: for some of them the store's own clock is ahead afterwards.
+CLOCKS = (0, -3600, 3600, -400 * 86_400, YEAR, 32 * YEAR)
+
+
+def finishes(room: Room, kind: str, again: tuple[str, ...] = ()) -> None:
+    """A night with nothing in its way ends all commands well. None of them has begun twice, but for
+    these."""
+    tries = room.tries
+    every = {name_of(it) for it in room.jobs if ":" not in it.split()[0]}
+    status, last = room.last()
+    tries.holds(f"{kind}: the next one finishes", room.path, status == 0 and (
+        f"{len(every)} ok;" in last or f"{len(every)} commands ended" in last),
+        (status, last, room.errors))
+    counts = collections.Counter(room.lines("done"))
+    tries.is_same(f"{kind}: each ended once", room.path,
+                  {it for it in every if counts[it] != 1 and it not in again}, set())
+    begun = room.begun()
+    tries.is_same(f"{kind}: none began twice", room.path,
+                  {it: begun[it] for it in begun if begun[it] != 1 and it not in again}, {})
+
+
+def plans_in(parent: int) -> list[int]:
+    """The runs of `night plan` of a driver."""
+    found = []
+    for it in nights_in(children(parent)):
+        with contextlib.suppress(OSError):
+            found += [it] if b"\0plan\0" in bytes_of(f"/proc/{it}/cmdline") else []
+    return found
+
+
+# --- two at once
+
+def two_at_once(tries: Shared) -> None:
+    """Drivers that begin at the same moment: one has the store, and the others wait for it, or say
+    that it is in use. The store is new, or a killed night has left it."""
+    dice, kind = random.Random(), "drivers at once"
+    statuses = collections.Counter[int | str]()
+    for at in range(8 if tries.is_short else 60):
+        jobs = [job("g", f"k{it}", dice.choice((0, 0.02, 0.1))) for it in range(10)]
+        room = Room(tries, [*jobs, "g: limit 3", *([job("h", "long", 5)] if at % 4 == 3 else [])])
+        if at % 2:
+            run = room.start()
+            time.sleep(dice.uniform(0.2, 0.8))
+            hit(run, dice.choice(("driver", "both")))
+            room.ended(run)
+        runs = [room.start(errors=f"errors{it}") for it in range(dice.choice((2, 2, 3)))]
+        for number, run in enumerate(runs):
+            status, _ = room.ended(run, 60, f"errors{number}")
+            statuses[status] += 1
+            tries.holds(f"{kind}: how each ends", room.path, status == 0 or status == 3 and
+                        IN_USE.fullmatch(room.errors), (status, room.errors))
+        finishes(room, kind)
+        room.agrees(kind)
+    tries.holds(f"{kind}: some of them have the store", "", statuses[0] > 0, statuses)
+    tries.holds(f"{kind}: and some don't", "", statuses[3] > 0, statuses)
+
+
+def two_nights_at_once(tries: Shared) -> None:
+    """Drivers that begin the next night at the same moment: each that ends well has run a whole
+    one."""
+    kind, nights = "the next night, begun twice at once", 1
+    room = Room(tries, [job("g", f"k{it}", 0.05) for it in range(6)])
+    tries.is_same(f"{kind}: the first one", room.path, room.run()[0], 0)
+    for _ in range(3 if tries.is_short else 20):
+        runs = [room.start("s", "JOBS", "--nightly", errors=f"errors{it}") for it in range(2)]
+        found = [room.ended(run, 60, f"errors{it}") for it, run in enumerate(runs)]
+        nights += sum(status == 0 for status, _ in found)
+        tries.is_same(kind, [status for status, _ in found], set(room.begun().values()), {nights})
+        tries.holds(f"{kind}: how they end", room.path,
+                    {status for status, _ in found} in ({0}, {0, 3}), found)
+
+
+# --- the clock
+
+def clock_is_set(tries: Shared) -> None:
+    """The clock is set ahead and back amid a night: no command is stopped by that, and a retry
+    waits for seconds. Nor does the next night end by it, whose store has a clock that was ahead."""
+    kind, library = "a clock that is set amid a night", tries.built("nights_clock.c")
+    if not library:
+        tries.skip(kind, "no cc")
+        return
+    dice = random.Random()
+    for _ in range(3 if tries.is_short else 25):
+        jobs = [job("g", f"k{it}", dice.choice((0.1, 0.3))) for it in range(12)]
+        failing = "; [ -e {0} ] || {{ : > {0}; exit 3; }}"
+        jobs += [job("h", f"r{it}", 0.1, failing.format(f"failed{it}")) for it in range(3)]
+        room = Room(tries, ["g: limit 2 timeout 60s", "h: retries 1 wait 1s", *jobs])
+        room.write("clock", "0")
+        room.before = ["env", f"LD_PRELOAD={library}", f"NIGHTS_CLOCK={room.path}/clock"]
+        run = room.start()
+        room.until(lambda room=room: room.lines("begun"))
+        began, its = time.monotonic(), [0]
+        while run.poll() is None and time.monotonic() < began + 60:
+            its.append(dice.choice(CLOCKS))
+            room.write("clock.new", str(its[-1]))
+            os.rename(f"{room.path}/clock.new", f"{room.path}/clock")
+            time.sleep(dice.uniform(0, 0.6))
+        status, output = room.ended(run)
+        tries.is_same(kind, (room.path, its), (status, output.splitlines()[-1:], room.errors), (
+            0, ["15 commands: 15 ok; 15 run this time"], ""))
+        tries.is_same(f"{kind}: retries", (room.path, its), room.begun(), {
+            **{f"g.k{it}": 1 for it in range(12)}, **{f"h.r{it}": 2 for it in range(3)}})
+        for clock in 0, 32 * YEAR, 0:
+            room.write("clock", str(clock))
+            tries.is_same(f"{kind}: the next night", (room.path, its, clock), room.last(
+                "s", "JOBS", "--nightly"), (0, "15 commands: 15 ok; 15 run this time"))
+
+
+# --- kills
+
+def planner_is_killed(tries: Shared) -> None:
+    """`night plan` is killed at random moments of a night, beside `night script`, and the driver.
+    Only the shells of commands live on."""
+    dice, hits = random.Random(), collections.Counter[str]()
+    for _ in range(2 if tries.is_short else 25):
+        kind = "kills of `night plan`"
+        jobs = ["a: limit 3", "c: limit 2 retries 2"]
+        jobs += [job(dice.choice("abbc"), f"k{it}", dice.choice((0, 0.02, 0.1, 0.3)))
+                 for it in range(50)]
+        jobs += ["c: after a"] if dice.random() < 0.5 else []
+        room, who = Room(tries, jobs), ""
+        for _ in range(12):
+            run = room.start()
+            while run.poll() is None and not who.startswith("driver"):
+                time.sleep(dice.uniform(0, 0.25))
+                who = dice.choice(("plan", "plan", "plan", "script", "driver", "driver, plan"))
+                strike(run, who)
+                hits[who] += 1
+            who = ""
+            status, _ = room.ended(run)
+            tries.holds(f"{kind}: it goes on, or ends with a reason", room.path, status in (0, -9)
+                        or status == 3 and re.match("night-run: .+\n", room.errors)
+                        and "Traceback" not in room.errors, (status, room.errors))
+            if status == 0:
+                break
+        tries.holds(f"{kind}: nothing is left", room.path, room.settle(30))
+        finishes(room, kind)
+        room.agrees(kind)
+    print(f"kills of whole nights: {dict(hits)}")
+
+
+def strike(run: subprocess.Popen[str], who: str) -> None:
+    """Kills the planner of a driver, its `night script`, or both the planner and the driver."""
+    plans = plans_in(run.pid)
+    if who == "script":
+        kill([it for it in nights_in(children(run.pid)) if it not in plans])
+    if who.startswith("driver"):
+        kill([run.pid], which=signal.SIGKILL)
+    if who.endswith("plan"):
+        kill(plans)
+
+
+ATTACKS = [planner_is_killed, clock_is_set, two_at_once, two_nights_at_once]
