@@ -496,6 +496,22 @@ def heard_signals(tries: Shared) -> None:
                                                    signals.drain()), (True, True, False))
 
 
-EXITS = [outcomes, heard_signals, white_lines, strange_numbers, nothing_runs, not_printed,
-         commands_left, early_signals, few_files, hung_alarm, stalled_output, begin_and_success,
-         given_alarms, unforeseen, stalled_terminal, writers]
+def ignored_signals(tries: Shared) -> None:
+    """A signal that is ignored as the driver begins stays ignored, as a shell without job control
+    begins a job in the background; another one ends it."""
+    kind, room = "a signal that is ignored from the beginning", Room(
+        tries, ["g a : > begun; until [ -e go ]; do sleep 0.1; done"])
+    room.before = ["sh", "-c", "trap '' INT QUIT; exec \"$@\"", "sh"]
+    run = room.start("s", "JOBS", "--grace", "1")
+    tries.holds(f"{kind}: it runs", room.path, room.until(partial(room.has, "begun")))
+    for which in (signal.SIGINT, signal.SIGINT, signal.SIGQUIT):
+        kill([run.pid], which=which)
+        time.sleep(0.3)
+    tries.is_same(f"{kind}: it runs on", room.path, (run.poll(), room.text("errors")), (None, ""))
+    kill([run.pid], which=signal.SIGTERM)
+    tries.is_same(f"{kind}: SIGTERM", room.path, room.ended(run)[0], 1)
+
+
+EXITS = [outcomes, heard_signals, ignored_signals, white_lines, strange_numbers, nothing_runs,
+         not_printed, commands_left, early_signals, few_files, hung_alarm, stalled_output,
+         begin_and_success, given_alarms, unforeseen, stalled_terminal, writers]

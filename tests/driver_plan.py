@@ -75,6 +75,26 @@ STANDINGS: list[tuple[str, str, dict[str, str], dict[str, str]]] = [
      {"g a": "failed"}),
 ]
 
+# The same; then why a command that never begins doesn't.
+WHYS: list[tuple[str, str, dict[str, str], dict[str, str]]] = [
+    ("after one that a failure canceled", "g: failure cancel\ng a x\ng b x\nh c x\nh c: after g/a"
+     "\nh d x\nh d: after g", {"g b": "exit 3", "g": "exit 3"},
+     {"h c": "g/b failed, and that canceled g/a", "h d": "g/b failed"}),
+    ("after one that a failure stopped", "g: failure cancel\ng a x\ng b x\nh c x"
+     "\nh c: after g/a", {"g a": "canceled: exit 3", "g b": "exit 3", "g": "exit 3"},
+     {"h c": "g/b failed, and that canceled g/a"}),
+    ("after one that was canceled before a failure", "g: failure cancel\ng a x\ng b x\nh c x"
+     "\nh c: after g/a", {"g a": "canceled: why", "g b": "exit 3", "g": "exit 3"},
+     {"h c": "g/a was canceled"}),
+    ("after one of two failures", "g: failure cancel\ng a x\ng b x\ng d x\nh c x"
+     "\nh c: after g/a", {"g b": "exit 4", "g d": "exit 3", "g": "exit 3"},
+     {"h c": "g/d failed, and that canceled g/a"}),
+    ("after one whose group was canceled by hand", "g: failure cancel\ng a x\nh c x"
+     "\nh c: after g/a", {"g": "why"}, {"h c": "g/a was canceled"}),
+    ("after a failure alone", "g a x\nh c x\nh c: after g/a", {"g a": "exit 3"},
+     {"h c": "g/a failed"}),
+]
+
 # The same; then the free places, and what may be begun.
 NEXT: list[tuple[str, str, dict[str, str], int, list[str]]] = [
     ("the first ones", "g a x\ng b x\ng c x", {}, 2, ["g a", "g b"]),
@@ -242,6 +262,8 @@ MISTAKES = [
     ("g: within 2h until 05:30", 1, "g has a deadline already"),
     ("g: limit 2\ng: limit 2", 2, "g has a limit already"),
     ("g: speed 2", 1, "no setting is called 'speed'"),
+    ("g: retry 2", 1, "no setting is called 'retry'; did you mean retries?"),
+    ("g: prioritie 2", 1, "no setting is called 'prioritie'; did you mean priority?"),
     ("g a printf '\0'", 1, "it has a byte 0, as no text does"),
     ("g limit 2", 1, "a setting stands after a colon, as in g: limit 2"),
     ("g until 05:30", 1, "a setting stands after a colon, as in g: until 05:30"),
@@ -376,6 +398,14 @@ def stand(tries: Shared) -> None:
         tries.is_same("how a command stands", what, shown, wanted)
 
 
+def reasons(tries: Shared) -> None:
+    """The reason names the failure, also that of a command which canceled the needed one."""
+    for what, text, ends, wanted in WHYS:
+        found = planner_of(tries, text).standings(facts_of(tries, ends))
+        shown = {it: found[pair(it)].why for it in wanted}
+        tries.is_same("why a command never begins", what, shown, wanted)
+
+
 def next_ones(tries: Shared) -> None:
     for what, text, ends, places, wanted in NEXT:
         facts: Any = facts_of(tries, ends)
@@ -504,5 +534,5 @@ def names(tries: Shared) -> None:
                       (rounds.base_of(name), rounds.round_of(name), True))
 
 
-TABLES = [stand, ends, names, next_ones, retries_wait, retries_wait_on, mistakes,
+TABLES = [stand, reasons, ends, names, next_ones, retries_wait, retries_wait_on, mistakes,
           mistakes_together, moments, repeated_hours, cycles_are_long]

@@ -10,6 +10,7 @@ import signal
 import subprocess
 import time
 
+from driver_plan import driver_module
 from driver_room import (Room, Shared, environments, hit, job, kill, locked,
                          most_at_once)
 
@@ -273,6 +274,39 @@ def cancels(tries: Shared) -> None:
     tries.is_same(f"{kind}: --failed", room.path, (room.last("s", "JOBS", "--failed"),
                                                    "db.crm" in room.lines("done")),
                   ((0, "6 commands: 6 ok; 3 run this time"), True))
+
+
+def cancels_with_a_deadline(tries: Shared) -> None:
+    """The deadline of what is canceled is printed as the reports print it, beside a driver and
+    without one."""
+    for who in "", "driver":
+        kind = f"a cancel of all groups, past {who or 'nobody'}"
+        room = Room(tries, ["night: until 2035-01-01T05:30",
+                            "g a echo g.a >> begun; exec sleep 900"])
+        run = room.start("s", "JOBS", "--grace", "1")
+        room.until(functools.partial(room.lines, "begun"))
+        if who:
+            hit(run, who)
+            room.ended(run)
+        tries.is_same(kind, room.path, (room.run("s", "--cancel", "night", "deadline 5;",
+                                                 errors="errors2")), (
+            0, "night: done; deadline 2035-01-01 05:30; err context canceled; cause deadline 5;\n"))
+        tries.is_same(f"{kind}: its end", room.path,
+                      room.run()[0] if who else room.ended(run)[0], 1)
+
+
+def helps(tries: Shared) -> None:
+    """The help names each setting of all groups, and each setting has a line of its own."""
+    kind, room = "the help", Room(tries, [])
+    status, output = room.run("--help")
+    of_all = re.search(r"^  night: SETTING\.\. +((?:.+\n)(?: {20,}.+\n)*)", output, re.M)
+    tries.is_same(f"{kind}: all groups together", room.path, (status, [
+        it for it in ("until", "within", "pool", "shell") if of_all and f"{it} " in of_all[1]]),
+        (0, ["until", "within", "pool", "shell"]))
+    settings = driver_module(tries, "settings")
+    missing = [it for it in (*settings.WORDS, *settings.LATER, "until", "within")
+               if not re.search(rf"^  (?:\w.*, )?{it} ", output, re.M)]
+    tries.is_same(f"{kind}: each setting", room.path, missing, [])
 
 
 def cancels_alone(tries: Shared) -> None:
@@ -620,6 +654,6 @@ def on_a_terminal(room: Room) -> str:
     return told.decode()
 
 
-SETTINGS = [cleanups, retries, timeout, places, shells, cancels, cancels_alone, after,
-            stop_on_failure, limits, summaries, views, looks, failed, missed,
-            nightly, astray, keys, terminals]
+SETTINGS = [cleanups, retries, timeout, places, shells, cancels, cancels_alone,
+            cancels_with_a_deadline, helps, after, stop_on_failure, limits, summaries, views, looks,
+            failed, missed, nightly, astray, keys, terminals]

@@ -118,6 +118,29 @@ def counted_once(tries: Shared) -> None:
         room.agrees(kind)
 
 
+def began_then(tries: Shared) -> None:
+    """The list says when a command began that runs, also when it outlived its driver."""
+    kind = "when a command that outlives began"
+    room = Room(tries, ["g a date +%s.%N > moment; " + waiting("g", "a").partition(" a ")[2]])
+    run = room.start("s", "JOBS")
+    room.until(lambda: room.lines("begun"))
+    for what in "beside its driver", "once that is killed", "beside the next one":
+        if what == "once that is killed":
+            hit(run, "both")
+            room.ended(run)
+        if what == "beside the next one":
+            time.sleep(4)
+            run = room.start("s", "JOBS")
+            room.until(lambda: room.lines("s.log")[1:])
+            time.sleep(0.5)
+        its = json.loads(room.run("s", "JOBS", "--list", "--json", errors="listed")[1])[0]["tries"]
+        tries.holds(f"{kind}: {what}", its, len(its) == 1 and its[0]["began"] is not None
+                    and -0.1 < float(room.text("moment")) - its[0]["began"] < 3
+                    and its[0]["took"] is None and not its[0]["end"], room.text("moment"))
+    room.write("go", "")
+    tries.is_same(f"{kind}: its end", room.path, room.ended(run)[0], 0)
+
+
 def outlived_twice(tries: Shared) -> None:
     """Driver and `night` are killed again and again: a command begins once."""
     kind = "it outlives four drivers"
@@ -603,6 +626,6 @@ def renewed_badly(tries: Shared) -> None:
         " a directory\n"))
 
 
-TRIES = [outlived, counted_once, outlived_twice, of_its_shell, passed_meanwhile, many_left, limited,
-         keeps, cut_off, of_others, forged, another_process, given, full_at_first, never_began,
-         ends_on_full_disk, torn_far, renewed_badly]
+TRIES = [outlived, counted_once, began_then, outlived_twice, of_its_shell, passed_meanwhile,
+         many_left, limited, keeps, cut_off, of_others, forged, another_process, given,
+         full_at_first, never_began, ends_on_full_disk, torn_far, renewed_badly]

@@ -11,6 +11,7 @@ from __future__ import annotations
 import contextlib
 import errno
 import os
+import re
 import time
 from collections.abc import Iterator
 from dataclasses import dataclass
@@ -24,6 +25,7 @@ from .night import ALREADY_DONE, FULL, Session, refusal
 from .opening import advance, inspected, now_of, opened, withdraw
 from .past import read_past
 from .planner import Planner
+from .report_words import moment
 from .rounds import Role, base_of, role_name
 from .settings import OF_ALL, Wrong, short
 from .standing import CANCELLED
@@ -36,6 +38,8 @@ BY_HAND = "canceled by hand"
 # How many seconds a driver has to obey.
 SECONDS = 60.0
 LOOK = 0.05
+# How the state of a scope that is done begins, with its deadline in seconds since 1970.
+DEADLINE = re.compile(r"^(done; deadline )([0-9]{1,12});")
 
 
 @dataclass(frozen=True)
@@ -76,7 +80,12 @@ def cancel(files: Files, jobs: str | None, word: str, *words: str) -> str:
     why = " ".join(words) or BY_HAND
     if text_of(why) != why:
         raise Mistake("WHY is 1 to 64 bytes of printable ASCII")
-    return f"{target}: {cancelled(files, jobs, target, why)}"
+    return f"{target}: {with_moment(cancelled(files, jobs, target, why))}"
+
+
+def with_moment(state: str) -> str:
+    """The state of a scope, with the moment of its deadline as the reports show it."""
+    return DEADLINE.sub(lambda it: f"{it[1]}{moment(int(it[2]))};", state)
 
 
 def cancelled(files: Files, jobs: str | None, target: Target, why: str) -> str:
@@ -129,7 +138,7 @@ class Alone:
                           " left to cancel")
         found = self.command(target, why, scope.name) if target.key else \
             self.group(target.group, why, scope.name)
-        for name in sorted(running_now(self.files)):
+        for name in sorted({it.name for it in running_now(self.files)}):
             if name == target.name or not target.key and target.group in (OF_ALL, name[0]):
                 note(f"{' '.join(name)} still runs from the last run; the next one stops it")
         return found

@@ -31,6 +31,7 @@
 from __future__ import annotations
 
 import datetime
+import difflib
 import re
 import shlex
 from collections.abc import Callable
@@ -151,6 +152,12 @@ def short(word: str) -> str:
     return repr(word if len(word) <= MOST_SHOWN else f"{word[:MOST_SHOWN]}..")
 
 
+def like(word: str) -> str:
+    """A question after a setting that is most like this word, if there is one."""
+    its = difflib.get_close_matches(word, (*WORDS, *LATER), 1)
+    return f"; did you mean {its[0]}?" if its else ""
+
+
 class Reader:
     """Reads the words of one line into settings."""
 
@@ -181,7 +188,7 @@ class Reader:
             elif word in read:
                 read[word]()
             else:
-                raise Wrong(f"no setting is called {short(word)}")
+                raise Wrong(f"no setting is called {short(word)}{like(word)}")
 
     def read_limit(self) -> None:
         value = self.value("the limit")

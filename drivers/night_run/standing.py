@@ -85,14 +85,33 @@ class Shown:
             if other is None:
                 return None
             is_needed = other not in self.found or self.found[other].phase != NOT_NEEDED
-            return Standing(NEVER if is_needed else NOT_NEEDED,
-                            f"{'/'.join(other)} {self.never(other)}")
+            return Standing(NEVER if is_needed else NOT_NEEDED, self.reason(other, need))
         its = self.jobs.members[of] if isinstance(of, str) else [of]
         if need.when == "failed" and all(self.words[it] == "ok" or self.is_never(it) and
                                          self.words[it] != "failed" for it in its):
             named = of if isinstance(of, str) else "/".join(of)
             return Standing(NOT_NEEDED, f"{named} didn't fail")
         return None
+
+    def reason(self, other: Name, need: Need) -> str:
+        """Why a command stands as it does, because this other one never begins again."""
+        failed = self.failure_behind(other)
+        if failed is None:
+            return f"{'/'.join(other)} {self.never(other)}"
+        is_of_group = isinstance(need.of, str)
+        return f"{'/'.join(failed)} failed" + (
+            "" if is_of_group else f", and that canceled {'/'.join(other)}")
+
+    def failure_behind(self, name: Name) -> Name | None:
+        """The command whose failure canceled the group of this one, and this one with it."""
+        facts, group = self.facts, name[0]
+        if self.words[name] != "canceled" or not self.jobs.cancels(group):
+            return None
+        end = facts.ends.get(name) or canceled(facts.done.get(group, ""))
+        its = [it for it in self.jobs.members[group] if self.words[it] == "failed"
+               and it in facts.ends and canceled(facts.ends[it].text) == end]
+        its.sort(key=lambda it: facts.failed_at.get(it, 0.0))
+        return its[0] if its else None
 
     def failure(self, group: str) -> Name | None:
         """The first command that has failed of a group that doesn't go on after one."""

@@ -31,7 +31,7 @@ from .beside import Folder, NotOurs, Part, write_all
 from .ends import End, read_end
 from .files import Files
 from .lock import try_lock
-from .processes import PID, START, Process, lives, this_process
+from .processes import PID, START, Process, age, lives, this_process
 from .rounds import base_of
 from .telling import error_text, note_once
 
@@ -264,22 +264,24 @@ def contents_of(it: Named, file: int) -> Contents:
     return parsed(it, os.pread(file, found.st_size, 0), found.st_mtime)
 
 
-def running_now(files: Files) -> set[Name]:
-    """The commands that run at this moment. Nothing is locked or made, and files that can't be read
-    are skipped."""
-    found = set()
+def running_now(files: Files) -> dict[Named, float]:
+    """The tries whose commands run at this moment, and when each began. Nothing is locked or made,
+    and files that can't be read are skipped."""
+    found = {}
     with contextlib.suppress(OSError), contextlib.closing(files.below(Part.TRIES)) as folder:
         for it in map(NAME.fullmatch, folder.names()):
-            if it and runs(folder, Named(it[1], it[2], int(it[3]))):
-                found.add((base_of(it[1]), it[2]))
+            tried = Named(it[1], it[2], int(it[3])) if it else None
+            process = process_in(folder, tried) if tried else None
+            if tried and process and lives(process):
+                found[tried] = time.time() - age(process)
     return found
 
 
-def runs(folder: Folder, it: Named) -> bool:
+def process_in(folder: Folder, it: Named) -> Process | None:
+    """The process that the file of a try names, if it can be read."""
     with contextlib.suppress(OSError):
-        process = parsed(it, folder.read(it.file), 0.0).process
-        return process is not None and lives(process)
-    return False
+        return parsed(it, folder.read(it.file), 0.0).process
+    return None
 
 
 @contextlib.contextmanager

@@ -22,7 +22,7 @@ from .rounds import base_of
 from .settings import OF_ALL
 from .standing import NOT_KNOWN, Standing
 from .state import State
-from .tries import running_now
+from .tries import Named, running_now
 
 # How many of the last lines of an output are shown, out of how many of its last bytes.
 LINES, BYTES = 3, 4096
@@ -39,6 +39,7 @@ class View:
     book: Book
     facts: Facts
     standings: Mapping[Name, Standing]
+    running: Mapping[Named, float] = field(default_factory=dict)  # and when each of them began
 
 
 def look(files: Files, planner: Planner, past: Past | None = None) -> View:
@@ -53,8 +54,9 @@ def look(files: Files, planner: Planner, past: Past | None = None) -> View:
     night = max(state.night() if state.scopes else 1, past.night)
     book = book_of(state, past, night)
     facts = facts_of(state, past, lines, book, time.time(), {})
-    facts.busy = running_in(files, state, book)
-    return View(state, past, lines, book, facts, planner.standings(facts))
+    running = running_now(files)
+    facts.busy = busy_in(files, state, book, running)
+    return View(state, past, lines, book, facts, planner.standings(facts), running)
 
 
 def moment(files: Files) -> tuple[Past, State]:
@@ -66,9 +68,9 @@ def moment(files: Files) -> tuple[Past, State]:
             return past, state
 
 
-def running_in(files: Files, state: State, book: Book) -> set[Name]:
+def busy_in(files: Files, state: State, book: Book, running: Iterable[Named]) -> set[Name]:
     """What runs: tasks that have a driver, and commands that a killed one left."""
-    found = {name for name in running_now(files)
+    found = {name for name in (it.name for it in running)
              if name not in book.last or book.last[name].phase in ("running", "interrupted")}
     holder = files.lock.holder()
     if holder and holder != this_process():
@@ -138,7 +140,7 @@ def tries_of(view: View) -> dict[Name, list[tuple[str, rows.Try]]]:
         if task.group in ours and not task.is_withdrawn and tried not in seen:
             is_running = task.phase == "running" and task.name in view.facts.busy
             end = "" if is_running else (task.end or INTERRUPTED).text
-            add_try(found, tried, None, None, end)
+            add_try(found, tried, view.running.get(Named(*tried)), None, end)
     return {name: as_one(its, name in view.facts.busy) for name, its in found.items()}
 
 

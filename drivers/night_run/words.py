@@ -57,7 +57,8 @@ FILE = """Each line of JOBS is one of
   GROUP KEY COMMAND..       a command for /bin/sh; its key is unique in its group
   GROUP: SETTING..          settings of a group
   GROUP KEY: SETTING..      settings of one command; they replace those of its group
-  night: SETTING..          settings of all groups: until 05:30, within 8h, shell bash
+  night: SETTING..          settings of all groups: until 05:30, within 8h, pool tape 2,
+                            shell bash
   # ..                      a comment
 
 If the file has mistakes, the first 20 of them are printed, each with the number of its line, and no
