@@ -59,8 +59,8 @@ HoldsOne p events bytes =
     ⊎ HasKept (restarted p) events [] bytes
     ⊎ StoresReopened (restarted p) events bytes
 
--- A crash at any moment between the two leaves a disk that holds one of these states. The events
--- are those of the steps whose replies come last in the list.
+-- A crash at any moment from `old` to `new` leaves a disk that holds one of these states. The
+-- events are those of the steps whose replies come last in the list.
 pub record HasStayed (p : State) (steps : List Step) (before replies : List Reply)
     (old new : DiskState) : Type 0 where
   pub answers : List Reply

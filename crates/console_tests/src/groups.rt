@@ -300,7 +300,7 @@ const REFUSED_TASKS: Night = (
      acked 11\n",
 );
 
-/// The cause of a group's scope is that of its parent, which was cancelled before the first error;
+/// The cause of a group's scope is that of its parent, which was canceled before the first error;
 /// a scope below it has the same at once.
 const CANCELLED_GROUP: Night = (
     b"derive p root cause\n\

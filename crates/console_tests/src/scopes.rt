@@ -166,7 +166,7 @@ const ORDER_OF_REFUSALS: Night = (
 );
 
 /// A detached scope and what stands below it have no part in what ends the scopes above; of a
-/// scope that was cancelled the deadline stays.
+/// scope that was canceled the deadline stays.
 const DETACHED_DEADLINE: Night = (
     b"derive p root deadline 100 p\n\
      derive c p deadline 50 c\n\
@@ -191,7 +191,7 @@ const DETACHED_DEADLINE: Night = (
      acked 7\n",
 );
 
-/// What can't be cancelled, what takes no cause, and what is done; the deadline of a scope is the
+/// What can't be canceled, what takes no cause, and what is done; the deadline of a scope is the
 /// least of its chain.
 const REFUSED_CANCELS: Night = (
     b"derive v root value k x\n\

@@ -59,7 +59,7 @@ abbrev pub value_from : List Scope → Scope → List ℕ → Option (List ℕ)
 value_from rows row key =
     nearest (text_under key row.kind) (above (λ s. value_of rows s key) None row)
 
--- The results of all searches from a scope are those that its row and its parent's results give.
+-- The value of each key at a scope is the one that its row and its parent's value give.
 abbrev pub HasValuesFrom : List Scope → ℕ → Scope → Type 0
 HasValuesFrom rows s row = (key : List ℕ) → value_of rows s key ≡ value_from rows row key
 

@@ -78,7 +78,7 @@ pub fn book_of(rt: &impl Abort, alloc: Global, tasks: &[Task]) -> Book<MemoryDis
     opened(rt, alloc, stored(rt, alloc, None, tasks))
 }
 
-/// Task 0 in root, and task 1 in a group below a scope that is cancelled.
+/// Task 0 in root, and task 1 in a group below a scope that is canceled.
 static CANCELLED: [Call; 6] = [
     Call::Bare(b"b", b"root"),
     Call::Derive(b"s", b"root", Ask::Cancel),
@@ -88,7 +88,7 @@ static CANCELLED: [Call; 6] = [
     Call::Cancel(b"s", b""),
 ];
 
-/// A small store with task 0 in root, and task 1 in a group below a scope that was cancelled.
+/// A small store with task 0 in root, and task 1 in a group below a scope that was canceled.
 pub fn with_a_cancelled_group(rt: &impl Abort, alloc: Global) -> MemoryDisk {
     let mut book = fresh(rt, alloc);
     obey_all(rt, &mut book, &CANCELLED);

@@ -70,7 +70,7 @@ AreRounds info job (suc number) calls =
     (before : List Call) × (done : Bool) × AreRounds info job number before
     × (calls ≡ before ++ round info job number done turn.More)
 
--- The turns of a task end at this number, and the task with this outcome: the gate doesn't let the
+-- The turns of a task end at the turn with this number, with this outcome: the gate doesn't let the
 -- turn pass, or the turn is the job's last one.
 abbrev pub EndsAt : TaskInfo → ℕ → ℕ → List Call → Outcome → Type 0
 EndsAt info job number calls how =

@@ -24,7 +24,7 @@ pub record IsWished (clock : ℕ) (wish : Wish) (kind : Kind) : Type 0 where
   pub same : kind ≡ kind_made clock wish
   pub recorded : IsTrue (is_recorded_kind kind)
 
--- An event is accepted if it fits into the log, which has this many bytes.
+-- An event is accepted if its record fits into the log, which has this many bytes.
 abbrev pub room_for : State → ℕ → Option Event → Result (Option Event) Refusal
 room_for p log None = Ok None
 room_for p log (Some event) = if_room p log event

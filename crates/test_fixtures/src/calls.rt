@@ -24,7 +24,7 @@ pub enum Ask {
 pub enum Call {
     /// A scope of this name below a parent.
     Derive(&'static [u8], &'static [u8], Ask),
-    /// A scope, and the cause that it is cancelled with.
+    /// A scope, and the cause that it is canceled with.
     Cancel(&'static [u8], &'static [u8]),
     /// The clock to this moment.
     Advance(u64),

@@ -7,7 +7,7 @@ use run_model::{GroupLook, Look, Phase, Reason, TaskLook, Text};
 pub enum Seen<'a> {
     /// Not done.
     Live,
-    /// Cancelled, with this cause.
+    /// Canceled, with this cause.
     Canceled(&'a [u8]),
     /// Ended by a deadline, with this cause.
     Exceeded(&'a [u8]),

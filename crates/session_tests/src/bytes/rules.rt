@@ -3,7 +3,7 @@
 use crate::asserts::holds;
 use crate::bytes::images::{Counts, Head, Pair, Pieces, assert_pairs, image, is_read};
 
-/// Scopes below root up to their hit: two that are cancelled, a cause, a deadline that has come and
+/// Scopes below root up to their hit: two that are canceled, a cause, a deadline that has come and
 /// one that has not, a value, a detached one, and a group's.
 const A: &[u8] = b"\x01a\x00\x00\x01";
 

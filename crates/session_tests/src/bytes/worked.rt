@@ -10,12 +10,12 @@ use std::alloc::Global;
 use std::process::Abort;
 use test_fixtures::{Seen, seen_of};
 
-/// Scope a, which was cancelled by event 4 with the cause `disk`, and its child b, in version 2.
+/// Scope a, which was canceled by event 4 with the cause `disk`, and its child b, in version 2.
 const CANCELED: &[u8; 57] = b"\x02\x00\x00\x00\x00\x00\x00\x00\x00\x00\x00\x00\x00\x00\x00\x00\x04\
     \x00\x02\x00\x00\x00\x00\x01a\x00\x00\x02\x01\x00\x00\x00\x00\x00\x00\x00\x04\x00\x00\x00\x00\
     \x00\x00\x00\x00\x01\x04disk\x01b\x00\x01\x01\x00";
 
-/// Says whether a scope is cancelled with this cause.
+/// Says whether a scope is canceled with this cause.
 fn is_canceled(state: &State, scope: u16, cause: &'static [u8]) -> bool {
     match state.look(scope) {
         Some(look) => seen_of(&look) == Seen::Canceled(cause),
@@ -31,7 +31,7 @@ fn read_state(rt: &impl Abort, alloc: Global, image: &[u8]) -> State {
     }
 }
 
-/// How many events there were, and whether scopes a and b are cancelled with a's cause.
+/// How many events there were, and whether scopes a and b are canceled with a's cause.
 fn seen(rt: &impl Abort, alloc: Global, image: &[u8]) -> (u64, bool, bool) {
     let state = read_state(rt, alloc, image);
     let (a, b) = (
@@ -323,14 +323,14 @@ static STATES: [Caused; 7] = [
     ),
 ];
 
-/// Asserts that the scopes of a state are cancelled with these causes.
+/// Asserts that the scopes of a state are canceled with these causes.
 fn assert_causes(rt: &impl Abort, state: &State, causes: Causes, what: &str) {
     for (scope, cause) in causes.iter() {
         holds(rt, is_canceled(state, *scope, cause), what, *scope as usize);
     }
 }
 
-/// Asserts that an image is kept, and that its scopes are cancelled with these causes.
+/// Asserts that an image is kept, and that its scopes are canceled with these causes.
 fn assert_caused(rt: &impl Abort, alloc: Global, caused: &Caused) {
     let image = image(rt, alloc, Head::of(caused.1), caused.2);
     holds(rt, is_read(rt, alloc, &image, true), caused.0, 0);

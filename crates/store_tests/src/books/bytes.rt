@@ -22,7 +22,7 @@ pub const FORMATTED: &[u8; 36] = b"\xa7\0\0\0\0\0\0\0\0\0\0\0\x17\x02\0\0\0\0\0\
 pub const OPENED: &[u8; 36] = b"\xa7\0\0\0\0\0\0\0\x01\0\0\0\x17\x02\0\0\0\0\0\0\0\0\
 \0\0\0\0\0\0\0\x01\0\0\0\0\0\0";
 
-/// A slot of generation 2 with two scopes, the first of which event 4 cancelled.
+/// A slot of generation 2 with two scopes, the first of which event 4 canceled.
 const CANCELED: &[u8; 70] = b"\xa7\0\0\0\0\0\0\0\x02\0\0\0\x39\x02\0\0\0\0\0\0\0\0\
 \0\0\0\0\0\0\0\x04\0\x02\0\0\0\0\
 \x01a\0\0\x02\x01\0\0\0\0\0\0\0\x04\0\0\0\0\0\0\0\0\x01\x04disk\x01b\0\x01\x01\0";
