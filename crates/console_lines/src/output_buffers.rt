@@ -20,7 +20,8 @@ const CAPACITY: usize = 8192;
 /// Bytes that aren't written yet.
 pub type OutputBuffer = ArrayVec<u8, CAPACITY>;
 
-/// Ensures that another reply fits: if it might not, all buffered bytes are written.
+/// Ensures that another reply fits: if it might not, all buffered bytes are written. `Output` if a
+/// write fails or takes nothing.
 pub fn make_room<W: Write>(buffer: &mut OutputBuffer, output: &mut W) -> Result<(), RunFault>
     ensures buffered { OnOk result (Buffered [] buffer.old.items buffer.new.items
         (W.contents output.old) (W.contents output.new)) }
@@ -36,7 +37,7 @@ pub fn make_room<W: Write>(buffer: &mut OutputBuffer, output: &mut W) -> Result<
 }
 
 /// Appends these bytes. If they don't fit, the buffered bytes are written first, and then these
-/// directly.
+/// directly. `Output` if a write fails or takes nothing.
 pub fn append_bytes<W: Write>(
     bytes: &[u8],
     buffer: &mut OutputBuffer,
@@ -56,7 +57,7 @@ pub fn append_bytes<W: Write>(
     Ok(())
 }
 
-/// Writes all buffered bytes.
+/// Writes all buffered bytes, and empties the buffer. `Output` if a write fails or takes nothing.
 pub fn write_out<W: Write>(buffer: &mut OutputBuffer, output: &mut W) -> Result<(), RunFault>
     ensures whole { OnOk result
         (Appends (W.contents output.old) (W.contents output.new) buffer.old.items) }
@@ -70,7 +71,8 @@ pub fn write_out<W: Write>(buffer: &mut OutputBuffer, output: &mut W) -> Result<
     Ok(())
 }
 
-/// Writes all of these bytes.
+/// Writes all of these bytes. `Output` if a write fails or takes nothing; then a prefix was
+/// written.
 pub fn write_whole<W: Write>(output: &mut W, bytes: &[u8]) -> Result<(), RunFault>
     ensures whole { OnOk result
         (Appends (W.contents output.old) (W.contents output.new) bytes.now) }

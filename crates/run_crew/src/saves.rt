@@ -10,7 +10,8 @@ use std::sync::{Mutex, Wait};
 
 /// Makes all events up to this one durable, and returns the number of durable events. The last
 /// thread on its way to the lock flushes, while the others sleep. So one flush includes what all of
-/// them did. The calling thread must have called `Arrivals::come`, and has left when this returns.
+/// them did. If a flush fails, its trouble is returned. The calling thread must have called
+/// `Arrivals::come`, and has left when this returns.
 pub fn save<T: Place, R: Wait>(
     rt: &R,
     shared: &Mutex<T>,

@@ -32,10 +32,10 @@ pub struct FileDisk {
 }
 
 impl FileDisk {
-    /// Makes a disk over this file, which must be open for reading and writing; if it is open for
+    /// Makes a disk over this file, which must be open for reading and writing. If it is open for
     /// reading only, each write fails. The file is synced first, in a call that isn't counted. So
     /// whatever another program left in the system's memory is on the device before any of it is
-    /// read.
+    /// read. `DiskFailed` if the sync fails, or if the system doesn't return the file's size.
     ///
     /// The sync doesn't help if an earlier sync of the file failed, in whichever program. Then open
     /// a copy of the file in its place: what is written to a new file is on the device once a sync
@@ -60,7 +60,8 @@ impl FileDisk {
     }
 
     /// Makes a disk over this file without a sync. Reads may return bytes that another program left
-    /// in the system's memory, and a power failure would lose these bytes.
+    /// in the system's memory, and a power failure would lose these bytes. The error is the
+    /// system's, if it doesn't return the file's size.
     pub fn unsettled(file: File) -> io::Result<FileDisk>
         ensures calls { IfOk result (λ d. (⟦<FileDisk as RunDisk>⟧.state d).clock ≡ 0) }
         ensures failures { IfOk result (λ d. (⟦<FileDisk as RunDisk>⟧.state d).failures ≡ 0) }

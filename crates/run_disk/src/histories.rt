@@ -189,7 +189,7 @@ impl<A: Allocator> History<A> {
     }
 
     /// Returns what a crash after the first `calls` calls leaves, if it tears each unsynced write
-    /// this way.
+    /// this way. `AllocError` if the memory for it is refused.
     pub fn image(&self, alloc: A, calls: u64, torn: Torn) -> Result<Vec<u8, A>, AllocError>
         ensures { IfOk result (λ image. IsTornImage torn self.now calls image.items) }
     {

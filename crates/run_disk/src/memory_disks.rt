@@ -31,7 +31,7 @@ pub struct MemoryDisk<A: Allocator = Global> {
 impl<A: Allocator + Copy> MemoryDisk<A> {
     ghost use Rattle.run_disk.specs.MemoryDisks.{history_of};
 
-    /// Makes a disk at rest with `size` zero bytes.
+    /// Makes a disk at rest with `size` zero bytes. The only fault is `Memory`.
     pub fn new(alloc: A, size: usize) -> Result<MemoryDisk<A>, Fault>
         ensures begins { IfOk result (λ disk.
             let state = ⟦<MemoryDisk<A> as RunDisk>⟧.state disk in Begins state.now state) }
@@ -49,7 +49,7 @@ impl<A: Allocator + Copy> MemoryDisk<A> {
         })
     }
 
-    /// Makes a disk at rest with these bytes.
+    /// Makes a disk at rest with these bytes. The only fault is `Memory`.
     pub fn from_bytes(alloc: A, bytes: Vec<u8, A>) -> Result<MemoryDisk<A>, Fault>
         ensures begins { IfOk result (λ disk.
             Begins bytes.items (⟦<MemoryDisk<A> as RunDisk>⟧.state disk)) }
@@ -71,8 +71,10 @@ impl<A: Allocator + Copy> MemoryDisk<A> {
     }
 
     /// Returns what a crash after the first `after_calls` calls leaves, if it tears each unsynced
-    /// write in this way. It is one of the contents that a crash at that moment might have left.
-    /// The call copies the disk once, and searches for a sync after each write.
+    /// write in this way. `after_calls` must be at most [`calls`](MemoryDisk::calls). The result is
+    /// one of the contents that a crash at that moment might have left. The call copies the disk
+    /// once, and searches for a sync after each write. `Memory` if the memory for the copy is
+    /// refused.
     pub fn image(&self, alloc: A, after_calls: u64, torn: Torn) -> Result<Vec<u8, A>, Fault>
         requires { after_calls ≤ (⟦<MemoryDisk<A> as RunDisk>⟧.state self.now).clock }
         ensures bytes { IfOk result (λ image.
