@@ -38,7 +38,7 @@ pub fn the_greatest_images_have_these_sizes()
     ensures large { greatest_image Two Large ≡ 1913559 }
 {}
 
-/// A state has exactly one image in each version, and no image is longer than the greatest one.
+/// A state has at most one image in each version, and no image is longer than the greatest one.
 pub fn a_state_has_one_image()
     ensures one { (version : ImageVersion) (layout : Layout) (bytes other : List ℕ) (p : State) →
         IsImage version layout bytes p → IsImage version layout other p → bytes ≡ other }

@@ -30,8 +30,8 @@ pub enum Fault {
     BadRecord,
     /// The event of a record isn't allowed at its place.
     BadEvent,
-    /// The store's numbers are used up: an opening finds 2^62 events or more, or a checkpoint finds
-    /// the greatest generation, 2^63 - 1.
+    /// The store's numbers are used up: an opening or a copy finds 2^62 events or more, or a
+    /// checkpoint finds the greatest generation, 2^63 - 1.
     NumbersSpent,
 }
 
