@@ -25,7 +25,7 @@ none_holds [] passes = refl
 none_holds (t ∷ tests) passes =
     and_from _ _ (not_from_false t.0 passes.0) (none_holds tests passes.1)
 
--- If the first test asks that something isn't true, it is true.
+-- If no test holds, and the first one is that something isn't true, it is true.
 pub is_first : (b rest : Bool) → (not (not b) && rest) ≡ true → b ≡ true
 is_first true rest none = refl
 is_first false rest none = none

@@ -60,8 +60,8 @@ impl<A: Allocator> Marks<A> {
     }
 }
 
-/// Also flags each scope above a flagged one. There is a flag for each scope. If the needed scopes
-/// were flagged, exactly the kept ones are afterwards. Takes no memory.
+/// Also flags each scope above a flagged one. There is a flag for each scope. If exactly the needed
+/// scopes were flagged, exactly the kept ones are afterwards. Takes no memory.
 pub fn flag_above(scopes: &[Scope], flags: &mut [bool])
     requires ordered { AreOrdered scopes.now }
     requires each { length flags.old ≡ length scopes.now }
