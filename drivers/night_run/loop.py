@@ -48,7 +48,7 @@ from .jobs import Job, Jobs
 from .keeping import Keeper
 from .leftovers import Leftover, Leftovers
 from .log import Log
-from .night import FULL, NightEnded, Session, SessionFull, refusal
+from .night import FULL, NightEnded, NotStarted, Session, SessionFull, refusal
 from .obeying import Canceler
 from .opening import StoreFull, advance, ready_state, set_limits, withdraw, withdrawn
 from .past import Past
@@ -64,7 +64,7 @@ from .state import ENDED, JOB, State
 from .standing import Standing
 from .stopping import Stopper
 from .summary import so_far
-from .telling import note, progress, tell
+from .telling import error_text, note, progress, tell, tell_once
 from .timing import Deadlines, cause_of, moments
 from .tries import Tries
 
@@ -127,6 +127,11 @@ class Driver:
                     self.give_back()
                 except NightEnded as ended:
                     self.after(ended)
+                except NotStarted as error:
+                    self.hold(error)
+                    self.let_go()
+                    self.signals.wait(IDLE)
+                    self.meanwhile()
         finally:
             self.cut_off()
             self.let_go()
@@ -152,6 +157,13 @@ class Driver:
         if not self.restarts.may_begin(ended, self.files.is_marked()):
             raise ended
         note(f"{ended}; it is started again")
+
+    def hold(self, error: NotStarted) -> None:
+        """Waits until the system has room for another run of `night`, as long as commands run:
+        else they would be stopped."""
+        if not self.commands or self.asked_to_end > 1:
+            raise error
+        tell_once(f"{error_text(error)}: commands are started later")
 
     def open_session(self) -> None:
         """Opens a session, and brings the store to what the file of commands asks for."""
@@ -341,7 +353,11 @@ class Driver:
         self.later = None
         if self.asked_to_end or self.is_full or self.missing:
             return []
-        found = self.planner.choose(self.facts, self.most, time.time(), self.commands)
+        try:
+            found = self.planner.choose(self.facts, self.most, time.time(), self.commands)
+        except NotStarted as error:
+            self.hold(error)
+            return []
         self.later = found.later
         made = []
         for name in found.names:

@@ -8,6 +8,7 @@ first.
 from __future__ import annotations
 
 import contextlib
+import errno
 import os
 import re
 import select
@@ -67,6 +68,10 @@ class NightEnded(Exception):
         return f"{why}; `night` {how}".removeprefix("; ")
 
 
+class NotStarted(OSError):
+    """The system has no process, or no memory, for another run of `night`."""
+
+
 class SessionFull(Exception):
     """The log of the session is full. The next run of `night` begins with an empty one."""
 
@@ -114,7 +119,8 @@ def starting() -> Iterator[None]:
     try:
         yield
     except OSError as error:
-        raise OSError(error.errno, f"it can't be started: {error.strerror}", program()) from None
+        kind = NotStarted if error.errno in (errno.EAGAIN, errno.ENOMEM) else OSError
+        raise kind(error.errno, f"it can't be started: {error.strerror}", program()) from None
 
 
 def kill(it: subprocess.Popen[Any], store: str) -> None:
