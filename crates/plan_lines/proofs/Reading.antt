@@ -30,7 +30,8 @@ no_line_after begun other [] h = refl
 no_line_after begun other (x ∷ xs) h =
     grind (arith, nat_tests, no_line_after (begun ++ x ∷ []) (other ++ x ∷ []) xs)
 
-pub open_of_none : (begun xs : List ℕ) → whole_lines begun xs ≡ [] → open_line begun xs ≡ begun ++ xs
+pub open_of_none : (begun xs : List ℕ) → whole_lines begun xs ≡ []
+    → open_line begun xs ≡ begun ++ xs
 open_of_none begun [] h = sym (append-nil begun)
 open_of_none begun (x ∷ xs) h =
     grind (arith, nat_tests, open_of_none (begun ++ x ∷ []) xs, append_assoc begun (x ∷ []) xs)
@@ -50,7 +51,8 @@ none_before begun xs zero h = refl
 none_before begun [] (suc n) h = refl
 none_before begun (x ∷ xs) (suc n) h =
     let other : (x == 10) ≡ false = not_true (x == 10) (h 0 (omega arith) (omega arith)) in
-    let more = none_before (begun ++ x ∷ []) xs n (λ k a d. h (suc k) (omega arith) (omega (arith, d)))
+    let more =
+    none_before (begun ++ x ∷ []) xs n (λ k a d. h (suc k) (omega arith) (omega (arith, d)))
     in
     rw other more
 

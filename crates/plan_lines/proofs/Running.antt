@@ -305,7 +305,8 @@ module _ {held new line : List ℕ} {number : ℕ} {s : Stage} {r0 r1 r2 w0 w1 w
           lines = run.lines ++ answer.0;
           runs =
               subst
-              (λ (l : List (List ℕ)). RunsOver (stage.Plan run.first) 1 l stop (run.lines ++ answer.0))
+              (λ (l : List (List ℕ)).
+              RunsOver (stage.Plan run.first) 1 l stop (run.lines ++ answer.0))
               (sym (all_lines run reads))
               (runs_then (stage.Plan run.first) 1 lines (text ∷ whole_lines [] new) s stop run.lines
               answer.0 run.taken (inl takes));
@@ -326,8 +327,8 @@ module _ {held new line : List ℕ} {number : ℕ} {s : Stage} {r0 r1 r2 w0 w1 w
         let text = reads.text in
         let lines = whole_lines [] run.front in
         let off = breaks why s number text w1 w2
-        (subst (λ (l : List ℕ). Answers (TakesLine s number l) (Err why) w1 w2) reads.returned answer)
-        in
+        (subst (λ (l : List ℕ). Answers (TakesLine s number l) (Err why) w1 w2) reads.returned
+        answer) in
         let here : BreaksOff why s (1 + length lines) text off.0 =
         subst (λ n. BreaksOff why s n text off.0) run.count off.1 in
         record {

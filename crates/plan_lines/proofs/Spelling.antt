@@ -27,7 +27,8 @@ keywords =
 -- The first of some keywords that is spelled so.
 first_spelled : List ℕ → List Keyword → Option Keyword
 first_spelled text [] = None
-first_spelled text (k ∷ ks) = if bytes_eq text (keyword_text k) then Some k else first_spelled text ks
+first_spelled text (k ∷ ks) =
+    if bytes_eq text (keyword_text k) then Some k else first_spelled text ks
 
 abbrev pub is_space : ℕ → Bool
 is_space b = b == 32

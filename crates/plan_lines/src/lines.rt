@@ -199,7 +199,8 @@ fn when_of(keyword: Keyword) -> Option<When>
 
 fn subject_of(keyword: Keyword, number: u64) -> Option<Subject>
     ensures { MatchOption result
-        ((of : SubjectOf) → subject_tokens of ≡ Token.Keyword keyword ∷ Token.Number number ∷ [] → ⊥)
+        ((of : SubjectOf)
+        → subject_tokens of ≡ Token.Keyword keyword ∷ Token.Number number ∷ [] → ⊥)
         (λ of. subject_tokens of ≡ Token.Keyword keyword ∷ Token.Number number ∷ []) }
 {
     match keyword {

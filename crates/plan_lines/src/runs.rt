@@ -48,10 +48,10 @@ enum Next {
 
 /// Reads a plan and rounds, and answers each.
 ///
-/// The lines that an LF ends are taken one after another. An empty line ends a part, and the part is
-/// answered. The run ends after the last line of the input, with the answer that refuses the plan,
-/// or with the answer to a bad line. Lines after the last empty line have no answer, and what comes
-/// after the last LF isn't taken at all.
+/// The lines that an LF ends are taken one after another. An empty line ends a part, and the part
+/// is answered. The run ends after the last line of the input, with the answer that refuses the
+/// plan, or with the answer to a bad line. Lines after the last empty line have no answer, and what
+/// comes after the last LF isn't taken at all.
 ///
 /// After a fault, the following was written:
 ///
@@ -238,7 +238,8 @@ fn answer_round<W: Write>(alloc: Global, session: Session, output: &mut W) -> Re
 
 /// Writes an answer, and returns what comes after it.
 fn answered<W: Write>(next: Next, lines: &[AnswerLine], output: &mut W) -> Result<Next, RunFault>
-    ensures { Answers (Gives next lines.now) result (W.contents output.old) (W.contents output.new) }
+    ensures { Answers (Gives next lines.now) result
+        (W.contents output.old) (W.contents output.new) }
 {
     match write_answer(lines, output) {
         Ok(()) => Ok(next),

@@ -1,4 +1,5 @@
-//! A [`Token`] is a number or a keyword. A line consists of tokens, with single spaces between them.
+//! A [`Token`] is a number or a keyword. A line consists of tokens, with single spaces between
+//! them.
 
 ghost use Rattle.std.specs.Prelude.{◌≡◌, List, MatchOption};
 ghost use Rattle.plan_lines.specs.Tokens.{IsRow, IsShort, keyword_text, token_text};

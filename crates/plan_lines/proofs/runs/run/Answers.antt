@@ -13,7 +13,8 @@ loop-number-init g c = begun _ _ _ _ c.new-reader.ensures c.new.ensures
 pub returns-in_err-found : goal.returns-in_err-found
 returns-in_err-found g c =
     let p = err_from_is_err_and c.from_residual.result c.from_residual.ensures.1 in
-    rw (p.1, p.2) (input_stops_run c.in_err-found.field-0.0 c.loop-number.invariant c.in_err-found.ensures)
+    rw (p.1, p.2)
+    (input_stops_run c.in_err-found.field-0.0 c.loop-number.invariant c.in_err-found.ensures)
 
 pub returns-then-not-found : goal.returns-then-not-found
 returns-then-not-found g c =
@@ -26,7 +27,8 @@ returns-in_err-next g c =
     c.from_residual-in_err-next.ensures.1 in
     let reads = reads_slice c.in_ok-found.found _ _ _ _ _ c.as_slice.result.now c.if-not-found.false
     c.as_slice.ensures.value c.in_ok-found.ensures in
-    rw (p.1, p.2) (line_stops_run c.in_err-next.field-0.0 c.loop-number.invariant reads c.in_err-next.ensures)
+    rw (p.1, p.2)
+    (line_stops_run c.in_err-next.field-0.0 c.loop-number.invariant reads c.in_err-next.ensures)
 
 pub returns-in-End : goal.returns-in-End
 returns-in-End g c =
