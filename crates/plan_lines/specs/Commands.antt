@@ -16,12 +16,12 @@ pub record IsOutlined (line : Outline) (command : Command) : Type 0 where
   pub needs : command.needs.items ≡ []
   pub takes : command.takes.items ≡ []
 
--- A command has one more need, and is else the same.
+-- A command has one more need, and is otherwise the same.
 pub record HasNewNeed (old : Command) (need : Need) (new : Command) : Type 0 where
   pub needs : new.needs.items ≡ old.needs.items ++ need ∷ []
   pub same : new ≡ record old { needs = new.needs }
 
--- A command takes one thing more, and is else the same.
+-- A command has one more take, and is otherwise the same.
 pub record HasNewTake (old : Command) (take : Take) (new : Command) : Type 0 where
   pub takes : new.takes.items ≡ old.takes.items ++ take ∷ []
   pub same : new ≡ record old { takes = new.takes }

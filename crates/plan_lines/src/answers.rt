@@ -13,35 +13,36 @@ use night_plan::standings::Standing;
 /// One line of the answer to a plan or to a round.
 #[derive(Clone, Copy)]
 pub enum AnswerLine {
-    /// The plan is taken, and has so many commands.
+    /// The plan is accepted. This is the number of its commands.
     Plan(usize),
-    /// This command of the plan names what there isn't.
+    /// This command of the plan names something that doesn't exist.
     Unknown(usize),
-    /// This command of the plan takes more of a pool than it has.
+    /// This command of the plan takes more of a pool than its size.
     TooMuch(usize),
-    /// Commands of the plan come each after the next one, and the last after the first.
+    /// The commands of the next lines form a circle: each comes after the next one, and the last
+    /// one comes after the first.
     Circle,
-    /// One of these commands.
+    /// A command of the circle.
     Member(usize),
     /// This command may begin.
     Begin(usize),
     /// This command runs, and has to stop.
     Stop(usize),
-    /// At this moment it is to be asked again.
+    /// If nothing happens before, the caller should ask again at this moment.
     Later(u64),
-    /// This command stands so.
+    /// How this command stands.
     Stands(usize, Standing),
-    /// The line of this number isn't one that can be taken.
+    /// The line of this number is bad.
     Bad(u64),
     /// The answer ends here.
     End,
 }
 
-/// The most bytes of a line of an answer, with its LF.
+/// The length of the longest line of an answer, with its LF.
 pub const LONGEST_ANSWER: usize = 64;
 
 impl AnswerLine {
-    /// Appends the line as it is written, with its LF.
+    /// Appends the bytes of the line, with its LF.
     pub fn append<const N: usize>(&self, out: &mut ArrayVec<u8, N>)
         requires { array_vec_len out.old + LONGEST_ANSWER ≤ N }
         ensures { Appended out.old.items out.new.items (answer_text self.now ++ 10 ∷ [])
@@ -64,7 +65,7 @@ impl AnswerLine {
     }
 }
 
-/// How a command stands.
+/// Appends the line that says how a command stands, without its LF.
 fn push_standing<const N: usize>(out: &mut ArrayVec<u8, N>, command: usize, standing: Standing)
     requires { array_vec_len out.old + 63 ≤ N }
     ensures { Appended out.old.items out.new.items

@@ -9,8 +9,8 @@ use night_plan::commands::{Command, Group, Need, Plan, Take};
 use night_plan::plans::{PlanFault, make_plan};
 use std::alloc::{AllocError, Global};
 
-/// The groups, pools and commands of a plan that were read so far. The last command is apart: more
-/// of its needs and of what it takes may follow.
+/// The groups, pools and commands of a plan that were read so far. The last command is kept apart,
+/// because lines with its needs and takes may follow.
 #[derive(Drop)]
 pub struct Draft {
     pub groups: Vec<Group>,
@@ -20,7 +20,7 @@ pub struct Draft {
 }
 
 impl Draft {
-    /// A plan of no lines.
+    /// A draft without any lines.
     pub fn new(alloc: Global) -> Self
         ensures { IsNew result }
     {
@@ -32,7 +32,7 @@ impl Draft {
         }
     }
 
-    /// The draft with a line more, and `None` if the line isn't one of a plan.
+    /// Returns the draft with one more line, or `None` if a plan can't have this line there.
     pub fn add(self, alloc: Global, line: PlanLine) -> Result<Option<Draft>, AllocError>
         ensures { IfOk result (Adds line self) }
     {
@@ -49,7 +49,7 @@ impl Draft {
         }
     }
 
-    /// The draft whose last command takes its place among the others.
+    /// The draft with its last command among the others.
     fn closed(self) -> Result<Draft, AllocError>
         ensures commands { IfOk result (λ new. new.commands.items ≡ commands_in self) }
         ensures groups { IfOk result (λ new. new.groups ≡ self.groups) }
@@ -161,7 +161,7 @@ impl Draft {
         }))
     }
 
-    /// The draft whose last command takes one thing more, if there is one.
+    /// The draft whose last command has one more take, if there is one.
     fn with_take(self, take: Take) -> Result<Option<Draft>, AllocError>
         ensures { IfOk result (Adds (PlanLine.Take take) self) }
     {
@@ -183,7 +183,7 @@ impl Draft {
         }))
     }
 
-    /// The plan of all lines, or why there is none.
+    /// Returns the plan of all lines, or says why there is none.
     pub fn finish(self, alloc: Global) -> Result<Plan, PlanFault>
         ensures { Finishes self result }
     {
@@ -243,7 +243,7 @@ pub fn with_need(command: Command, need: Need) -> Result<Command, AllocError>
     })
 }
 
-/// The command that takes one thing more.
+/// The command with one more take.
 pub fn with_take(command: Command, take: Take) -> Result<Command, AllocError>
     ensures { IfOk result (HasNewTake command take) }
 {

@@ -9,8 +9,8 @@ use crate::sessions::Session;
 use night_plan::commands::Command;
 use std::alloc::{AllocError, Global};
 
-/// A command that the plan is growing by, and the number of its line. It is added once a line
-/// follows that is neither a need of it nor something that it takes.
+/// A command that the plan is growing by, and the number of its line. It is added as soon as a line
+/// follows that is neither a `need` nor a `take`.
 #[derive(Drop)]
 pub struct Growth {
     pub command: Command,
@@ -64,7 +64,7 @@ impl Round {
         }
     }
 
-    /// The round in which the command has one more need, or takes one thing more.
+    /// The round in which the command has one more need or take.
     fn grow(self, line: PlanLine, number: u64) -> Result<Heard, AllocError>
         ensures { IfOk result (GrowsOn line number self) }
     {
@@ -92,7 +92,7 @@ impl Round {
     }
 }
 
-/// The growth with one more need, or with one thing more that it takes.
+/// The growth with one more need or take.
 fn extended(growth: Growth, said: PlanLine) -> Result<Growth, AllocError>
     ensures command { IfOk result (λ new. Extends said growth.command new.command) }
     ensures line { IfOk result (λ new. new.line ≡ growth.line) }

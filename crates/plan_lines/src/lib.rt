@@ -1,4 +1,4 @@
-//! The lines by which a plan and what happens are read, and those by which they are answered.
+//! Reads the lines of a plan and of what happens to it, and writes the lines of the answers.
 #![tactic(auto)]
 
 pub mod answers;

@@ -12,7 +12,7 @@ use crate::tokens::{Keyword, Token, read_tokens};
 use night_plan::commands::{Group, Need, Subject, Take, Way, When};
 use night_plan::facts::Phase;
 
-/// The most bytes of a line, without its LF.
+/// The length of the longest line, without its LF.
 pub const LONGEST_LINE: usize = 255;
 
 /// A command without what it needs and takes.

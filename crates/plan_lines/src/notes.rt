@@ -7,7 +7,7 @@ ghost use Rattle.plan_lines.specs.Facts.{with_phase};
 use crate::lines::PlanLine;
 use night_plan::facts::{Facts, Known, Phase};
 
-/// Notes a fact, and returns whether it is one of what there is.
+/// Notes a fact, and returns whether there is anything that it is about.
 pub fn note(facts: &mut Facts, line: PlanLine) -> bool
     ensures { Notes result line facts.old facts.new }
 {

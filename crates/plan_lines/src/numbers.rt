@@ -6,7 +6,7 @@ ghost use Rattle.std.specs.Fmt.{decimal};
 use console_lines::read_number;
 use itoa::Buffer;
 
-/// The number that a word writes, and `None` if it isn't written so.
+/// Reads a number, and returns `None` if no number is spelled so.
 pub fn read_count(word: &[u8]) -> Option<u64>
     ensures { MatchOption result
         ((n : ℕ) → n < 10 ^ 12 → decimal n ≡ word.now → ⊥)
@@ -22,7 +22,7 @@ pub fn read_count(word: &[u8]) -> Option<u64>
     }
 }
 
-/// Whether a number is written so.
+/// Whether a number is spelled so.
 fn is_decimal(number: u64, word: &[u8]) -> bool
     ensures { IsTrue result ↔ (decimal number ≡ word.now) }
 {

@@ -12,10 +12,10 @@ use std::io::Read;
 /// The most bytes of one read.
 const PART: usize = 4096;
 
-/// The most bytes of a line that are returned: one more than the longest line has.
+/// How many bytes of a line are returned at most: one more than the longest line has.
 const KEPT: usize = 256;
 
-/// A line without its LF. Of one that is too long, the first 256 bytes.
+/// A line without its LF, or the first 256 bytes of a line that is too long.
 pub type Line = ArrayVec<u8, KEPT>;
 
 /// Reads an input in parts, and returns its lines.
@@ -61,8 +61,8 @@ impl LineReader {
         Err(RunFault::InputTooLong)
     }
 
-    /// Reads on if no bytes are held. Returns whether any are held then: none are at the end of the
-    /// input.
+    /// Reads on if no bytes are held. Returns whether any are held afterwards. At the end of the
+    /// input, none are.
     fn fill<R: Read>(&mut self, input: &mut R) -> Result<bool, RunFault>
         ensures { Fills result self.old self.new (R.remaining input.old) (R.remaining input.new) }
     {
@@ -106,7 +106,7 @@ fn keep(bytes: &[u8], line: &mut Line)
     }
 }
 
-/// Reads some bytes; none when the input is at its end.
+/// Reads some bytes, or none at the end of the input.
 fn read_some<R: Read>(input: &mut R, buffer: &mut [u8]) -> Result<usize, RunFault>
     ensures bound { ReadsAtMost result buffer.new }
     ensures bytes { ReadConsumes (R.remaining input.old) (R.remaining input.new) result buffer.new }

@@ -24,7 +24,7 @@ pub fn taken_answer(alloc: Global, session: &Session) -> Result<Vec<AnswerLine>,
     Ok(lines)
 }
 
-/// The answer to a plan that is refused. Missing memory has none.
+/// The answer to a plan that is refused. If memory was refused, there is none.
 pub fn refused_answer(alloc: Global, fault: &PlanFault) -> Result<Vec<AnswerLine>, AllocError>
     ensures { IfOk result (λ lines. lines.items ≡ refusal_lines fault.now) }
 {
@@ -42,7 +42,7 @@ pub fn refused_answer(alloc: Global, fault: &PlanFault) -> Result<Vec<AnswerLine
     Ok(lines)
 }
 
-/// What a line says of a command.
+/// What a line says about a command.
 #[derive(Clone, Copy)]
 enum Kind {
     Member,
@@ -50,7 +50,7 @@ enum Kind {
     Stop,
 }
 
-/// The line that says this of a command.
+/// The line of this kind about a command.
 fn line_of(kind: Kind, command: usize) -> AnswerLine
     ensures { result ≡ line_of_kind kind command }
 {

@@ -21,7 +21,7 @@ use night_plan::plans::PlanFault;
 use std::alloc::Global;
 use std::io::{Read, Write};
 
-/// How a run ended that no fault ended.
+/// How a run has ended that no fault has stopped.
 #[derive(Drop)]
 pub enum RunEnd {
     /// The input ended.

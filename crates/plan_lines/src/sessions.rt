@@ -26,10 +26,10 @@ pub struct Session {
     pub ghost rows: { AreFacts plan facts },
 }
 
-/// The latest time that a line can tell.
+/// The latest time that a line can report.
 const LATEST: u64 = 999_999_999_999;
 
-/// What is known of a command at first.
+/// What is known about a command at first.
 const NOTHING: Known = Known {
     phase: Phase::Fresh,
     failures: 0,
@@ -41,7 +41,7 @@ impl Session {
     ghost use Rattle.plan_lines.specs.Sessions.{HasFact, HasNewCommand, HasNewGroup};
     ghost use Rattle.plan_lines.specs.Sessions.{HasQuestion, HasTime, IsBegun, MayGrow};
 
-    /// A session of a plan of which nothing was heard yet.
+    /// A session of a plan about which nothing was heard yet.
     pub fn begin(alloc: Global, plan: Plan) -> Result<Session, AllocError>
         ensures { IfOk result (IsBegun plan) }
     {
@@ -93,7 +93,7 @@ impl Session {
         }
     }
 
-    /// The session with one more fact, and `None` if it is of something that there isn't.
+    /// Returns the session with one more fact, or `None` if nothing exists that the fact is about.
     pub fn with_fact(self, line: PlanLine) -> Option<Session>
         ensures { MatchOption result (Notes false line self.facts self.facts)
             (HasFact line self) }
@@ -135,15 +135,15 @@ impl Session {
         })
     }
 
-    /// Whether the plan may grow by a command: it names what there is, and takes no more of a pool
-    /// than the plan says there is.
+    /// Returns whether the plan may grow by a command, which has to name only what exists, and to
+    /// take no more of a pool than the size that the plan says.
     pub fn may_grow(&self, command: &Command) -> bool
         ensures { MayGrow result self.now.plan command.now }
     {
         growth_fault(&self.plan, command).is_none()
     }
 
-    /// The session whose plan has one more command, which names what there is.
+    /// The session whose plan has one more command, which names only what exists.
     pub fn with_command(self, command: Command) -> Result<Session, AllocError>
         requires { IsKnown (length self.plan.groups.items) (length self.plan.commands.items)
             (length self.plan.pools.items) command }
@@ -166,7 +166,7 @@ impl Session {
     }
 }
 
-/// The facts with a row for one more command, of which nothing is known yet.
+/// The facts with a row for one more command, about which nothing is known yet.
 fn facts_of_command(facts: Facts) -> Result<Facts, AllocError>
     ensures known { IfOk result (λ new. new.known.items
         ≡ facts.known.items ++ fresh_row ∷ []) }
