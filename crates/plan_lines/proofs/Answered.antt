@@ -8,14 +8,14 @@ use Rattle.night_plan.specs.Nights.{night}
 use Rattle.night_plan.specs.Stops.{MustStop}
 use Rattle.plan_lines.specs.declared.answers.AnswerLine.{AnswerLine}
 use Rattle.plan_lines.specs.declared.answers.AnswerLine.TheVariants as answer
-use Rattle.plan_lines.specs.declared.rounds.Kind.TheVariants as kind
-use Rattle.plan_lines.specs.declared.sessions.Session.{Session}
-use Rattle.plan_lines.specs.Kinds.{line_of_kind}
+use Rattle.plan_lines.specs.declared.rounds.LineKind.TheVariants as kind
+use Rattle.plan_lines.specs.declared.states.PlanState.{PlanState}
+use Rattle.plan_lines.specs.LineKinds.{line_of_kind}
 use Rattle.plan_lines.specs.Rounds.{AskedLines, AsksAppended, IsAnswer, Stated, later_lines}
 use Rattle.plan_lines.specs.Rounds.{standing_lines}
 
 -- The standings, if they are asked for, and if they aren't.
-pub asked_for : (s : Session) (old new : List AnswerLine) → s.asked ≡ true → Stated s old new
+pub asked_for : (s : PlanState) (old new : List AnswerLine) → s.asked ≡ true → Stated s old new
     → AsksAppended s old new
 asked_for s old new is stated =
     let at : AskedLines true s (standing_lines 0 stated.0) = (stated.0, stated.1, refl) in (
@@ -24,7 +24,7 @@ asked_for s old new is stated =
       stated.2,
     )
 
-pub not_asked_for : (s : Session) (old : List AnswerLine) → s.asked ≡ false
+pub not_asked_for : (s : PlanState) (old : List AnswerLine) → s.asked ≡ false
     → AsksAppended s old old
 not_asked_for s old is =
     let at : AskedLines false s [] = refl in (
@@ -34,7 +34,7 @@ not_asked_for s old is =
     )
 
 -- Its parts, one after the other.
-pub answered : (s : Session) (choice : Choice) (stops : List ℕ) (a b d e f : List AnswerLine)
+pub answered : (s : PlanState) (choice : Choice) (stops : List ℕ) (a b d e f : List AnswerLine)
     → IsChoice (night s.plan s.facts) s.time s.facts.sizes.items choice
     → ((c : ℕ) → Contains stops c ↔ MustStop (night s.plan s.facts) c)
     → IsStrictlyIncreasing stops

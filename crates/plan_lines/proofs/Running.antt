@@ -20,8 +20,8 @@ use Rattle.plan_lines.specs.declared.runs.Next.{Next}
 use Rattle.plan_lines.specs.declared.runs.Next.TheVariants as next
 use Rattle.plan_lines.specs.declared.runs.RunEnd.{RunEnd}
 use Rattle.plan_lines.specs.declared.runs.RunEnd.TheVariants as end
-use Rattle.plan_lines.specs.declared.runs.Stage.{Stage}
-use Rattle.plan_lines.specs.declared.runs.Stage.TheVariants as stage
+use Rattle.plan_lines.specs.declared.runs.InputPart.{InputPart}
+use Rattle.plan_lines.specs.declared.runs.InputPart.TheVariants as part
 use Rattle.plan_lines.specs.Answers.{answer_lines}
 use Rattle.plan_lines.specs.Drafts.{IsNew}
 use Rattle.plan_lines.specs.Lines.{Means}
@@ -46,7 +46,7 @@ fits_cut : (bytes : List ℕ) (parsed : PlanLine) → Means bytes parsed → tak
 fits_cut bytes parsed means = take_all 256 bytes (omega (arith, means.short))
 
 -- So a line is taken as what is returned of it.
-pub takes_cut : (s : Stage) (n : ℕ) (bytes : List ℕ) (after : Next) (lines : List AnswerLine)
+pub takes_cut : (s : InputPart) (n : ℕ) (bytes : List ℕ) (after : Next) (lines : List AnswerLine)
     → TakesLine s n (take 256 bytes) after lines → TakesLine s n bytes after lines
 takes_cut s n [] after lines h = h
 takes_cut s n (b ∷ bytes) after lines (inl h) =
@@ -59,19 +59,19 @@ takes_cut s n (b ∷ bytes) after lines (inr h) =
     )
 
 -- No line ends the input.
-not_ended : (s : Stage) (n : ℕ) (bytes : List ℕ) (lines : List AnswerLine)
+not_ended : (s : InputPart) (n : ℕ) (bytes : List ℕ) (lines : List AnswerLine)
     → TakesLine s n bytes (next.End end.InputEnded) lines → ⊥
-not_ended (stage.Plan d) n [] lines (inl h) = h.2
-not_ended (stage.Plan d) n [] lines (inr h) = h.2
-not_ended (stage.Round r) n [] lines (inl h) = h.2
-not_ended (stage.Round r) n [] lines (inr h) = h.2
-not_ended (stage.Plan d) n (b ∷ bytes) lines (inl h) = h.2
-not_ended (stage.Plan d) n (b ∷ bytes) lines (inr h) = h.1
-not_ended (stage.Round r) n (b ∷ bytes) lines (inl h) = h.2
-not_ended (stage.Round r) n (b ∷ bytes) lines (inr h) = h.1
+not_ended (part.Plan d) n [] lines (inl h) = h.2
+not_ended (part.Plan d) n [] lines (inr h) = h.2
+not_ended (part.Round r) n [] lines (inl h) = h.2
+not_ended (part.Round r) n [] lines (inr h) = h.2
+not_ended (part.Plan d) n (b ∷ bytes) lines (inl h) = h.2
+not_ended (part.Plan d) n (b ∷ bytes) lines (inr h) = h.1
+not_ended (part.Round r) n (b ∷ bytes) lines (inl h) = h.2
+not_ended (part.Round r) n (b ∷ bytes) lines (inr h) = h.1
 
 -- What was written of the answer to a line that broke off.
-breaks : (why : RunFault) (s : Stage) (n : ℕ) (bytes : List ℕ) (w0 w1 : Option (List ℕ))
+breaks : (why : RunFault) (s : InputPart) (n : ℕ) (bytes : List ℕ) (w0 w1 : Option (List ℕ))
     → Answers (TakesLine s n (take 256 bytes)) (Err why) w0 w1
     → (text : List ℕ) × BreaksOff why s n bytes text × Appends w0 w1 text
 breaks fault.Output s n bytes w0 w1 h =
@@ -83,7 +83,7 @@ breaks fault.InputTooLong s n bytes w0 w1 h = absurd h
 breaks (fault.Store why) s n bytes w0 w1 h = absurd h
 
 -- It isn't the length of the input that breaks it off.
-not_too_long : (why : RunFault) (s : Stage) (n : ℕ) (bytes : List ℕ) (w0 w1 : Option (List ℕ))
+not_too_long : (why : RunFault) (s : InputPart) (n : ℕ) (bytes : List ℕ) (w0 w1 : Option (List ℕ))
     → Answers (TakesLine s n bytes) (Err why) w0 w1 → why ≡ fault.InputTooLong → ⊥
 not_too_long fault.Output s n bytes w0 w1 h is = cc
 not_too_long fault.Memory s n bytes w0 w1 h is = cc
@@ -94,26 +94,26 @@ not_too_long (fault.Store why) s n bytes w0 w1 h is = absurd h
 -- ---- lines that were taken
 
 -- These lines were taken, and none of them ended the run.
-abbrev pub TakesAll : Stage → ℕ → List (List ℕ) → Stage → List AnswerLine → Type 0
+abbrev pub TakesAll : InputPart → ℕ → List (List ℕ) → InputPart → List AnswerLine → Type 0
 TakesAll s n [] t lines = (t ≡ s) × (lines ≡ [])
 TakesAll s n (line ∷ input) t lines =
-    (m : Stage) × (first rest : List AnswerLine) × TakesLine s n line (next.Stage m) first
+    (m : InputPart) × (first rest : List AnswerLine) × TakesLine s n line (next.Part m) first
     × TakesAll m (n + 1) input t rest × (lines ≡ first ++ rest)
 
 moved : (n k : ℕ) → n + 1 + k ≡ n + suc k
 moved n k = omega arith
 
 -- One line more.
-takes_one_more : (s : Stage) (n : ℕ) (input : List (List ℕ)) (t u : Stage) (line : List ℕ)
+takes_one_more : (s : InputPart) (n : ℕ) (input : List (List ℕ)) (t u : InputPart) (line : List ℕ)
     (xs ys : List AnswerLine) → TakesAll s n input t xs
-    → TakesLine t (n + length input) line (next.Stage u) ys
+    → TakesLine t (n + length input) line (next.Part u) ys
     → TakesAll s n (input ++ line ∷ []) u (xs ++ ys)
 takes_one_more s n [] t u line xs ys all one = (
   u,
   ys,
   [],
-  subst (λ (m : ℕ). TakesLine s m line (next.Stage u) ys) (add-zero n)
-      (subst (λ (r : Stage). TakesLine r (n + 0) line (next.Stage u) ys) all.0 one),
+  subst (λ (m : ℕ). TakesLine s m line (next.Part u) ys) (add-zero n)
+      (subst (λ (r : InputPart). TakesLine r (n + 0) line (next.Part u) ys) all.0 one),
   (refl, refl),
   ap (λ (l : List AnswerLine). l ++ ys) all.1 ∙ sym (append-nil ys),
 )
@@ -123,18 +123,18 @@ takes_one_more s n (x ∷ input) t u line xs ys all one = (
   all.2 ++ ys,
   all.3,
   takes_one_more all.0 (n + 1) input t u line all.2 ys all.4
-      (subst (λ (m : ℕ). TakesLine t m line (next.Stage u) ys) (sym (moved n (length input))) one),
+      (subst (λ (m : ℕ). TakesLine t m line (next.Part u) ys) (sym (moved n (length input))) one),
   ap (λ (l : List AnswerLine). l ++ ys) all.5 ∙ append_assoc all.1 all.2 ys,
 )
 
 -- The run goes on over the lines after them.
-runs_then : (s : Stage) (n : ℕ) (input more : List (List ℕ)) (t : Stage) (stop : RunEnd)
+runs_then : (s : InputPart) (n : ℕ) (input more : List (List ℕ)) (t : InputPart) (stop : RunEnd)
     (xs ys : List AnswerLine) → TakesAll s n input t xs
     → RunsOver t (n + length input) more stop ys → RunsOver s n (input ++ more) stop (xs ++ ys)
 runs_then s n [] more t stop xs ys all rest =
     let here : RunsOver s n more stop ys =
     subst (λ (m : ℕ). RunsOver s m more stop ys) (add-zero n)
-    (subst (λ (r : Stage). RunsOver r (n + 0) more stop ys) all.0 rest) in
+    (subst (λ (r : InputPart). RunsOver r (n + 0) more stop ys) all.0 rest) in
     subst (RunsOver s n more stop) (sym (ap (λ (l : List AnswerLine). l ++ ys) all.1)) here
 runs_then s n (x ∷ input) more t stop xs ys all rest =
     inr (
@@ -148,14 +148,14 @@ runs_then s n (x ∷ input) more t stop xs ys all rest =
     )
 
 -- Or it stops at one of them.
-stops_then : (why : RunFault) (s : Stage) (n : ℕ) (input more : List (List ℕ)) (t : Stage)
+stops_then : (why : RunFault) (s : InputPart) (n : ℕ) (input more : List (List ℕ)) (t : InputPart)
     (xs : List AnswerLine) (text : List ℕ) → TakesAll s n input t xs
     → StopsOver why t (n + length input) more text
     → StopsOver why s n (input ++ more) (answer_lines xs ++ text)
 stops_then why s n [] more t xs text all rest =
     let here : StopsOver why s n more text =
     subst (λ (m : ℕ). StopsOver why s m more text) (add-zero n)
-    (subst (λ (r : Stage). StopsOver why r (n + 0) more text) all.0 rest) in
+    (subst (λ (r : InputPart). StopsOver why r (n + 0) more text) all.0 rest) in
     subst (StopsOver why s n more)
     (sym (ap (λ (l : List AnswerLine). answer_lines l ++ text) all.1)) here
 stops_then why s n (x ∷ input) more t xs text all rest =
@@ -175,7 +175,7 @@ stops_then why s n (x ∷ input) more t xs text all rest =
 
 -- Of the bytes that were read, those up to the last LF that was returned were taken, and the others
 -- are held.
-pub record HasRun (held : List ℕ) (number : ℕ) (s : Stage) (r0 r1 w0 w1 : Option (List ℕ))
+pub record HasRun (held : List ℕ) (number : ℕ) (s : InputPart) (r0 r1 w0 w1 : Option (List ℕ))
     : Type 0 where
   pub bytes : List ℕ
   pub read : Consumes r0 r1 bytes
@@ -185,12 +185,12 @@ pub record HasRun (held : List ℕ) (number : ℕ) (s : Stage) (r0 r1 w0 w1 : Op
   pub first : Draft
   pub none_yet : IsNew first
   pub lines : List AnswerLine
-  pub taken : TakesAll (stage.Plan first) 1 (whole_lines [] front) s lines
+  pub taken : TakesAll (part.Plan first) 1 (whole_lines [] front) s lines
   pub count : number ≡ 1 + length (whole_lines [] front)
   pub written : Appends w0 w1 (answer_lines lines)
 
 pub begun : (held : List ℕ) (first : Draft) (r w : Option (List ℕ)) → held ≡ [] → IsNew first
-    → HasRun held 1 (stage.Plan first) r r w w
+    → HasRun held 1 (part.Plan first) r r w w
 begun held first r w none new = record {
   bytes = [];
   read = consumes_nothing r;
@@ -226,7 +226,8 @@ read_on : (bytes front held more : List ℕ) → bytes ≡ front ++ held
 read_on bytes front held more parts =
     ap (λ (l : List ℕ). l ++ more) parts ∙ append_assoc front held more
 
-module _ {held new line : List ℕ} {number : ℕ} {s : Stage} {r0 r1 r2 w0 w1 : Option (List ℕ)} where
+module _ {held new line : List ℕ} {number : ℕ} {s : InputPart}
+    {r0 r1 r2 w0 w1 : Option (List ℕ)} where
   -- All lines, if a line was read.
   all_lines : (run : HasRun held number s r0 r1 w0 w1) (reads : ReadsLine held new r1 r2 line)
       → whole_lines [] (run.bytes ++ reads.bytes)
@@ -239,11 +240,12 @@ module _ {held new line : List ℕ} {number : ℕ} {s : Stage} {r0 r1 r2 w0 w1 :
       ∙ ap (λ (l : List (List ℕ)). whole_lines [] run.front ++ l)
       (line_first reads.text new reads.whole)
 
-module _ {held new line : List ℕ} {number : ℕ} {s : Stage} {r0 r1 r2 w0 w1 w2 : Option (List ℕ)}
+module _ {held new line : List ℕ} {number : ℕ} {s : InputPart} {r0 r1 r2 w0 w1 w2 : Option (List ℕ)}
   where
     -- A line was taken, and the run goes on.
-    pub line_taken : (t : Stage) → HasRun held number s r0 r1 w0 w1 → ReadsLine held new r1 r2 line
-        → Answers (TakesLine s number line) (Ok (next.Stage t)) w1 w2
+    pub line_taken : (t : InputPart) → HasRun held number s r0 r1 w0 w1
+        → ReadsLine held new r1 r2 line
+        → Answers (TakesLine s number line) (Ok (next.Part t)) w1 w2
         → HasRun new (number + 1) t r0 r2 w0 w2
     line_taken t run reads answer =
         let text = reads.text in
@@ -251,10 +253,10 @@ module _ {held new line : List ℕ} {number : ℕ} {s : Stage} {r0 r1 r2 w0 w1 w
         let one : whole_lines [] (run.front ++ (text ++ 10 ∷ [])) ≡ lines ++ text ∷ [] =
         lines_after run.front (text ++ 10 ∷ []) run.closed
         ∙ ap (λ (l : List (List ℕ)). lines ++ l) (line_first text [] reads.whole) in
-        let takes : TakesLine s (1 + length lines) text (next.Stage t) answer.0 =
-        subst (λ n. TakesLine s n text (next.Stage t) answer.0) run.count
-        (takes_cut s number text (next.Stage t) answer.0
-        (subst (λ (l : List ℕ). TakesLine s number l (next.Stage t) answer.0) reads.returned
+        let takes : TakesLine s (1 + length lines) text (next.Part t) answer.0 =
+        subst (λ n. TakesLine s n text (next.Part t) answer.0) run.count
+        (takes_cut s number text (next.Part t) answer.0
+        (subst (λ (l : List ℕ). TakesLine s number l (next.Part t) answer.0) reads.returned
         answer.1)) in
         record {
           bytes = run.bytes ++ reads.bytes;
@@ -273,9 +275,9 @@ module _ {held new line : List ℕ} {number : ℕ} {s : Stage} {r0 r1 r2 w0 w1 w
           lines = run.lines ++ answer.0;
           taken =
               subst
-              (λ (l : List (List ℕ)). TakesAll (stage.Plan run.first) 1 l t (run.lines ++ answer.0))
+              (λ (l : List (List ℕ)). TakesAll (part.Plan run.first) 1 l t (run.lines ++ answer.0))
               (sym one)
-              (takes_one_more (stage.Plan run.first) 1 lines s t text run.lines answer.0 run.taken
+              (takes_one_more (part.Plan run.first) 1 lines s t text run.lines answer.0 run.taken
               takes);
           count = omega (arith, run.count, ap length one, length-append lines (text ∷ []));
           written =
@@ -306,9 +308,9 @@ module _ {held new line : List ℕ} {number : ℕ} {s : Stage} {r0 r1 r2 w0 w1 w
           runs =
               subst
               (λ (l : List (List ℕ)).
-              RunsOver (stage.Plan run.first) 1 l stop (run.lines ++ answer.0))
+              RunsOver (part.Plan run.first) 1 l stop (run.lines ++ answer.0))
               (sym (all_lines run reads))
-              (runs_then (stage.Plan run.first) 1 lines (text ∷ whole_lines [] new) s stop run.lines
+              (runs_then (part.Plan run.first) 1 lines (text ∷ whole_lines [] new) s stop run.lines
               answer.0 run.taken (inl takes));
           ended = λ is.
               absurd (not_ended s number line answer.0
@@ -340,9 +342,9 @@ module _ {held new line : List ℕ} {number : ℕ} {s : Stage} {r0 r1 r2 w0 w1 w
           stops =
               subst
               (λ (l : List (List ℕ)).
-              StopsOver why (stage.Plan run.first) 1 l (answer_lines run.lines ++ off.0))
+              StopsOver why (part.Plan run.first) 1 l (answer_lines run.lines ++ off.0))
               (sym (all_lines run reads))
-              (stops_then why (stage.Plan run.first) 1 lines (text ∷ whole_lines [] new) s run.lines
+              (stops_then why (part.Plan run.first) 1 lines (text ∷ whole_lines [] new) s run.lines
               off.0 run.taken (inl here));
           too_long = λ is. absurd (not_too_long why s number line w1 w2 answer is);
           written =
@@ -367,7 +369,7 @@ long_enough fault.Output bytes h is = absurd h
 long_enough fault.Memory bytes h is = absurd h
 long_enough (fault.Store why) bytes h is = absurd h
 
-module _ {held : List ℕ} {number : ℕ} {s : Stage} {r0 r1 r2 w0 w1 : Option (List ℕ)} where
+module _ {held : List ℕ} {number : ℕ} {s : InputPart} {r0 r1 r2 w0 w1 : Option (List ℕ)} where
   -- All lines, if no more was read.
   no_more_lines : (run : HasRun held number s r0 r1 w0 w1) (bytes : List ℕ)
       → ReadsNoLine held r1 r2 bytes
@@ -390,9 +392,9 @@ module _ {held : List ℕ} {number : ℕ} {s : Stage} {r0 r1 r2 w0 w1 : Option (
     runs =
         subst
         (λ (l : List (List ℕ)).
-        RunsOver (stage.Plan run.first) 1 l end.InputEnded (run.lines ++ []))
+        RunsOver (part.Plan run.first) 1 l end.InputEnded (run.lines ++ []))
         (sym (no_more_lines run reads.0 reads.1))
-        (runs_then (stage.Plan run.first) 1 (whole_lines [] run.front) [] s end.InputEnded
+        (runs_then (part.Plan run.first) 1 (whole_lines [] run.front) [] s end.InputEnded
         run.lines [] run.taken (refl, refl));
     ended = λ is. reads.2;
     written =
@@ -413,9 +415,9 @@ module _ {held : List ℕ} {number : ℕ} {s : Stage} {r0 r1 r2 w0 w1 : Option (
     stops =
         subst
         (λ (l : List (List ℕ)).
-        StopsOver why (stage.Plan run.first) 1 l (answer_lines run.lines ++ []))
+        StopsOver why (part.Plan run.first) 1 l (answer_lines run.lines ++ []))
         (sym (no_more_lines run reads.0 reads.1))
-        (stops_then why (stage.Plan run.first) 1 (whole_lines [] run.front) [] s run.lines []
+        (stops_then why (part.Plan run.first) 1 (whole_lines [] run.front) [] s run.lines []
         run.taken (of_input why reads.0 reads.2, refl));
     too_long = λ is.
         omega (arith, long_enough why reads.0 reads.2 is, length-append run.bytes reads.0);
@@ -428,13 +430,13 @@ few_lines begun [] = omega arith
 few_lines begun (b ∷ bytes) =
     grind (arith, nat_tests, few_lines [] bytes, few_lines (begun ++ b ∷ []) bytes)
 
-stops_here : (s : Stage) (n : ℕ) (input : List (List ℕ))
+stops_here : (s : InputPart) (n : ℕ) (input : List (List ℕ))
     → StopsOver fault.InputTooLong s n input []
 stops_here s n [] = (tt, refl)
 stops_here s n (line ∷ input) = inl refl
 
 -- The numbers of the lines are used up.
-pub lines_stop_run : (held : List ℕ) (number : ℕ) (s : Stage) (r0 r1 w0 w1 : Option (List ℕ))
+pub lines_stop_run : (held : List ℕ) (number : ℕ) (s : InputPart) (r0 r1 w0 w1 : Option (List ℕ))
     → HasRun held number s r0 r1 w0 w1 → 2 ^ 64 - 1 ≤ number
     → RunStops fault.InputTooLong r0 r1 w0 w1
 lines_stop_run held number s r0 r1 w0 w1 run many = record {
@@ -446,9 +448,9 @@ lines_stop_run held number s r0 r1 w0 w1 run many = record {
   stops =
       subst
       (λ (l : List (List ℕ)).
-      StopsOver fault.InputTooLong (stage.Plan run.first) 1 l (answer_lines run.lines ++ []))
+      StopsOver fault.InputTooLong (part.Plan run.first) 1 l (answer_lines run.lines ++ []))
       (sym (ap (whole_lines []) run.parts ∙ lines_after run.front held run.closed))
-      (stops_then fault.InputTooLong (stage.Plan run.first) 1 (whole_lines [] run.front)
+      (stops_then fault.InputTooLong (part.Plan run.first) 1 (whole_lines [] run.front)
       (whole_lines [] held) s run.lines [] run.taken
       (stops_here s (1 + length (whole_lines [] run.front)) (whole_lines [] held)));
   too_long = λ is.

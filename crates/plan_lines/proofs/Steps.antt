@@ -8,7 +8,7 @@ use Rattle.console_lines.specs.declared.faults.RunFault.TheVariants as fault
 use Rattle.plan_lines.specs.declared.answers.AnswerLine.{AnswerLine}
 use Rattle.plan_lines.specs.declared.lines.PlanLine.{PlanLine}
 use Rattle.plan_lines.specs.declared.runs.Next.{Next}
-use Rattle.plan_lines.specs.declared.runs.Stage.{Stage}
+use Rattle.plan_lines.specs.declared.runs.InputPart.{InputPart}
 use Rattle.plan_lines.specs.Lines.{Means}
 use Rattle.plan_lines.specs.Runs.{Answers, Gives, Rejects, TakesLine}
 
@@ -42,7 +42,7 @@ pub some_from_test : {A : Type 0} (xs : List A) (empty : Bool) → empty ≡ (le
 some_from_test [] empty is unlike = λ e. absurd (true≢false (sym is ∙ unlike))
 some_from_test (x ∷ xs) empty is unlike = λ e. absurd (omega (arith, ap length e))
 
-pub takes_bad : (s : Stage) (n : ℕ) (bytes : List ℕ) → bytes ≢ []
+pub takes_bad : (s : InputPart) (n : ℕ) (bytes : List ℕ) → bytes ≢ []
     → ((parsed : PlanLine) → Means bytes parsed → ⊥) → (after : Next) (lines : List AnswerLine)
     → Rejects n after lines → TakesLine s n bytes after lines
 takes_bad s n [] some none after lines h = absurd (some refl)

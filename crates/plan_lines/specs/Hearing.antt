@@ -3,7 +3,7 @@ use Rattle.std.specs.Prelude.{◌≡◌, ℕ, true, false, Option, Some, None}
 use Rattle.night_plan.specs.declared.commands.Command.{Command}
 use Rattle.plan_lines.specs.declared.lines.PlanLine.{PlanLine}
 use Rattle.plan_lines.specs.declared.lines.PlanLine.TheVariants as line
-use Rattle.plan_lines.specs.declared.sessions.Session.{Session}
+use Rattle.plan_lines.specs.declared.states.PlanState.{PlanState}
 use Rattle.plan_lines.specs.declared.hearing.Growth.{Growth}
 use Rattle.plan_lines.specs.declared.hearing.Round.{Round}
 use Rattle.plan_lines.specs.declared.hearing.Heard.{Heard}
@@ -12,8 +12,8 @@ use Rattle.plan_lines.specs.declared.hearing.Grown.{Grown}
 use Rattle.plan_lines.specs.declared.hearing.Grown.TheVariants as grown
 use Rattle.plan_lines.specs.Commands.{HasNewNeed, HasNewTake, IsOutlined}
 use Rattle.plan_lines.specs.Facts.{Notes}
-use Rattle.plan_lines.specs.Sessions.{HasFact, HasNewCommand, HasNewGroup, HasQuestion, HasTime}
-use Rattle.plan_lines.specs.Sessions.{MayGrow}
+use Rattle.plan_lines.specs.States.{HasFact, HasNewCommand, HasNewGroup, HasQuestion, HasTime}
+use Rattle.plan_lines.specs.States.{MayGrow}
 
 -- A command has the need, or takes the thing, that a line says.
 abbrev pub Extends : PlanLine → Command → Command → Type 0
@@ -25,37 +25,37 @@ Extends _ old new = new ≡ old
 abbrev pub GrowsOn : PlanLine → ℕ → Round → Heard → Type 0
 GrowsOn said number r (heard.Bad n) = (r.growth ≡ None) × (n ≡ number)
 GrowsOn said number r (heard.Round t) =
-    (g h : Growth) × (r.growth ≡ Some g) × (t.growth ≡ Some h) × (t.session ≡ r.session)
+    (g h : Growth) × (r.growth ≡ Some g) × (t.growth ≡ Some h) × (t.state ≡ r.state)
     × Extends said g.command h.command × (h.line ≡ g.line)
 
 -- The plan has grown by the command, if there is one that it may grow by.
-abbrev pub Grows : Option Growth → Session → Grown → Type 0
-Grows None s (grown.Session t) = t ≡ s
+abbrev pub Grows : Option Growth → PlanState → Grown → Type 0
+Grows None s (grown.State t) = t ≡ s
 Grows None s (grown.Bad n) = ⊥
-Grows (Some g) s (grown.Session t) = MayGrow true s.plan g.command × HasNewCommand g.command s t
+Grows (Some g) s (grown.State t) = MayGrow true s.plan g.command × HasNewCommand g.command s t
 Grows (Some g) s (grown.Bad n) = MayGrow false s.plan g.command × (n ≡ g.line)
 
--- A fact was noted in a session. It has to be of something that there is.
-abbrev pub HearsFact : PlanLine → ℕ → Session → Heard → Type 0
+-- A fact was noted. There has to be something that it is about.
+abbrev pub HearsFact : PlanLine → ℕ → PlanState → Heard → Type 0
 HearsFact said number s (heard.Bad n) = Notes false said s.facts s.facts × (n ≡ number)
-HearsFact said number s (heard.Round t) = HasFact said s t.session × (t.growth ≡ None)
+HearsFact said number s (heard.Round t) = HasFact said s t.state × (t.growth ≡ None)
 
--- A line of this number was heard in a session whose plan grows by no command.
-abbrev pub HearsAlone : PlanLine → ℕ → Session → Heard → Type 0
+-- A line of this number was heard while the plan was growing by no command.
+abbrev pub HearsAlone : PlanLine → ℕ → PlanState → Heard → Type 0
 HearsAlone (line.Command outline) number s (heard.Round t) =
-    (t.session ≡ s) × (g : Growth) × (t.growth ≡ Some g) × IsOutlined outline g.command
+    (t.state ≡ s) × (g : Growth) × (t.growth ≡ Some g) × IsOutlined outline g.command
     × (g.line ≡ number)
 HearsAlone (line.Group group) number s (heard.Round t) =
-    HasNewGroup group s t.session × (t.growth ≡ None)
+    HasNewGroup group s t.state × (t.growth ≡ None)
 HearsAlone (line.Now moment) number s (heard.Round t) =
-    HasTime moment s t.session × (t.growth ≡ None)
+    HasTime moment s t.state × (t.growth ≡ None)
 HearsAlone line.Standings number s (heard.Round t) =
-    HasQuestion true s t.session × (t.growth ≡ None)
+    HasQuestion true s t.state × (t.growth ≡ None)
 HearsAlone said number s answer = HearsFact said number s answer
 
 -- A line was heard once the plan has grown.
 abbrev pub HearsAfter : PlanLine → ℕ → Grown → Heard → Type 0
-HearsAfter said number (grown.Session s) answer = HearsAlone said number s answer
+HearsAfter said number (grown.State s) answer = HearsAlone said number s answer
 HearsAfter said number (grown.Bad n) answer = answer ≡ heard.Bad n
 
 -- A line of this number was heard in a round.
@@ -63,4 +63,4 @@ abbrev pub Hears : PlanLine → ℕ → Round → Heard → Type 0
 Hears (line.Need need) number r answer = GrowsOn (line.Need need) number r answer
 Hears (line.Take take) number r answer = GrowsOn (line.Take take) number r answer
 Hears said number r answer =
-    (g : Grown) × Grows r.growth r.session g × HearsAfter said number g answer
+    (g : Grown) × Grows r.growth r.state g × HearsAfter said number g answer

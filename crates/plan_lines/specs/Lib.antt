@@ -5,8 +5,8 @@ pub mod Commands
 pub mod Facts
 pub mod Answers
 pub mod Rounds
-pub mod Kinds
-pub mod Sessions
+pub mod LineKinds
+pub mod States
 pub mod Hearing
 pub mod Drafts
 pub mod Writing

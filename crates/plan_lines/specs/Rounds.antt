@@ -12,7 +12,7 @@ use Rattle.night_plan.specs.Standings.{Stands}
 use Rattle.night_plan.specs.Stops.{MustStop}
 use Rattle.plan_lines.specs.declared.answers.AnswerLine.{AnswerLine}
 use Rattle.plan_lines.specs.declared.answers.AnswerLine.TheVariants as answer
-use Rattle.plan_lines.specs.declared.sessions.Session.{Session}
+use Rattle.plan_lines.specs.declared.states.PlanState.{PlanState}
 
 -- The lines of a refusal. Missing memory has none.
 abbrev pub refusal_lines : PlanFault → List AnswerLine
@@ -33,29 +33,29 @@ standing_lines i [] = []
 standing_lines i (s ∷ all) = answer.Stands i s ∷ standing_lines (i + 1) all
 
 -- Each command stands so.
-pub record AreStandings (s : Session) (all : List Standing) : Type 0 where
+pub record AreStandings (s : PlanState) (all : List Standing) : Type 0 where
   pub sized : length all ≡ length s.plan.commands.items
   pub each : (c : ℕ) (standing : Standing) → slice_get all c ≡ Some standing
       → Stands (night s.plan s.facts) s.time c standing
 
 -- Lines that say how each command stands were appended.
-abbrev pub Stated : Session → (old new : List AnswerLine) → Type 0
+abbrev pub Stated : PlanState → (old new : List AnswerLine) → Type 0
 Stated s old new = (all : List Standing) × AreStandings s all × (new ≡ old ++ standing_lines 0 all)
 
 -- The lines of the standings, if the round asks for them.
-abbrev pub AskedLines : Bool → Session → List AnswerLine → Type 0
+abbrev pub AskedLines : Bool → PlanState → List AnswerLine → Type 0
 AskedLines false s lines = lines ≡ []
 AskedLines true s lines =
     (all : List Standing) × AreStandings s all × (lines ≡ standing_lines 0 all)
 
 -- Those lines were appended, if the round asks for them.
-abbrev pub AsksAppended : Session → (old new : List AnswerLine) → Type 0
+abbrev pub AsksAppended : PlanState → (old new : List AnswerLine) → Type 0
 AsksAppended s old new = (lines : List AnswerLine) × AskedLines s.asked s lines
     × (new ≡ old ++ lines)
 
 -- The answer to a round: what is chosen begins, in order; what has to stop, by number; the later
 -- moment; and how each command stands, if that is asked.
-pub record IsAnswer (s : Session) (lines : List AnswerLine) : Type 0 where
+pub record IsAnswer (s : PlanState) (lines : List AnswerLine) : Type 0 where
   pub choice : Choice
   pub stops : List ℕ
   pub asked : List AnswerLine

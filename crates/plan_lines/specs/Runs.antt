@@ -19,15 +19,15 @@ use Rattle.plan_lines.specs.declared.runs.Next.{Next}
 use Rattle.plan_lines.specs.declared.runs.Next.TheVariants as next
 use Rattle.plan_lines.specs.declared.runs.RunEnd.{RunEnd}
 use Rattle.plan_lines.specs.declared.runs.RunEnd.TheVariants as end
-use Rattle.plan_lines.specs.declared.runs.Stage.{Stage}
-use Rattle.plan_lines.specs.declared.runs.Stage.TheVariants as stage
-use Rattle.plan_lines.specs.declared.sessions.Session.{Session}
+use Rattle.plan_lines.specs.declared.runs.InputPart.{InputPart}
+use Rattle.plan_lines.specs.declared.runs.InputPart.TheVariants as part
+use Rattle.plan_lines.specs.declared.states.PlanState.{PlanState}
 use Rattle.plan_lines.specs.Answers.{answer_lines}
 use Rattle.plan_lines.specs.Drafts.{Adds, Finishes, IsNew}
 use Rattle.plan_lines.specs.Hearing.{Grows, Hears}
 use Rattle.plan_lines.specs.Lines.{Means}
 use Rattle.plan_lines.specs.Rounds.{IsAnswer, refusal_lines}
-use Rattle.plan_lines.specs.Sessions.{HasQuestion, IsBegun}
+use Rattle.plan_lines.specs.States.{HasQuestion, IsBegun}
 
 -- ---- what a line makes of a run, and the lines of its answer
 
@@ -41,7 +41,7 @@ Rejects number _ lines = ⊥
 
 -- Rounds of a plan follow.
 abbrev pub BeginsRounds : Plan → Next → List AnswerLine → Type 0
-BeginsRounds plan (next.Stage (stage.Round r)) lines = IsBegun plan r.session × (r.growth ≡ None)
+BeginsRounds plan (next.Part (part.Round r)) lines = IsBegun plan r.state × (r.growth ≡ None)
     × (lines ≡ answer.Plan (length plan.commands.items) ∷ answer.End ∷ [])
 BeginsRounds plan _ lines = ⊥
 
@@ -57,37 +57,37 @@ EndsPlan d after lines =
     ⊎ ((why : PlanFault) × Finishes d (Err why) × Refuses why after lines)
 
 -- A round is answered, and the next one follows.
-abbrev pub AnswersRound : Session → Next → List AnswerLine → Type 0
-AnswersRound s (next.Stage (stage.Round t)) lines =
-    IsAnswer s lines × HasQuestion false s t.session × (t.growth ≡ None)
+abbrev pub AnswersRound : PlanState → Next → List AnswerLine → Type 0
+AnswersRound s (next.Part (part.Round t)) lines =
+    IsAnswer s lines × HasQuestion false s t.state × (t.growth ≡ None)
 AnswersRound s _ lines = ⊥
 
 -- A round has ended: it is answered, once the plan has grown; or the growth is refused.
 abbrev pub EndsRound : Round → Next → List AnswerLine → Type 0
 EndsRound r after lines =
-    ((s : Session) × Grows r.growth r.session (grown.Session s) × AnswersRound s after lines)
-    ⊎ ((n : ℕ) × Grows r.growth r.session (grown.Bad n) × Rejects n after lines)
+    ((s : PlanState) × Grows r.growth r.state (grown.State s) × AnswersRound s after lines)
+    ⊎ ((n : ℕ) × Grows r.growth r.state (grown.Bad n) × Rejects n after lines)
 
 -- A part has ended.
-abbrev pub EndsPart : Stage → Next → List AnswerLine → Type 0
-EndsPart (stage.Plan d) = EndsPlan d
-EndsPart (stage.Round r) = EndsRound r
+abbrev pub EndsPart : InputPart → Next → List AnswerLine → Type 0
+EndsPart (part.Plan d) = EndsPlan d
+EndsPart (part.Round r) = EndsRound r
 
 -- A line of this number is taken, and not answered; or it is bad.
-abbrev pub Takes : Stage → PlanLine → ℕ → Next → List AnswerLine → Type 0
-Takes (stage.Plan d) parsed number (next.Stage (stage.Plan e)) lines =
+abbrev pub Takes : InputPart → PlanLine → ℕ → Next → List AnswerLine → Type 0
+Takes (part.Plan d) parsed number (next.Part (part.Plan e)) lines =
     Adds parsed d (Some e) × (lines ≡ [])
-Takes (stage.Plan d) parsed number (next.End (end.Bad n)) lines =
+Takes (part.Plan d) parsed number (next.End (end.Bad n)) lines =
     Adds parsed d None × (n ≡ number) × (lines ≡ bad_lines n)
-Takes (stage.Round r) parsed number (next.Stage (stage.Round t)) lines =
+Takes (part.Round r) parsed number (next.Part (part.Round t)) lines =
     Hears parsed number r (heard.Round t) × (lines ≡ [])
-Takes (stage.Round r) parsed number (next.End (end.Bad n)) lines =
+Takes (part.Round r) parsed number (next.End (end.Bad n)) lines =
     Hears parsed number r (heard.Bad n) × (lines ≡ bad_lines n)
 Takes _ parsed number _ lines = ⊥
 
 -- The bytes of a line of this number are taken. An empty line ends a part. Any other line is taken
 -- by its meaning, and is bad if it has none.
-abbrev pub TakesLine : Stage → ℕ → (bytes : List ℕ) → Next → List AnswerLine → Type 0
+abbrev pub TakesLine : InputPart → ℕ → (bytes : List ℕ) → Next → List AnswerLine → Type 0
 TakesLine s number [] = EndsPart s
 TakesLine s number (b ∷ bytes) = λ after lines.
     ((parsed : PlanLine) × Means (b ∷ bytes) parsed × Takes s parsed number after lines)
@@ -95,14 +95,15 @@ TakesLine s number (b ∷ bytes) = λ after lines.
 
 -- ---- a whole run
 
--- The lines of an input are taken one after another, from a stage on. The first one has the number
--- n. The run ends after the last line, or with the line that ends it. These are the lines of its
--- answers.
-abbrev pub RunsOver : Stage → (n : ℕ) → (input : List (List ℕ)) → RunEnd → List AnswerLine → Type 0
+-- The lines of an input are taken one after another, beginning in this part. The first one has the
+-- number n. The run ends after the last line, or with the line that ends it. These are the lines of
+-- its answers.
+abbrev pub RunsOver : InputPart → (n : ℕ) → (input : List (List ℕ)) → RunEnd → List AnswerLine
+    → Type 0
 RunsOver s n [] stop lines = (stop ≡ end.InputEnded) × (lines ≡ [])
 RunsOver s n (line ∷ input) stop lines =
     TakesLine s n line (next.End stop) lines
-    ⊎ ((t : Stage) × (first rest : List AnswerLine) × TakesLine s n line (next.Stage t) first
+    ⊎ ((t : InputPart) × (first rest : List AnswerLine) × TakesLine s n line (next.Part t) first
     × RunsOver t (n + 1) input stop rest × (lines ≡ first ++ rest))
 
 -- A run has come to its end. All lines that an LF ended were taken, up to the one that ends the
@@ -113,7 +114,7 @@ pub record RunEnds (stop : RunEnd) (r0 r1 w0 w1 : Option (List ℕ)) : Type 0 wh
   pub first : Draft
   pub none_yet : IsNew first
   pub lines : List AnswerLine
-  pub runs : RunsOver (stage.Plan first) 1 (whole_lines [] bytes) stop lines
+  pub runs : RunsOver (part.Plan first) 1 (whole_lines [] bytes) stop lines
   pub ended : stop ≡ end.InputEnded → IsAtEnd r1
   pub written : Appends w0 w1 (answer_lines lines)
 
@@ -121,7 +122,7 @@ pub record RunEnds (stop : RunEnd) (r0 r1 w0 w1 : Option (List ℕ)) : Type 0 wh
 
 -- What was written of the answer to a line, for each fault that stops the run: a prefix of it if
 -- the output failed, and otherwise nothing.
-abbrev pub BreaksOff : RunFault → Stage → ℕ → (line : List ℕ) → (text : List ℕ) → Type 0
+abbrev pub BreaksOff : RunFault → InputPart → ℕ → (line : List ℕ) → (text : List ℕ) → Type 0
 BreaksOff fault.Output s n line text =
     (after : Next) × (lines : List AnswerLine) × TakesLine s n line after lines
     × IsFront text (answer_lines lines)
@@ -135,15 +136,15 @@ IsAfterLines fault.Input = Unit {0}
 IsAfterLines fault.InputTooLong = Unit {0}
 IsAfterLines _ = ⊥
 
--- The lines of an input are taken one after another, from a stage on, until a fault stops the run
--- at one of them, or after the last one. This is what was written.
-abbrev pub StopsOver : RunFault → Stage → (n : ℕ) → (input : List (List ℕ)) → (text : List ℕ)
+-- The lines of an input are taken one after another, beginning in this part, until a fault stops
+-- the run at one of them, or after the last one. This is what was written.
+abbrev pub StopsOver : RunFault → InputPart → (n : ℕ) → (input : List (List ℕ)) → (text : List ℕ)
     → Type 0
 StopsOver why s n [] text = IsAfterLines why × (text ≡ [])
 StopsOver why s n (line ∷ input) text =
     BreaksOff why s n line text
-    ⊎ ((t : Stage) × (first : List AnswerLine) × (rest : List ℕ)
-    × TakesLine s n line (next.Stage t) first × StopsOver why t (n + 1) input rest
+    ⊎ ((t : InputPart) × (first : List AnswerLine) × (rest : List ℕ)
+    × TakesLine s n line (next.Part t) first × StopsOver why t (n + 1) input rest
     × (text ≡ answer_lines first ++ rest))
 
 -- A fault has stopped a run. Of the answers to the lines that were read a prefix was written.
@@ -153,7 +154,7 @@ pub record RunStops (why : RunFault) (r0 r1 w0 w1 : Option (List ℕ)) : Type 0 
   pub first : Draft
   pub none_yet : IsNew first
   pub text : List ℕ
-  pub stops : StopsOver why (stage.Plan first) 1 (whole_lines [] bytes) text
+  pub stops : StopsOver why (part.Plan first) 1 (whole_lines [] bytes) text
   pub too_long : why ≡ fault.InputTooLong → 2 ^ 64 - 2 ≤ length bytes
   pub written : Appends w0 w1 text
 

@@ -1,11 +1,11 @@
-//! A [`Round`] is a session, and the command that its plan is growing by.
+//! A [`Round`] is a state, and the command that its plan is growing by.
 
 ghost use Rattle.std.specs.Prelude.{◌≡◌, IfOk, None};
 ghost use Rattle.plan_lines.specs.Hearing.{Extends, Grows, GrowsOn, Hears, HearsAlone};
 
 use crate::drafts::{command_of, with_need, with_take};
 use crate::lines::PlanLine;
-use crate::sessions::Session;
+use crate::states::PlanState;
 use night_plan::commands::Command;
 use std::alloc::{AllocError, Global};
 
@@ -17,10 +17,10 @@ pub struct Growth {
     pub line: u64,
 }
 
-/// A session in a round.
+/// A state in a round.
 #[derive(Drop)]
 pub struct Round {
-    pub session: Session,
+    pub state: PlanState,
     pub growth: Option<Growth>,
 }
 
@@ -32,21 +32,21 @@ pub enum Heard {
     Bad(u64),
 }
 
-/// What became of a session after a line.
+/// What became of a state after a line.
 #[derive(Drop)]
 pub enum Grown {
-    Session(Session),
+    State(PlanState),
     /// The line of this number can't be taken.
     Bad(u64),
 }
 
 impl Round {
     /// A round in which nothing was heard.
-    pub fn new(session: Session) -> Round
-        ensures { result ≡ record { session = session; growth = None } }
+    pub fn new(state: PlanState) -> Round
+        ensures { result ≡ record { state = state; growth = None } }
     {
         Round {
-            session,
+            state,
             growth: None,
         }
     }
@@ -58,7 +58,7 @@ impl Round {
         match line {
             PlanLine::Need(_) | PlanLine::Take(_) => self.grow(line, number),
             _ => match self.finish()? {
-                Grown::Session(session) => hear_alone(alloc, session, line, number),
+                Grown::State(state) => hear_alone(alloc, state, line, number),
                 Grown::Bad(line) => Ok(Heard::Bad(line)),
             },
         }
@@ -68,27 +68,27 @@ impl Round {
     fn grow(self, line: PlanLine, number: u64) -> Result<Heard, AllocError>
         ensures { IfOk result (GrowsOn line number self) }
     {
-        let Round { session, growth } = self;
+        let Round { state, growth } = self;
         let Some(growth) = growth else {
             return Ok(Heard::Bad(number));
         };
         let growth = Some(extended(growth, line)?);
-        Ok(Heard::Round(Round { session, growth }))
+        Ok(Heard::Round(Round { state, growth }))
     }
 
-    /// The session with the command that the plan was growing by.
+    /// The state with the command that the plan was growing by.
     pub fn finish(self) -> Result<Grown, AllocError>
-        ensures { IfOk result (Grows self.growth self.session) }
+        ensures { IfOk result (Grows self.growth self.state) }
     {
-        let Round { session, growth } = self;
+        let Round { state, growth } = self;
         let Some(growth) = growth else {
-            return Ok(Grown::Session(session));
+            return Ok(Grown::State(state));
         };
         let Growth { command, line } = growth;
-        if !session.may_grow(&command) {
+        if !state.may_grow(&command) {
             return Ok(Grown::Bad(line));
         }
-        Ok(Grown::Session(session.with_command(command)?))
+        Ok(Grown::State(state.with_command(command)?))
     }
 }
 
@@ -109,11 +109,11 @@ fn extended(growth: Growth, said: PlanLine) -> Result<Growth, AllocError>
 /// The round after a line, while the plan is growing by no command.
 fn hear_alone(
     alloc: Global,
-    session: Session,
+    state: PlanState,
     line: PlanLine,
     number: u64,
 ) -> Result<Heard, AllocError>
-    ensures { IfOk result (HearsAlone line number session) }
+    ensures { IfOk result (HearsAlone line number state) }
 {
     match line {
         PlanLine::Command(outline) => {
@@ -122,13 +122,13 @@ fn hear_alone(
                 command,
                 line: number,
             });
-            Ok(Heard::Round(Round { session, growth }))
+            Ok(Heard::Round(Round { state, growth }))
         }
-        PlanLine::Group(group) => Ok(Heard::Round(Round::new(session.with_group(group)?))),
-        PlanLine::Now(moment) => Ok(Heard::Round(Round::new(session.at(moment)))),
-        PlanLine::Standings => Ok(Heard::Round(Round::new(session.with_question(true)))),
-        _ => Ok(match session.with_fact(line) {
-            Some(session) => Heard::Round(Round::new(session)),
+        PlanLine::Group(group) => Ok(Heard::Round(Round::new(state.with_group(group)?))),
+        PlanLine::Now(moment) => Ok(Heard::Round(Round::new(state.at(moment)))),
+        PlanLine::Standings => Ok(Heard::Round(Round::new(state.with_question(true)))),
+        _ => Ok(match state.with_fact(line) {
+            Some(state) => Heard::Round(Round::new(state)),
             None => Heard::Bad(number),
         }),
     }

@@ -10,5 +10,5 @@ pub mod numbers;
 pub mod readers;
 pub mod rounds;
 pub mod runs;
-pub mod sessions;
+pub mod states;
 pub mod tokens;

@@ -3,10 +3,10 @@
 ghost use Rattle.std.specs.Prelude.{◌≡◌, ◌++◌, ◌∷◌, [], IfOk, OnOk, length, map};
 ghost use Rattle.plan_lines.specs.Rounds.{AsksAppended, IsAnswer, Stated, later_lines};
 ghost use Rattle.plan_lines.specs.Rounds.{refusal_lines, standing_lines};
-ghost use Rattle.plan_lines.specs.Kinds.{line_of_kind};
+ghost use Rattle.plan_lines.specs.LineKinds.{line_of_kind};
 
 use crate::answers::AnswerLine;
-use crate::sessions::Session;
+use crate::states::PlanState;
 use night_plan::choices::choose;
 use night_plan::plans::PlanFault;
 use night_plan::standings::{Standing, standings};
@@ -14,12 +14,12 @@ use night_plan::stops::to_stop;
 use std::alloc::{AllocError, Global};
 
 /// The answer to a plan that was taken.
-pub fn taken_answer(alloc: Global, session: &Session) -> Result<Vec<AnswerLine>, AllocError>
+pub fn taken_answer(alloc: Global, state: &PlanState) -> Result<Vec<AnswerLine>, AllocError>
     ensures { IfOk result (λ lines. lines.items
-        ≡ AnswerLine.Plan (length session.now.plan.commands.items) ∷ AnswerLine.End ∷ []) }
+        ≡ AnswerLine.Plan (length state.now.plan.commands.items) ∷ AnswerLine.End ∷ []) }
 {
     let mut lines = Vec::new(alloc);
-    lines.push(AnswerLine::Plan(session.plan.commands.len()))?;
+    lines.push(AnswerLine::Plan(state.plan.commands.len()))?;
     lines.push(AnswerLine::End)?;
     Ok(lines)
 }
@@ -35,7 +35,7 @@ pub fn refused_answer(alloc: Global, fault: &PlanFault) -> Result<Vec<AnswerLine
         PlanFault::TooMuch(command) => lines.push(AnswerLine::TooMuch(*command))?,
         PlanFault::Circle(members) => {
             lines.push(AnswerLine::Circle)?;
-            push_each(&mut lines, members.as_slice(), Kind::Member)?;
+            push_each(&mut lines, members.as_slice(), LineKind::Member)?;
         }
     }
     lines.push(AnswerLine::End)?;
@@ -44,25 +44,29 @@ pub fn refused_answer(alloc: Global, fault: &PlanFault) -> Result<Vec<AnswerLine
 
 /// What a line says about a command.
 #[derive(Clone, Copy)]
-enum Kind {
+enum LineKind {
     Member,
     Begin,
     Stop,
 }
 
 /// The line of this kind about a command.
-fn line_of(kind: Kind, command: usize) -> AnswerLine
+fn line_of(kind: LineKind, command: usize) -> AnswerLine
     ensures { result ≡ line_of_kind kind command }
 {
     match kind {
-        Kind::Member => AnswerLine::Member(command),
-        Kind::Begin => AnswerLine::Begin(command),
-        Kind::Stop => AnswerLine::Stop(command),
+        LineKind::Member => AnswerLine::Member(command),
+        LineKind::Begin => AnswerLine::Begin(command),
+        LineKind::Stop => AnswerLine::Stop(command),
     }
 }
 
 /// Appends a line for each of these commands.
-fn push_each(lines: &mut Vec<AnswerLine>, commands: &[usize], kind: Kind) -> Result<(), AllocError>
+fn push_each(
+    lines: &mut Vec<AnswerLine>,
+    commands: &[usize],
+    kind: LineKind,
+) -> Result<(), AllocError>
     ensures { OnOk result (lines.new.items
         ≡ lines.old.items ++ map (line_of_kind kind) commands.now) }
 {
@@ -73,16 +77,16 @@ fn push_each(lines: &mut Vec<AnswerLine>, commands: &[usize], kind: Kind) -> Res
 }
 
 /// The answer to a round.
-pub fn round_answer(alloc: Global, session: &Session) -> Result<Vec<AnswerLine>, AllocError>
-    ensures { IfOk result (λ lines. IsAnswer session.now lines.items) }
+pub fn round_answer(alloc: Global, state: &PlanState) -> Result<Vec<AnswerLine>, AllocError>
+    ensures { IfOk result (λ lines. IsAnswer state.now lines.items) }
 {
-    let choice = choose(alloc, &session.plan, &session.facts, session.time)?;
-    let stops = to_stop(alloc, &session.plan, &session.facts)?;
+    let choice = choose(alloc, &state.plan, &state.facts, state.time)?;
+    let stops = to_stop(alloc, &state.plan, &state.facts)?;
     let mut lines = Vec::new(alloc);
-    push_each(&mut lines, choice.commands.as_slice(), Kind::Begin)?;
-    push_each(&mut lines, stops.as_slice(), Kind::Stop)?;
+    push_each(&mut lines, choice.commands.as_slice(), LineKind::Begin)?;
+    push_each(&mut lines, stops.as_slice(), LineKind::Stop)?;
     push_later(&mut lines, choice.later)?;
-    push_asked(alloc, &mut lines, session)?;
+    push_asked(alloc, &mut lines, state)?;
     lines.push(AnswerLine::End)?;
     Ok(lines)
 }
@@ -102,12 +106,12 @@ fn push_later(lines: &mut Vec<AnswerLine>, later: Option<u64>) -> Result<(), All
 fn push_asked(
     alloc: Global,
     lines: &mut Vec<AnswerLine>,
-    session: &Session,
+    state: &PlanState,
 ) -> Result<(), AllocError>
-    ensures { OnOk result (AsksAppended session.now lines.old.items lines.new.items) }
+    ensures { OnOk result (AsksAppended state.now lines.old.items lines.new.items) }
 {
-    if session.asked {
-        push_standings(alloc, lines, session)?;
+    if state.asked {
+        push_standings(alloc, lines, state)?;
     }
     Ok(())
 }
@@ -116,11 +120,11 @@ fn push_asked(
 fn push_standings(
     alloc: Global,
     lines: &mut Vec<AnswerLine>,
-    session: &Session,
+    state: &PlanState,
 ) -> Result<(), AllocError>
-    ensures { OnOk result (Stated session.now lines.old.items lines.new.items) }
+    ensures { OnOk result (Stated state.now lines.old.items lines.new.items) }
 {
-    let all = standings(alloc, &session.plan, &session.facts, session.time)?;
+    let all = standings(alloc, &state.plan, &state.facts, state.time)?;
     push_all_standings(lines, all.as_slice())
 }
 

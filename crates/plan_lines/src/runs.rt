@@ -14,7 +14,7 @@ use crate::hearing::{Grown, Heard, Round};
 use crate::lines::{PlanLine, read_line};
 use crate::readers::{Line, LineReader};
 use crate::rounds::{bad_answer, refused_answer, round_answer, taken_answer};
-use crate::sessions::Session;
+use crate::states::PlanState;
 use console_lines::{OutputBuffer, RunFault, make_room, write_out};
 use night_plan::commands::Plan;
 use night_plan::plans::PlanFault;
@@ -32,9 +32,9 @@ pub enum RunEnd {
     Bad(u64),
 }
 
-/// What is read: the plan, or a round.
+/// The part of the input that is being read: the plan, or a round.
 #[derive(Drop)]
-enum Stage {
+enum InputPart {
     Plan(Draft),
     Round(Round),
 }
@@ -42,7 +42,7 @@ enum Stage {
 /// What became of a run after a line.
 #[derive(Drop)]
 enum Next {
-    Stage(Stage),
+    Part(InputPart),
     End(RunEnd),
 }
 
@@ -71,15 +71,15 @@ pub fn run<R: Read, W: Write>(
 {
     let mut reader = LineReader::new();
     let mut line = Line::new();
-    let mut stage = Stage::Plan(Draft::new(alloc));
+    let mut part = InputPart::Plan(Draft::new(alloc));
     for number in 1..u64::MAX {
         let found = reader.next_line(input, &mut line)?;
         if !found {
             return Ok(RunEnd::InputEnded);
         }
-        let next = take_line(alloc, stage, number, line.as_slice(), output)?;
+        let next = take_line(alloc, part, number, line.as_slice(), output)?;
         match next {
-            Next::Stage(next) => stage = next,
+            Next::Part(next) => part = next,
             Next::End(end) => return Ok(end),
         }
     }
@@ -89,19 +89,19 @@ pub fn run<R: Read, W: Write>(
 /// Takes a line. If it is empty, a part ends, and is answered.
 fn take_line<W: Write>(
     alloc: Global,
-    stage: Stage,
+    part: InputPart,
     number: u64,
     line: &[u8],
     output: &mut W,
 ) -> Result<Next, RunFault>
-    ensures { Answers (TakesLine stage number line.now) result
+    ensures { Answers (TakesLine part number line.now) result
         (W.contents output.old) (W.contents output.new) }
 {
     if line.is_empty() {
-        return end_part(alloc, stage, output);
+        return end_part(alloc, part, output);
     }
     match read_line(line) {
-        Some(parsed) => take_parsed(alloc, stage, parsed, number, output),
+        Some(parsed) => take_parsed(alloc, part, parsed, number, output),
         None => reject(alloc, number, output),
     }
 }
@@ -109,17 +109,17 @@ fn take_line<W: Write>(
 /// Takes a line by its meaning.
 fn take_parsed<W: Write>(
     alloc: Global,
-    stage: Stage,
+    part: InputPart,
     parsed: PlanLine,
     number: u64,
     output: &mut W,
 ) -> Result<Next, RunFault>
-    ensures { Answers (Takes stage parsed number) result
+    ensures { Answers (Takes part parsed number) result
         (W.contents output.old) (W.contents output.new) }
 {
-    match stage {
-        Stage::Plan(draft) => take_of_plan(alloc, draft, parsed, number, output),
-        Stage::Round(round) => take_of_round(alloc, round, parsed, number, output),
+    match part {
+        InputPart::Plan(draft) => take_of_plan(alloc, draft, parsed, number, output),
+        InputPart::Round(round) => take_of_round(alloc, round, parsed, number, output),
     }
 }
 
@@ -131,11 +131,11 @@ fn take_of_plan<W: Write>(
     number: u64,
     output: &mut W,
 ) -> Result<Next, RunFault>
-    ensures { Answers (Takes (Stage.Plan draft) parsed number) result
+    ensures { Answers (Takes (InputPart.Plan draft) parsed number) result
         (W.contents output.old) (W.contents output.new) }
 {
     match draft.add(alloc, parsed) {
-        Ok(Some(draft)) => Ok(Next::Stage(Stage::Plan(draft))),
+        Ok(Some(draft)) => Ok(Next::Part(InputPart::Plan(draft))),
         Ok(None) => reject(alloc, number, output),
         Err(_) => Err(RunFault::Memory),
     }
@@ -149,11 +149,11 @@ fn take_of_round<W: Write>(
     number: u64,
     output: &mut W,
 ) -> Result<Next, RunFault>
-    ensures { Answers (Takes (Stage.Round round) parsed number) result
+    ensures { Answers (Takes (InputPart.Round round) parsed number) result
         (W.contents output.old) (W.contents output.new) }
 {
     match round.hear(alloc, parsed, number) {
-        Ok(Heard::Round(round)) => Ok(Next::Stage(Stage::Round(round))),
+        Ok(Heard::Round(round)) => Ok(Next::Part(InputPart::Round(round))),
         Ok(Heard::Bad(line)) => reject(alloc, line, output),
         Err(_) => Err(RunFault::Memory),
     }
@@ -170,12 +170,12 @@ fn reject<W: Write>(alloc: Global, number: u64, output: &mut W) -> Result<Next, 
 }
 
 /// Answers a part that is whole.
-fn end_part<W: Write>(alloc: Global, stage: Stage, output: &mut W) -> Result<Next, RunFault>
-    ensures { Answers (EndsPart stage) result (W.contents output.old) (W.contents output.new) }
+fn end_part<W: Write>(alloc: Global, part: InputPart, output: &mut W) -> Result<Next, RunFault>
+    ensures { Answers (EndsPart part) result (W.contents output.old) (W.contents output.new) }
 {
-    match stage {
-        Stage::Plan(draft) => end_plan(alloc, draft, output),
-        Stage::Round(round) => end_round(alloc, round, output),
+    match part {
+        InputPart::Plan(draft) => end_plan(alloc, draft, output),
+        InputPart::Round(round) => end_round(alloc, round, output),
     }
 }
 
@@ -193,13 +193,13 @@ fn end_plan<W: Write>(alloc: Global, draft: Draft, output: &mut W) -> Result<Nex
 fn begin_rounds<W: Write>(alloc: Global, plan: Plan, output: &mut W) -> Result<Next, RunFault>
     ensures { Answers (BeginsRounds plan) result (W.contents output.old) (W.contents output.new) }
 {
-    let Ok(session) = Session::begin(alloc, plan) else {
+    let Ok(state) = PlanState::begin(alloc, plan) else {
         return Err(RunFault::Memory);
     };
-    let Ok(lines) = taken_answer(alloc, &session) else {
+    let Ok(lines) = taken_answer(alloc, &state) else {
         return Err(RunFault::Memory);
     };
-    let next = Next::Stage(Stage::Round(Round::new(session)));
+    let next = Next::Part(InputPart::Round(Round::new(state)));
     answered(next, lines.as_slice(), output)
 }
 
@@ -218,21 +218,21 @@ fn end_round<W: Write>(alloc: Global, round: Round, output: &mut W) -> Result<Ne
     ensures { Answers (EndsRound round) result (W.contents output.old) (W.contents output.new) }
 {
     match round.finish() {
-        Ok(Grown::Session(session)) => answer_round(alloc, session, output),
+        Ok(Grown::State(state)) => answer_round(alloc, state, output),
         Ok(Grown::Bad(line)) => reject(alloc, line, output),
         Err(_) => Err(RunFault::Memory),
     }
 }
 
-/// Answers a round of a session whose plan grows by no command.
-fn answer_round<W: Write>(alloc: Global, session: Session, output: &mut W) -> Result<Next, RunFault>
-    ensures { Answers (AnswersRound session) result
+/// Answers a round in which the plan isn't growing by a command any more.
+fn answer_round<W: Write>(alloc: Global, state: PlanState, output: &mut W) -> Result<Next, RunFault>
+    ensures { Answers (AnswersRound state) result
         (W.contents output.old) (W.contents output.new) }
 {
-    let Ok(lines) = round_answer(alloc, &session) else {
+    let Ok(lines) = round_answer(alloc, &state) else {
         return Err(RunFault::Memory);
     };
-    let next = Next::Stage(Stage::Round(Round::new(session.with_question(false))));
+    let next = Next::Part(InputPart::Round(Round::new(state.with_question(false))));
     answered(next, lines.as_slice(), output)
 }
 

@@ -1,5 +1,5 @@
 use Rattle.std.proofs.Common.{◌≡◌, ◌++◌, map, take}
-use Rattle.plan_lines.specs.Kinds.{line_of_kind}
+use Rattle.plan_lines.specs.LineKinds.{line_of_kind}
 use Rattle.plan_lines.proofs.rounds.push_each.Given as goal
 
 abbrev pub invariant-loop-command : goal.invariant-loop-command

@@ -35,16 +35,16 @@ returns-in-End g c =
     let reads = reads_slice c.in_ok-found.found _ _ _ _ _ c.as_slice.result.now c.if-not-found.false
     c.as_slice.ensures.value c.in_ok-found.ensures in
     line_ends_run c.in-End.end c.loop-number.invariant reads
-    (answers_at (TakesLine c.loop-number.stage c.loop-number.number c.as_slice.result.now) _ _ _ _
+    (answers_at (TakesLine c.loop-number.part c.loop-number.number c.as_slice.result.now) _ _ _ _
     c.in-End.is c.in_ok-next.ensures)
 
 pub loop-number-preserved : goal.loop-number-preserved
 loop-number-preserved g c =
     let reads = reads_slice c.in_ok-found.found _ _ _ _ _ c.as_slice.result.now c.if-not-found.false
     c.as_slice.ensures.value c.in_ok-found.ensures in
-    line_taken c.in-Stage.next c.loop-number.invariant reads
-    (answers_at (TakesLine c.loop-number.stage c.loop-number.number c.as_slice.result.now) _ _ _ _
-    c.in-Stage.is c.in_ok-next.ensures)
+    line_taken c.in-Part.next c.loop-number.invariant reads
+    (answers_at (TakesLine c.loop-number.part c.loop-number.number c.as_slice.result.now) _ _ _ _
+    c.in-Part.is c.in_ok-next.ensures)
 
 pub returns : goal.returns
 returns g c = lines_stop_run _ _ _ _ _ _ _ c.loop-number.invariant (omega arith)

@@ -1,4 +1,4 @@
--- A session and a round, and what a line makes of them.
+-- The state of a plan, and how it changes.
 use Rattle.std.specs.Prelude.{◌≡◌, ◌++◌, ◌∷◌, ℕ, Bool, true, false, [], Some}
 use Rattle.std.specs.Prelude.{length, max, min, slice_get}
 use Rattle.night_plan.specs.declared.commands.Command.{Command}
@@ -9,11 +9,11 @@ use Rattle.night_plan.specs.Growth.{fresh_row}
 use Rattle.night_plan.specs.declared.plans.PlanFault.{PlanFault}
 use Rattle.night_plan.specs.Ranks.{ForbidsGrowth, IsKnown, TakesWithin}
 use Rattle.plan_lines.specs.declared.lines.PlanLine.{PlanLine}
-use Rattle.plan_lines.specs.declared.sessions.Session.{Session}
+use Rattle.plan_lines.specs.declared.states.PlanState.{PlanState}
 use Rattle.plan_lines.specs.Facts.{Notes}
 
 -- Nothing was heard yet of a plan.
-pub record IsBegun (plan : Plan) (s : Session) : Type 0 where
+pub record IsBegun (plan : Plan) (s : PlanState) : Type 0 where
   pub plan_is : s.plan ≡ plan
   pub known : (c : ℕ) (k : Known) → slice_get s.facts.known.items c ≡ Some k → k ≡ fresh_row
   pub done : (g : ℕ) (b : Bool) → slice_get s.facts.done.items g ≡ Some b → b ≡ false
@@ -22,28 +22,28 @@ pub record IsBegun (plan : Plan) (s : Session) : Type 0 where
   pub asked : s.asked ≡ false
 
 -- The question how each command stands is there or not, and nothing else has changed.
-pub record HasQuestion (asked : Bool) (s t : Session) : Type 0 where
+pub record HasQuestion (asked : Bool) (s t : PlanState) : Type 0 where
   pub plan : t.plan ≡ s.plan
   pub facts : t.facts ≡ s.facts
   pub time : t.time ≡ s.time
   pub question : t.asked ≡ asked
 
 -- The time has gone on to this moment, unless it was later already; nothing else has changed.
-pub record HasTime (moment : ℕ) (s t : Session) : Type 0 where
+pub record HasTime (moment : ℕ) (s t : PlanState) : Type 0 where
   pub plan : t.plan ≡ s.plan
   pub facts : t.facts ≡ s.facts
   pub time : t.time ≡ max s.time (min moment 999999999999)
   pub question : t.asked ≡ s.asked
 
 -- A line was noted among the facts, and nothing else has changed.
-pub record HasFact (said : PlanLine) (s t : Session) : Type 0 where
+pub record HasFact (said : PlanLine) (s t : PlanState) : Type 0 where
   pub plan : t.plan ≡ s.plan
   pub facts : Notes true said s.facts t.facts
   pub time : t.time ≡ s.time
   pub question : t.asked ≡ s.asked
 
 -- The plan has one more group, which isn't done; nothing else has changed.
-pub record HasNewGroup (group : Group) (s t : Session) : Type 0 where
+pub record HasNewGroup (group : Group) (s t : PlanState) : Type 0 where
   pub first : t.plan.first ≡ s.plan.first
   pub groups : t.plan.groups.items ≡ s.plan.groups.items ++ group ∷ []
   pub pools : t.plan.pools.items ≡ s.plan.pools.items
@@ -55,7 +55,7 @@ pub record HasNewGroup (group : Group) (s t : Session) : Type 0 where
   pub question : t.asked ≡ s.asked
 
 -- The plan has one more command, of which nothing is known yet; nothing else has changed.
-pub record HasNewCommand (command : Command) (s t : Session) : Type 0 where
+pub record HasNewCommand (command : Command) (s t : PlanState) : Type 0 where
   pub first : t.plan.first ≡ s.plan.first
   pub groups : t.plan.groups.items ≡ s.plan.groups.items
   pub pools : t.plan.pools.items ≡ s.plan.pools.items

@@ -1,4 +1,4 @@
-//! A [`Session`] is a plan that was taken, and what was heard since.
+//! A [`PlanState`] is a plan that was accepted, and all that was heard since.
 
 ghost use Rattle.std.specs.Prelude.{◌<◌, ◌^◌, ◌≡◌, ◌++◌, ◌∷◌, [], length, IfOk, MatchOption};
 ghost use Rattle.std.specs.Prelude.{false};
@@ -16,7 +16,7 @@ use std::alloc::{AllocError, Global};
 
 /// A plan, the facts that were heard, and the time.
 #[derive(Drop)]
-pub struct Session {
+pub struct PlanState {
     pub plan: Plan,
     pub facts: Facts,
     pub time: u64,
@@ -36,19 +36,19 @@ const NOTHING: Known = Known {
     canceled: false,
 };
 
-impl Session {
+impl PlanState {
     ghost use Rattle.plan_lines.specs.Facts.{Notes};
-    ghost use Rattle.plan_lines.specs.Sessions.{HasFact, HasNewCommand, HasNewGroup};
-    ghost use Rattle.plan_lines.specs.Sessions.{HasQuestion, HasTime, IsBegun, MayGrow};
+    ghost use Rattle.plan_lines.specs.States.{HasFact, HasNewCommand, HasNewGroup};
+    ghost use Rattle.plan_lines.specs.States.{HasQuestion, HasTime, IsBegun, MayGrow};
 
-    /// A session of a plan about which nothing was heard yet.
-    pub fn begin(alloc: Global, plan: Plan) -> Result<Session, AllocError>
+    /// The state of a plan about which nothing was heard yet.
+    pub fn begin(alloc: Global, plan: Plan) -> Result<PlanState, AllocError>
         ensures { IfOk result (IsBegun plan) }
     {
         let known = vec![in alloc; NOTHING; plan.commands.len()]?;
         let done = vec![in alloc; false; plan.groups.len()]?;
         let sizes = Vec::from_slice(alloc, plan.pools.as_slice())?;
-        Ok(Session {
+        Ok(PlanState {
             plan,
             facts: Facts { known, done, sizes },
             time: 0,
@@ -56,17 +56,17 @@ impl Session {
         })
     }
 
-    /// The session with the question how each command stands, or without it.
-    pub fn with_question(self, asked: bool) -> Session
+    /// The state with the question how each command stands, or without it.
+    pub fn with_question(self, asked: bool) -> PlanState
         ensures { HasQuestion asked self result }
     {
-        let Session {
+        let PlanState {
             plan,
             facts,
             time,
             asked: _,
         } = self;
-        Session {
+        PlanState {
             plan,
             facts,
             time,
@@ -74,18 +74,18 @@ impl Session {
         }
     }
 
-    /// The session at a later time.
-    pub fn at(self, moment: u64) -> Session
+    /// The state at a later time.
+    pub fn at(self, moment: u64) -> PlanState
         ensures { HasTime moment self result }
     {
-        let Session {
+        let PlanState {
             plan,
             facts,
             time,
             asked,
         } = self;
         let time = time.max(moment.min(LATEST));
-        Session {
+        PlanState {
             plan,
             facts,
             time,
@@ -93,12 +93,12 @@ impl Session {
         }
     }
 
-    /// Returns the session with one more fact, or `None` if nothing exists that the fact is about.
-    pub fn with_fact(self, line: PlanLine) -> Option<Session>
+    /// Returns the state with one more fact, or `None` if nothing exists that the fact is about.
+    pub fn with_fact(self, line: PlanLine) -> Option<PlanState>
         ensures { MatchOption result (Notes false line self.facts self.facts)
             (HasFact line self) }
     {
-        let Session {
+        let PlanState {
             plan,
             mut facts,
             time,
@@ -107,7 +107,7 @@ impl Session {
         if !note(&mut facts, line) {
             return None;
         }
-        Some(Session {
+        Some(PlanState {
             plan,
             facts,
             time,
@@ -115,11 +115,11 @@ impl Session {
         })
     }
 
-    /// The session whose plan has one more group.
-    pub fn with_group(self, group: Group) -> Result<Session, AllocError>
+    /// The state whose plan has one more group.
+    pub fn with_group(self, group: Group) -> Result<PlanState, AllocError>
         ensures { IfOk result (HasNewGroup group self) }
     {
-        let Session {
+        let PlanState {
             plan,
             facts,
             time,
@@ -127,7 +127,7 @@ impl Session {
         } = self;
         let facts = facts_of_group(facts)?;
         let plan = with_group(plan, group)?;
-        Ok(Session {
+        Ok(PlanState {
             plan,
             facts,
             time,
@@ -143,13 +143,13 @@ impl Session {
         growth_fault(&self.plan, command).is_none()
     }
 
-    /// The session whose plan has one more command, which names only what exists.
-    pub fn with_command(self, command: Command) -> Result<Session, AllocError>
+    /// The state whose plan has one more command, which names only what exists.
+    pub fn with_command(self, command: Command) -> Result<PlanState, AllocError>
         requires { IsKnown (length self.plan.groups.items) (length self.plan.commands.items)
             (length self.plan.pools.items) command }
         ensures { IfOk result (HasNewCommand command self) }
     {
-        let Session {
+        let PlanState {
             plan,
             facts,
             time,
@@ -157,7 +157,7 @@ impl Session {
         } = self;
         let facts = facts_of_command(facts)?;
         let plan = with_command(plan, command)?;
-        Ok(Session {
+        Ok(PlanState {
             plan,
             facts,
             time,
