@@ -9,7 +9,7 @@ use Rattle.night_plan.specs.Ranks.{Explains}
 use Rattle.plan_lines.specs.declared.drafts.Draft.{Draft}
 use Rattle.plan_lines.specs.declared.lines.PlanLine.{PlanLine}
 use Rattle.plan_lines.specs.declared.lines.PlanLine.TheVariants as line
-use Rattle.plan_lines.specs.Commands.{HasNewNeed, HasNewTake, IsOutlined}
+use Rattle.plan_lines.specs.Commands.{Extends, IsOutlined}
 
 -- The commands of a draft: those before the last, and the last, if there is one.
 abbrev pub commands_in : Draft → List Command
@@ -22,13 +22,13 @@ pub record IsNew (d : Draft) : Type 0 where
   pub commands : d.commands.items ≡ []
   pub last : d.last ≡ None
 
--- Nothing but the last command has changed, by what a line says.
-pub record HasNewLast (Has : Command → Command → Type 0) (d e : Draft) : Type 0 where
+-- The last command has the need or the take that a line says, and nothing else has changed.
+pub record HasNewLast (said : PlanLine) (d e : Draft) : Type 0 where
   pub old : Command
   pub new : Command
   pub was : d.last ≡ Some old
   pub is : e.last ≡ Some new
-  pub has : Has old new
+  pub has : Extends said old new
   pub groups : e.groups ≡ d.groups
   pub pools : e.pools ≡ d.pools
   pub commands : e.commands ≡ d.commands
@@ -45,8 +45,8 @@ Adds (line.Group group) d (Some e) =
 Adds (line.Command outline) d (Some e) =
     (command : Command) × IsOutlined outline command × (e.last ≡ Some command)
     × (e.commands.items ≡ commands_in d) × (e.groups ≡ d.groups) × (e.pools ≡ d.pools)
-Adds (line.Need need) d (Some e) = HasNewLast (λ old new. HasNewNeed old need new) d e
-Adds (line.Take take) d (Some e) = HasNewLast (λ old new. HasNewTake old take new) d e
+Adds (line.Need need) d (Some e) = HasNewLast (line.Need need) d e
+Adds (line.Take take) d (Some e) = HasNewLast (line.Take take) d e
 Adds (line.Need need) d None = d.last ≡ None
 Adds (line.Take take) d None = d.last ≡ None
 Adds (line.Pool size) d None = ⊥
@@ -60,3 +60,10 @@ abbrev pub Finishes : Draft → Result Plan PlanFault → Type 0
 Finishes d (Ok plan) = (plan.groups.items ≡ d.groups.items) × (plan.pools.items ≡ d.pools.items)
     × (plan.commands.items ≡ commands_in d) × (plan.first ≡ length (commands_in d))
 Finishes d (Err why) = Explains d.groups.items d.pools.items (commands_in d) why
+
+-- ---- for private functions: no public contract cites what follows
+
+-- The last command has the need or the take that a line says, if there is a last command.
+abbrev pub ExtendsLast : PlanLine → Draft → Option Draft → Type 0
+ExtendsLast said d None = d.last ≡ None
+ExtendsLast said d (Some e) = HasNewLast said d e

@@ -1,6 +1,5 @@
 -- What a line makes of a round.
 use Rattle.std.specs.Prelude.{◌≡◌, ℕ, true, false, Option, Some, None}
-use Rattle.night_plan.specs.declared.commands.Command.{Command}
 use Rattle.plan_lines.specs.declared.lines.PlanLine.{PlanLine}
 use Rattle.plan_lines.specs.declared.lines.PlanLine.TheVariants as line
 use Rattle.plan_lines.specs.declared.states.PlanState.{PlanState}
@@ -10,16 +9,10 @@ use Rattle.plan_lines.specs.declared.hearing.Heard.{Heard}
 use Rattle.plan_lines.specs.declared.hearing.Heard.TheVariants as heard
 use Rattle.plan_lines.specs.declared.hearing.Grown.{Grown}
 use Rattle.plan_lines.specs.declared.hearing.Grown.TheVariants as grown
-use Rattle.plan_lines.specs.Commands.{HasNewNeed, HasNewTake, IsOutlined}
+use Rattle.plan_lines.specs.Commands.{Extends, IsOutlined}
 use Rattle.plan_lines.specs.Facts.{Notes}
 use Rattle.plan_lines.specs.States.{HasFact, HasNewCommand, HasNewGroup, HasQuestion, HasTime}
 use Rattle.plan_lines.specs.States.{MayGrow}
-
--- A command has the need, or takes the thing, that a line says.
-abbrev pub Extends : PlanLine → Command → Command → Type 0
-Extends (line.Need need) old new = HasNewNeed old need new
-Extends (line.Take take) old new = HasNewTake old take new
-Extends _ old new = new ≡ old
 
 -- The command by which the plan grows has what a line of this number says. There has to be one.
 abbrev pub GrowsOn : PlanLine → ℕ → Round → Heard → Type 0

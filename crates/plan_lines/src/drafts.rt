@@ -1,8 +1,8 @@
 //! A [`Draft`] holds the lines of a plan while they are read.
 
 ghost use Rattle.std.specs.Prelude.{◌≡◌, ◌++◌, ◌∷◌, [], IfOk, None, Some};
-ghost use Rattle.plan_lines.specs.Drafts.{Adds, Finishes, IsNew, commands_in};
-ghost use Rattle.plan_lines.specs.Commands.{HasNewNeed, HasNewTake, IsOutlined};
+ghost use Rattle.plan_lines.specs.Drafts.{Adds, ExtendsLast, Finishes, IsNew, commands_in};
+ghost use Rattle.plan_lines.specs.Commands.{Extends, HasNewNeed, HasNewTake, IsOutlined};
 
 use crate::lines::{Outline, PlanLine};
 use night_plan::commands::{Command, Group, Need, Plan, Take};
@@ -43,8 +43,7 @@ impl Draft {
                 let command = command_of(alloc, outline);
                 Ok(Some(self.closed()?.with_last(command)))
             }
-            PlanLine::Need(need) => self.with_need(need),
-            PlanLine::Take(take) => self.with_take(take),
+            PlanLine::Need(_) | PlanLine::Take(_) => self.extend_last(line),
             _ => Ok(None),
         }
     }
@@ -139,9 +138,9 @@ impl Draft {
         }
     }
 
-    /// The draft whose last command has one more need, if there is one.
-    fn with_need(self, need: Need) -> Result<Option<Draft>, AllocError>
-        ensures { IfOk result (Adds (PlanLine.Need need) self) }
+    /// The draft whose last command has one more need or take, if there is a last command.
+    fn extend_last(self, line: PlanLine) -> Result<Option<Draft>, AllocError>
+        ensures { IfOk result (ExtendsLast line self) }
     {
         let Draft {
             groups,
@@ -152,29 +151,7 @@ impl Draft {
         let Some(command) = last else {
             return Ok(None);
         };
-        let last = Some(with_need(command, need)?);
-        Ok(Some(Draft {
-            groups,
-            pools,
-            commands,
-            last,
-        }))
-    }
-
-    /// The draft whose last command has one more take, if there is one.
-    fn with_take(self, take: Take) -> Result<Option<Draft>, AllocError>
-        ensures { IfOk result (Adds (PlanLine.Take take) self) }
-    {
-        let Draft {
-            groups,
-            pools,
-            commands,
-            last,
-        } = self;
-        let Some(command) = last else {
-            return Ok(None);
-        };
-        let last = Some(with_take(command, take)?);
+        let last = Some(extended(command, line)?);
         Ok(Some(Draft {
             groups,
             pools,
@@ -216,8 +193,19 @@ pub fn command_of(alloc: Global, outline: Outline) -> Command
     }
 }
 
+/// The command with the need or the take that a line says. Any other line changes nothing.
+pub fn extended(command: Command, line: PlanLine) -> Result<Command, AllocError>
+    ensures { IfOk result (Extends line command) }
+{
+    match line {
+        PlanLine::Need(need) => with_need(command, need),
+        PlanLine::Take(take) => with_take(command, take),
+        _ => Ok(command),
+    }
+}
+
 /// The command with one more need.
-pub fn with_need(command: Command, need: Need) -> Result<Command, AllocError>
+fn with_need(command: Command, need: Need) -> Result<Command, AllocError>
     ensures { IfOk result (HasNewNeed command need) }
 {
     let Command {
@@ -244,7 +232,7 @@ pub fn with_need(command: Command, need: Need) -> Result<Command, AllocError>
 }
 
 /// The command with one more take.
-pub fn with_take(command: Command, take: Take) -> Result<Command, AllocError>
+fn with_take(command: Command, take: Take) -> Result<Command, AllocError>
     ensures { IfOk result (HasNewTake command take) }
 {
     let Command {

@@ -1,9 +1,10 @@
-//! A [`Round`] is a state, and the command that its plan is growing by.
+//! A [`Round`] is the state of a plan, and the command that the plan is growing by.
 
 ghost use Rattle.std.specs.Prelude.{◌≡◌, IfOk, None};
-ghost use Rattle.plan_lines.specs.Hearing.{Extends, Grows, GrowsOn, Hears, HearsAlone};
+ghost use Rattle.plan_lines.specs.Commands.{Extends};
+ghost use Rattle.plan_lines.specs.Hearing.{Grows, GrowsOn, Hears, HearsAlone};
 
-use crate::drafts::{command_of, with_need, with_take};
+use crate::drafts::{command_of, extended};
 use crate::lines::PlanLine;
 use crate::states::PlanState;
 use night_plan::commands::Command;
@@ -17,7 +18,7 @@ pub struct Growth {
     pub line: u64,
 }
 
-/// A state in a round.
+/// The state of a plan in a round.
 #[derive(Drop)]
 pub struct Round {
     pub state: PlanState,
@@ -32,7 +33,7 @@ pub enum Heard {
     Bad(u64),
 }
 
-/// What became of a state after a line.
+/// What became of the state of a plan after a line.
 #[derive(Drop)]
 pub enum Grown {
     State(PlanState),
@@ -72,7 +73,7 @@ impl Round {
         let Some(growth) = growth else {
             return Ok(Heard::Bad(number));
         };
-        let growth = Some(extended(growth, line)?);
+        let growth = Some(with_line(growth, line)?);
         Ok(Heard::Round(Round { state, growth }))
     }
 
@@ -93,16 +94,12 @@ impl Round {
 }
 
 /// The growth with one more need or take.
-fn extended(growth: Growth, said: PlanLine) -> Result<Growth, AllocError>
+fn with_line(growth: Growth, said: PlanLine) -> Result<Growth, AllocError>
     ensures command { IfOk result (λ new. Extends said growth.command new.command) }
     ensures line { IfOk result (λ new. new.line ≡ growth.line) }
 {
     let Growth { command, line } = growth;
-    let command = match said {
-        PlanLine::Need(need) => with_need(command, need)?,
-        PlanLine::Take(take) => with_take(command, take)?,
-        _ => command,
-    };
+    let command = extended(command, said)?;
     Ok(Growth { command, line })
 }
 
