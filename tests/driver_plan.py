@@ -444,6 +444,21 @@ def retries_wait_on(tries: Shared) -> None:
                           (0 if wanted else 1, wanted))
 
 
+def failures_after_a_set_clock(tries: Shared) -> None:
+    """A retry waits for its whole wait, also if the clock was set just before the failure."""
+    for what, then in ("ahead", 1.8e9), ("back", 5000.0), ("not", 10_000.0):
+        planner = planner_of(tries, "g: retries 1 wait 60s\ng a true\ng b true")
+        facts = driver_module(tries, "facts").Facts()
+        facts.busy.update((("g", "a"), ("g", "b")))
+        planner.choose(facts, 2, 10_000.0)
+        facts.busy.discard(("g", "a"))
+        facts.ended(("g", "a"), driver_module(tries, "ends").failed("exit 3"), then)
+        for now, wanted in (then, then + 60), (then + 59.5, then + 60), (then + 60, None):
+            found = planner.choose(facts, 2, now)
+            tries.is_same(f"a failure as the clock is set {what}", now - then,
+                          (len(found.names), found.later), (0 if wanted else 1, wanted))
+
+
 def mistakes(tries: Shared) -> None:
     """Each mistake is reported with file, line and reason."""
     wrong = driver_module(tries, "jobs").Mistake
@@ -534,5 +549,6 @@ def names(tries: Shared) -> None:
                       (rounds.base_of(name), rounds.round_of(name), True))
 
 
-TABLES = [stand, reasons, ends, names, next_ones, retries_wait, retries_wait_on, mistakes,
-          mistakes_together, moments, repeated_hours, cycles_are_long]
+TABLES = [stand, reasons, ends, names, next_ones, retries_wait, retries_wait_on,
+          failures_after_a_set_clock, mistakes, mistakes_together, moments, repeated_hours,
+          cycles_are_long]

@@ -114,11 +114,12 @@ class Planner:
         if self.asking is None:
             self.begin()
         assert self.asking
+        moment = self.moment if now is None else self.moment_at(now)
         lines = self.news(facts, held)
         if most is not None:
             lines += self.room(facts, most)
         if now is not None:
-            lines += self.clock(now, bool(lines))
+            lines += self.clock(now, moment, bool(lines))
         if most is None:
             return self.stood(self.heard([*lines, "standings"]))
         if lines or self.choice is None:
@@ -218,15 +219,20 @@ class Planner:
         job = self.jobs.all.get(name)
         return found + [(self.named[pool], amount) for pool, amount in (job.uses if job else ())]
 
-    def clock(self, now: float, has_news: bool) -> list[str]:
-        """The line for the moment, if something else is written or a retry is due. If the clock is
-        set back, the moment stands still until the clock has caught up. If it is set ahead, as from
-        1970, the moment goes on by the longest wait at most, since it has 12 digits."""
+    def moment_at(self, now: float) -> int:
+        """How a moment of the machine's clock is written, and from now on each later one. If the
+        clock is set back, the moment stands still until the clock has caught up. If it is set
+        ahead, as from 1970, the moment goes on by the longest wait at most, since it has 12
+        digits."""
         found = int(now * TICKS) + (self.offset or 0)
         moment = min(max(found, self.moment), self.moment + LONGEST)
         if moment != found:
             self.offset = (self.offset or 0) + moment - found
             self.choice = None
+        return moment
+
+    def clock(self, now: float, moment: int, has_news: bool) -> list[str]:
+        """The line for the moment, if something else is written or a retry is due."""
         later = self.choice.later if self.choice else None
         if not has_news and self.choice is not None and (later is None or now < later):
             return []
