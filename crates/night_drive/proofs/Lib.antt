@@ -8,3 +8,5 @@ pub mod Finishing
 pub mod Withdrawing
 pub mod Leaving
 pub mod Hitting
+pub mod Playing
+pub mod Parting

@@ -4,4 +4,6 @@ pub mod Tries
 pub mod Seen
 pub mod Openings
 pub mod Turns
+pub mod Distinct
+pub mod PlanTurns
 pub mod Examples

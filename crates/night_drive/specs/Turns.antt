@@ -54,8 +54,8 @@ end_of d moment outcome.Success = EndOk d
 end_of d moment (outcome.Failure error) = if is_cancel error then Cut d else Fail d moment
 
 -- A finish ends the command of its task: the facts about each command are those after the turn of
--- that end. The task was running and isn't withdrawn, and no later task is a try of its command. The
--- moment of its end becomes known, and those of other tasks stay the same.
+-- that end. The task was running and isn't withdrawn, and no later task is a try of its command.
+-- The moment of its end becomes known, and those of other tasks stay the same.
 abbrev pub FinishesEnd : Type 0
 FinishesEnd =
     (p : State) (before after : ℕ → ℕ) (night : Option (List ℕ)) (group key : List ℕ) (n c d : ℕ)
@@ -91,8 +91,8 @@ abbrev pub of_last : State → (night : Option (List ℕ)) → (group : List ℕ
 of_last p night group test =
     option_map_or test (last_below (is_scope p night group) (length p.tree.scopes)) false
 
--- After a cancel the groups are done whose last scope has the canceled scope on its chain. All other
--- groups are done if they were before.
+-- After a cancel the groups are done whose last scope has the canceled scope on its chain. All
+-- other groups are done if they were before.
 abbrev pub CancelsStop : Type 0
 CancelsStop =
     (p : State) (s : ℕ) (cause : Option (List ℕ)) (night : Option (List ℕ)) (group : List ℕ)

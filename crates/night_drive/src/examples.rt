@@ -7,13 +7,15 @@ ghost use Rattle.std.specs.Prelude.{◌≡◌, [], ◌∷◌, codes, false, map,
 ghost use Rattle.run_model.specs.Allowed.{allowed};
 ghost use Rattle.run_model.specs.declared.tasks.Outcome.TheVariants as outcome;
 ghost use Rattle.run_model.specs.Event as event;
-ghost use Rattle.run_model.specs.Step.{step};
+ghost use Rattle.run_model.specs.Scopes.{chain};
+ghost use Rattle.run_model.specs.Step.{own_scope, step};
+ghost use Rattle.model_laws.specs.Hits.{is_on};
 ghost use Rattle.night_plan.specs.declared.facts.Phase.TheVariants as phase;
 ghost use Rattle.night_drive.specs.Examples.{after_all, first, known_after, known_in, moments, row};
 ghost use Rattle.night_drive.specs.Examples.{second, two_nights, withdrawal};
 ghost use Rattle.night_drive.specs.Names.{belongs};
 ghost use Rattle.night_drive.specs.Seen.{is_over, known_of};
-ghost use Rattle.night_drive.specs.Turns.{IsLast, is_task};
+ghost use Rattle.night_drive.specs.Turns.{IsLast, has_come, is_task, of_last};
 
 /// In a store the group `disks` is called `disks`, `disks--2` or `disks--2-3`. `disks-` is another
 /// group, and `disks---2` is the name of that group in its second night.
@@ -55,8 +57,8 @@ pub fn a_group_is_done_with_its_scope()
     ensures earlier { is_over two_nights first (codes "tapes") ≡ false }
 {}
 
-/// Task 8 is a task of `d`, and no later task is a try of `d`. Its start begins `d`, but not `a` and
-/// not the `d` of the tapes.
+/// Task 8 is a task of `d`, and no later task is a try of `d`. Its start begins `d`, but not `a`
+/// and not the `d` of the tapes.
 pub fn a_start_is_a_begin()
     ensures may { allowed two_nights (event.Start 8) ≡ true }
     ensures own { is_task two_nights second (codes "disks") (codes "d") 8 ≡ true }
@@ -93,8 +95,8 @@ pub fn a_withdrawal_is_no_turn()
         ∷ event.Start 9 ∷ [])) moments second (codes "disks") (codes "b") ≡ row phase.Busy 0 }
 {}
 
-/// After a cancel of their scope, or of the scope of their night, the disks are done. After a cancel
-/// in another night they aren't. A cancel changes no fact about a command.
+/// After a cancel of their scope, or of the scope of their night, the disks are done. After a
+/// cancel in another night they aren't. A cancel changes no fact about a command.
 pub fn a_cancel_is_a_stop()
     ensures may { allowed two_nights (event.Cancel 6 None) ≡ true }
     ensures own { is_over (step two_nights (event.Cancel 6 None)) second (codes "disks") ≡ true }
@@ -113,4 +115,23 @@ pub fn an_advance_is_a_stop()
     ensures open { is_over (step two_nights (event.Advance 8999)) second (codes "disks") ≡ false }
     ensures command { known_after (event.Advance 9000) (codes "disks") (codes "c")
         ≡ row phase.Busy 0 }
+{}
+
+/// Of the commands `a` and `d` of the disks and `d` of the tapes, task 8 belongs to the second one.
+pub fn a_task_has_one_command()
+    ensures disks { map (λ key. is_task two_nights second (codes "disks") key 8)
+        (codes "a" ∷ codes "d" ∷ []) ≡ false ∷ true ∷ [] }
+    ensures tapes { is_task two_nights second (codes "tapes") (codes "d") 8 ≡ false }
+{}
+
+/// The deadline at 9000 is that of the disks alone. The scope of the night stands above the disks
+/// and the tapes. No group has a scope of its own.
+pub fn a_stop_is_of_its_groups()
+    ensures come { map (λ group. of_last two_nights second group (has_come two_nights 9000))
+        (codes "disks" ∷ codes "tapes" ∷ []) ≡ true ∷ false ∷ [] }
+    ensures above { map (λ group. of_last two_nights second group
+        (λ last. is_on 3 (chain two_nights.tree.scopes last)))
+        (codes "disks" ∷ codes "tapes" ∷ []) ≡ true ∷ true ∷ [] }
+    ensures bare { map (own_scope two_nights.work) (0 ∷ 1 ∷ 2 ∷ 3 ∷ 4 ∷ [])
+        ≡ None ∷ None ∷ None ∷ None ∷ None ∷ [] }
 {}

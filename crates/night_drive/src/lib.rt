@@ -5,7 +5,8 @@
 //! returns the facts on which the decisions of `night_plan` rest: how far each command has come,
 //! how often it has failed, and which groups are done. `names` says how commands are named in a
 //! store, `tries` what a task shows of its command, `turns` what each event changes, and `openings`
-//! what an opening changes. `examples` has a store with the tasks of two nights.
+//! what an opening changes. `plan_turns` says the same of a whole plan. `examples` has a store with
+//! the tasks of two nights.
 #![tactic(auto)]
 
 pub mod ends;
@@ -13,6 +14,7 @@ pub mod examples;
 pub mod names;
 pub mod nights;
 pub mod openings;
+pub mod plan_turns;
 pub mod seen;
 pub mod tries;
 pub mod turns;

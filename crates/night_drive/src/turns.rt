@@ -22,20 +22,20 @@ pub fn a_withdrawal_leaves_all_commands()
     ensures { WithdrawalsLeaveCommands }
 {}
 
-/// Starts, finishes and restarts are the only events that change a fact about a command. A cancel, a
-/// clock that moves, a new scope or group, a limit, a wait and a new task don't.
+/// Starts, finishes and restarts are the only events that change a fact about a command. A cancel,
+/// a clock that moves, a new scope or group, a limit, a wait and a new task don't.
 pub fn other_events_leave_all_commands()
     ensures { OthersLeaveCommands }
 {}
 
-/// After a cancel the groups whose scope it reaches are done. All other groups are done if they were
-/// before.
+/// After a cancel the groups whose scope it reaches are done. All other groups are done if they
+/// were before.
 pub fn a_cancel_stops_what_it_reaches()
     ensures { CancelsStop }
 {}
 
-/// Once the clock has moved, the groups with a deadline that has come are done. All other groups are
-/// done if they were before.
+/// Once the clock has moved, the groups with a deadline that has come are done. All other groups
+/// are done if they were before.
 pub fn an_advance_stops_what_is_due()
     ensures { AdvancesStop }
 {}

@@ -1,0 +1,357 @@
+-- The facts about a plan after an event are those after turns.
+use Rattle.std.proofs.Common.{◌≡◌, ◌<◌, ◌∙◌, ◌==◌, ◌||◌, ℕ, suc, ◌+◌, Bool, true}
+use Rattle.std.proofs.Common.{false, cond, List, [], ◌∷◌, map, length, Option, Some, None}
+use Rattle.std.proofs.Common.{slice_get, set, fold, inl, inr, refl, sym, ap, arith}
+use Rattle.std.proofs.Math.Bool.{or-false, or-true}
+use Rattle.std.proofs.lemmas.Bool.{cases_eq, cases_lt, eq-eqb, ne_eqb}
+use Rattle.std.proofs.lemmas.List.{length-map, length-set}
+use Rattle.std.proofs.lemmas.Option.{none-some, slice_get-map, slice_get_past}
+use Rattle.std.proofs.lemmas.Option.{slice_get_within}
+use Rattle.std.specs.Option.{option_map, option_map_or}
+use Rattle.run_model.specs.declared.tasks.Outcome.{Outcome}
+use Rattle.run_model.specs.declared.tasks.Outcome.TheVariants as outcome
+use Rattle.run_model.specs.Event as event
+use Rattle.run_model.specs.State.{State, TreeState, WorkState}
+use Rattle.run_model.specs.Step.{after_task_end, step}
+use Rattle.run_model.specs.Tasks.{running_tasks}
+use Rattle.run_model.specs.TreeChanges.{after_cancel}
+use Rattle.run_model.specs.WorkChanges.{group_of_task, interruption}
+use Rattle.model_laws.proofs.Folds.{same_rows}
+use Rattle.model_laws.proofs.Interrupts.{restarted}
+use Rattle.night_plan.proofs.Lasting.{turned_at}
+use Rattle.night_plan.proofs.Rows.{get_set_other, get_set_same, row_at}
+use Rattle.night_plan.specs.declared.commands.Command.{Command}
+use Rattle.night_plan.specs.declared.commands.Plan.{Plan}
+use Rattle.night_plan.specs.declared.facts.Facts.{Facts}
+use Rattle.night_plan.specs.declared.facts.Known.{Known}
+use Rattle.night_plan.specs.Nights.{Night, night}
+use Rattle.night_plan.specs.Sessions.{after_all}
+use Rattle.night_plan.specs.Turns.{Turn, Begin, Cut, Fail, Stop, all_turned}
+use Rattle.night_plan.specs.Turns.{done_after, is_among, turned}
+use Rattle.night_drive.specs.declared.ends.Ends.{Ends}
+use Rattle.night_drive.specs.declared.names.Names.{Names}
+use Rattle.night_drive.specs.Openings.{interrupted}
+use Rattle.night_drive.specs.PlanTurns.{AdvancesAreTurns, AreBare, CancelsAreTurns}
+use Rattle.night_drive.specs.PlanTurns.{OpeningsReopen}
+use Rattle.night_drive.specs.PlanTurns.{FinishesAreTurns, OthersAreNoTurns}
+use Rattle.night_drive.specs.PlanTurns.{StartsAreTurns}
+use Rattle.night_drive.specs.Seen.{AreNames, IsCalled, IsSeen, is_over, known_of, moment_of}
+use Rattle.night_drive.specs.Tries.{is_cancel}
+use Rattle.night_drive.specs.Turns.{end_of}
+use Rattle.night_drive.proofs.Finishing.{finish_ends}
+use Rattle.night_drive.proofs.Hitting.{advance_stops, bare_finishes, cancel_stops}
+use Rattle.night_drive.proofs.Hitting.{others_leave_groups}
+use Rattle.night_drive.proofs.Leaving.{others_leave}
+use Rattle.night_drive.proofs.Opening.{known_reopened}
+use Rattle.night_drive.proofs.Starting.{start_begins}
+
+-- ---- each command and each group has a name
+
+-- Command c, and how it is called.
+record Called (plan : Plan) (names : Names) (c : ℕ) : Type 0 where
+  pub command : Command
+  pub group : List ℕ
+  pub key : List ℕ
+  pub called : IsCalled names plan.commands.items c command group key
+
+named : (plan : Plan) (names : Names) → AreNames plan names → (c : ℕ)
+    → c < length plan.commands.items → Called plan names c
+named plan names are c less =
+    let command = row_at plan.commands.items c less in
+    let own : command.0.group < length plan.groups.items =
+    plan.sound.own c command.0 command.1 in
+    let group = row_at names.groups.items command.0.group (omega (arith, own, are.groups)) in
+    let key = row_at names.keys.items c (omega (arith, less, are.keys)) in
+    record {
+      command = command.0;
+      group = group.0;
+      key = key.0;
+      called = record { is = command.1; group_is = group.1; key_is = key.1 };
+    }
+
+length-all_turned : (t : Turn) (i : ℕ) (known : List Known)
+    → length (all_turned t i known) ≡ length known
+length-all_turned t i [] = refl
+length-all_turned t i (k ∷ known) = ap suc (length-all_turned t (i + 1) known)
+
+-- Lists of one length that agree at each number below it are the same.
+same_below : {X : Type 0} (xs ys : List X) (n : ℕ) → length xs ≡ n → length ys ≡ n
+    → ((m : ℕ) → m < n → slice_get xs m ≡ slice_get ys m) → xs ≡ ys
+same_below xs ys n one other same = same_rows xs ys at
+  where
+    at : (m : ℕ) → slice_get xs m ≡ slice_get ys m
+    at m = elim (cases_lt m n) [
+      | inl less ↦ same m less
+      | inr more ↦
+          slice_get_past xs m (omega (arith, more, one))
+          ∙ sym (slice_get_past ys m (omega (arith, more, other)))
+    ]
+
+-- ---- what is known of all commands
+
+known_turned : (p q : State) (old new : Ends) (plan : Plan) (names : Names) (before after : Facts)
+    (t : Turn) → AreNames plan names → IsSeen p old plan names before
+    → IsSeen q new plan names after
+    → ((c : ℕ) (command : Command) (group key : List ℕ)
+    → IsCalled names plan.commands.items c command group key
+    → known_of q (moment_of new) names.night group key
+    ≡ turned t c (known_of p (moment_of old) names.night group key))
+    → after.known.items ≡ all_turned t 0 before.known.items
+known_turned p q old new plan names before after t are first second each =
+    same_below after.known.items (all_turned t 0 before.known.items) (length plan.commands.items)
+    second.sized.known (length-all_turned t 0 before.known.items ∙ first.sized.known) at
+  where
+    at : (c : ℕ) → c < length plan.commands.items
+        → slice_get after.known.items c ≡ slice_get (all_turned t 0 before.known.items) c
+    at c less =
+        let it = named plan names are c less in
+        let k : Known = known_of p (moment_of old) names.night it.group it.key in
+        second.known c it.command it.group it.key less it.called
+        ∙ ap (λ (x : Known). Some x) (each c it.command it.group it.key it.called)
+        ∙ sym (turned_at (night plan before) t c k
+        (first.known c it.command it.group it.key less it.called))
+
+known_same : (p q : State) (ends : Ends) (plan : Plan) (names : Names) (before after : Facts)
+    → AreNames plan names → IsSeen p ends plan names before → IsSeen q ends plan names after
+    → ((group key : List ℕ) → known_of q (moment_of ends) names.night group key
+    ≡ known_of p (moment_of ends) names.night group key)
+    → after.known.items ≡ before.known.items
+known_same p q ends plan names before after are first second each =
+    same_below after.known.items before.known.items (length plan.commands.items)
+    second.sized.known first.sized.known at
+  where
+    at : (c : ℕ) → c < length plan.commands.items
+        → slice_get after.known.items c ≡ slice_get before.known.items c
+    at c less =
+        let it = named plan names are c less in
+        second.known c it.command it.group it.key less it.called
+        ∙ ap (λ (x : Known). Some x) (each it.group it.key)
+        ∙ sym (first.known c it.command it.group it.key less it.called)
+
+-- ---- which groups are done
+
+-- These groups are done, too.
+abbrev stopped_in : List ℕ → List Bool → List Bool
+stopped_in [] done = done
+stopped_in (g ∷ stopped) done = stopped_in stopped (set done g true)
+
+set_none : {X : Type 0} (xs : List X) (i k : ℕ) (x : X) → slice_get xs k ≡ None
+    → slice_get (set xs i x) k ≡ None
+set_none xs i k x missing = elim (cases_lt k (length xs)) [
+  | inl less ↦
+      let row = row_at xs k less in absurd (none-some row.0 (sym missing ∙ row.1))
+  | inr more ↦ slice_get_past (set xs i x) k (omega (arith, more, length-set xs i x))
+]
+
+set_at : (done : List Bool) (g h : ℕ)
+    → slice_get (set done g true) h ≡ option_map (λ b. (g == h) || b) (slice_get done h)
+set_at done g h = by_row (slice_get done h) refl
+  where
+    by_row : (o : Option Bool) → slice_get done h ≡ o
+        → slice_get (set done g true) h ≡ option_map (λ b. (g == h) || b) o
+    by_row None found = set_none done g h true found
+    by_row (Some b) found =
+        let less : h < length done = slice_get_within done h b found in
+        elim (cases_eq h g) [
+          | inl same ↦
+              let here : g < length done = omega (arith, less, same) in
+              ap (slice_get (set done g true)) same ∙ get_set_same done g true here
+              ∙ ap (λ x. Some (x || b)) (sym (eq-eqb g h (sym same)))
+          | inr other ↦
+              get_set_other done g h true less other ∙ found
+              ∙ ap (λ x. Some (x || b)) (sym (ne_eqb g h (λ it. other (sym it))))
+        ]
+
+stopped_at : (stopped : List ℕ) (done : List Bool) (h : ℕ)
+    → slice_get (stopped_in stopped done) h
+    ≡ option_map (λ b. b || is_among h stopped) (slice_get done h)
+stopped_at [] done h = by_row (slice_get done h)
+  where
+    by_row : (o : Option Bool) → o ≡ option_map (λ b. b || false) o
+    by_row None = refl
+    by_row (Some b) = ap (λ x. Some x) (sym (or-false b))
+stopped_at (g ∷ stopped) done h =
+    stopped_at stopped (set done g true) h
+    ∙ ap (option_map (λ b. b || is_among h stopped)) (set_at done g h)
+    ∙ by_row (slice_get done h)
+  where
+    turn : (a b c : Bool) → ((a || b) || c) ≡ (b || (a || c))
+    turn true b c = sym (or-true b)
+    turn false b c = refl
+
+    by_row : (o : Option Bool)
+        → option_map (λ b. b || is_among h stopped) (option_map (λ b. (g == h) || b) o)
+        ≡ option_map (λ b. b || is_among h (g ∷ stopped)) o
+    by_row None = refl
+    by_row (Some b) = ap (λ x. Some x) (turn (g == h) b (is_among h stopped))
+
+length-stopped : (stopped : List ℕ) (done : List Bool)
+    → length (stopped_in stopped done) ≡ length done
+length-stopped [] done = refl
+length-stopped (g ∷ stopped) done =
+    length-stopped stopped (set done g true) ∙ length-set done g true
+
+done_stopped : (p q : State) (old new : Ends) (plan : Plan) (names : Names) (before after : Facts)
+    (stopped : List ℕ) → AreNames plan names → IsSeen p old plan names before
+    → IsSeen q new plan names after
+    → ((g : ℕ) (group : List ℕ) → slice_get names.groups.items g ≡ Some group
+    → is_over q names.night group ≡ (is_over p names.night group || is_among g stopped))
+    → after.done.items ≡ stopped_in stopped before.done.items
+done_stopped p q old new plan names before after stopped are first second each =
+    same_below after.done.items (stopped_in stopped before.done.items) (length plan.groups.items)
+    second.sized.done (length-stopped stopped before.done.items ∙ first.sized.done) at
+  where
+    at : (g : ℕ) → g < length plan.groups.items
+        → slice_get after.done.items g ≡ slice_get (stopped_in stopped before.done.items) g
+    at g less =
+        let group = row_at names.groups.items g (omega (arith, less, are.groups)) in
+        second.done g group.0 less group.1
+        ∙ ap (λ (x : Bool). Some x) (each g group.0 group.1)
+        ∙ sym (stopped_at stopped before.done.items g
+        ∙ ap (option_map (λ b. b || is_among g stopped)) (first.done g group.0 less group.1))
+
+done_same : (p q : State) (old new : Ends) (plan : Plan) (names : Names) (before after : Facts)
+    → AreNames plan names → IsSeen p old plan names before → IsSeen q new plan names after
+    → ((group : List ℕ) → is_over q names.night group ≡ is_over p names.night group)
+    → after.done.items ≡ before.done.items
+done_same p q old new plan names before after are first second each =
+    done_stopped p q old new plan names before after [] are first second
+    (λ g group is. each group ∙ sym (or-false (is_over p names.night group)))
+
+-- ---- nights
+
+-- The night with these facts.
+abbrev with_facts : Plan → List Known → List Bool → Night
+with_facts plan known done = record {
+  first = plan.first;
+  groups = plan.groups.items;
+  commands = plan.commands.items;
+  known = known;
+  done = done;
+}
+
+night_is : (plan : Plan) (facts : Facts) (known : List Known) (done : List Bool)
+    → facts.known.items ≡ known → facts.done.items ≡ done
+    → night plan facts ≡ with_facts plan known done
+night_is plan facts known done first second =
+    ap (λ x. with_facts plan x facts.done.items) first ∙ ap (with_facts plan known) second
+
+stops_know : (g i : ℕ) (known : List Known) → all_turned (Stop g) i known ≡ known
+stops_know g i [] = refl
+stops_know g i (k ∷ known) = ap (λ ks. k ∷ ks) (stops_know g (i + 1) known)
+
+after_stops : (plan : Plan) (known : List Known) (done : List Bool) (stopped : List ℕ)
+    → with_facts plan known (stopped_in stopped done)
+    ≡ after_all (with_facts plan known done) (map Stop stopped)
+after_stops plan known done [] = refl
+after_stops plan known done (g ∷ stopped) =
+    after_stops plan known (set done g true) stopped
+    ∙ ap (λ ks. after_all (with_facts plan ks (set done g true)) (map Stop stopped))
+    (sym (stops_know g 0 known))
+
+-- ---- event by event
+
+pub starts_are_turns : StartsAreTurns
+starts_are_turns p ends plan names before after n c now sizes are first second fresh of =
+    night_is plan after (all_turned (Begin now sizes (c ∷ [])) 0 before.known.items)
+    before.done.items
+    (known_turned p (step p (event.Start n)) ends ends plan names before after
+    (Begin now sizes (c ∷ [])) are first second
+    (λ d command group key called.
+    start_begins p (moment_of ends) names.night group key n d now sizes (c ∷ []) fresh
+    (of.last d command group key called)
+    (or-false (c == d) ∙ sym (of.only d command group key called))))
+    (done_same p (step p (event.Start n)) ends ends plan names before after are first second
+    (λ group. refl))
+
+-- An end changes no group.
+end_leaves : (c moment : ℕ) (o : Outcome) (done : List Bool)
+    → done ≡ done_after (end_of c moment o) done
+end_leaves c moment outcome.Success done = refl
+end_leaves c moment (outcome.Failure error) done = by_cancel (is_cancel error)
+  where
+    by_cancel : (b : Bool) → done ≡ done_after (cond b (Cut c) (Fail c moment)) done
+    by_cancel true = refl
+    by_cancel false = refl
+
+pub finishes_are_turns : FinishesAreTurns
+finishes_are_turns p old new plan names before after n c o are first second runs counted bare others
+    of =
+    let q : State = step p (event.Finish n o) in
+    let t : Turn = end_of c (moment_of new n) o in
+    night_is plan after (all_turned t 0 before.known.items) (done_after t before.done.items)
+    (known_turned p q old new plan names before after t are first second
+    (λ d command group key called.
+    finish_ends p (moment_of old) (moment_of new) names.night group key n d c o runs
+    (of.last d command group key called) counted others
+    (sym (of.only d command group key called))))
+    (done_same p q old new plan names before after are first second
+    (λ group. others_leave_groups p (event.Finish n o) names.night group (bare_finishes p n o bare))
+    ∙ end_leaves c (moment_of new n) o before.done.items)
+
+pub cancels_are_turns : CancelsAreTurns
+cancels_are_turns p ends plan names before after s cause stopped are first second numbered those =
+    let q : State = step p (event.Cancel s cause) in
+    night_is plan after before.known.items (stopped_in stopped before.done.items)
+    (known_same p q ends plan names before after are first second
+    (λ group key. others_leave p (event.Cancel s cause) (moment_of ends) names.night group key
+    numbered refl refl refl))
+    (done_stopped p q ends ends plan names before after stopped are first second
+    (λ g group is. cancel_stops p s cause names.night group
+    ∙ ap (λ b. is_over p names.night group || b) (those g group is)))
+    ∙ after_stops plan before.known.items before.done.items stopped
+
+pub advances_are_turns : AdvancesAreTurns
+advances_are_turns p ends plan names before after moment stopped are first second numbered those =
+    let q : State = step p (event.Advance moment) in
+    night_is plan after before.known.items (stopped_in stopped before.done.items)
+    (known_same p q ends plan names before after are first second
+    (λ group key. others_leave p (event.Advance moment) (moment_of ends) names.night group key
+    numbered refl refl refl))
+    (done_stopped p q ends ends plan names before after stopped are first second
+    (λ g group is. advance_stops p moment names.night group
+    ∙ ap (λ b. is_over p names.night group || b) (those g group is)))
+    ∙ after_stops plan before.known.items before.done.items stopped
+
+pub others_are_no_turns : OthersAreNoTurns
+others_are_no_turns p e ends plan names before after are first second numbered same no_start
+    no_finish no_restart =
+    night_is plan after before.known.items before.done.items
+    (known_same p (step p e) ends plan names before after are first second
+    (λ group key. others_leave p e (moment_of ends) names.night group key numbered no_start
+    no_finish no_restart))
+    (done_same p (step p e) ends ends plan names before after are first second
+    (λ group. others_leave_groups p e names.night group same))
+
+-- ---- an opening
+
+-- A restart changes no scope where no group has one of its own.
+fold_still : (e : ℕ) (w : WorkState) (t : TreeState) → AreBare w → (ns : List ℕ)
+    → fold (λ t n. after_task_end e w n (Some interruption) t) t ns ≡ t
+fold_still e w t bare [] = refl
+fold_still e w t bare (n ∷ ns) =
+    ap (λ o. fold (λ t n. after_task_end e w n (Some interruption) t)
+    (option_map_or (λ s. after_cancel e s (Some interruption) t) o t) ns)
+    (bare (group_of_task w n))
+    ∙ fold_still e w t bare ns
+
+pub openings_reopen : OpeningsReopen
+openings_reopen p ends plan names before after are first second bare =
+    night_is plan after (map interrupted before.known.items) before.done.items
+    (same_below after.known.items (map interrupted before.known.items)
+    (length plan.commands.items) second.sized.known
+    (length-map before.known.items interrupted ∙ first.sized.known) at)
+    (done_same p (step p event.Restart) ends ends plan names before after are first second
+    (λ group. others_leave_groups p event.Restart names.night group
+    (fold_still (p.count + 1) p.work p.tree bare (running_tasks p.work))))
+  where
+    at : (c : ℕ) → c < length plan.commands.items
+        → slice_get after.known.items c ≡ slice_get (map interrupted before.known.items) c
+    at c less =
+        let it = named plan names are c less in
+        second.known c it.command it.group it.key less it.called
+        ∙ ap (λ (x : Known). Some x) (known_reopened p (step p event.Restart) (restarted p)
+        (moment_of ends) names.night it.group it.key)
+        ∙ sym (slice_get-map interrupted before.known.items c
+        ∙ ap (option_map interrupted)
+        (first.known c it.command it.group it.key less it.called))

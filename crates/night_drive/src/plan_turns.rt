@@ -1,0 +1,43 @@
+//! The effect of each event on the facts about a whole plan, as turns of `night_plan`. So what its
+//! laws say of nights that go from turn to turn holds of what a store records.
+
+ghost use Rattle.night_drive.specs.PlanTurns.{AdvancesAreTurns, CancelsAreTurns, FinishesAreTurns};
+ghost use Rattle.night_drive.specs.PlanTurns.{OpeningsReopen, OthersAreNoTurns, StartsAreTurns};
+ghost use Rattle.night_drive.specs.PlanTurns.{TasksAreOfOneCommand};
+
+/// A start is the turn in which the command of its task begins. The task belongs to this command
+/// and to no other, wasn't started before, and no later task is a try of the command.
+pub fn a_start_is_a_turn()
+    ensures { StartsAreTurns }
+{}
+
+/// A finish is the turn in which the command of its task ends well, fails or is canceled. The task
+/// belongs to this command and to no other, was running, and is its last try. Its group is bare.
+pub fn a_finish_is_a_turn()
+    ensures { FinishesAreTurns }
+{}
+
+/// A cancel is a turn for each group that it stops, and a clock that moves is one for each group
+/// whose deadline has come.
+pub fn each_stop_is_a_turn()
+    ensures cancels { CancelsAreTurns }
+    ensures advances { AdvancesAreTurns }
+{}
+
+/// Each other event that changes no scope is no turn. A restart isn't such an event.
+pub fn other_events_are_no_turns()
+    ensures { OthersAreNoTurns }
+{}
+
+/// After an opening the facts are those with which the next session of `night_plan` begins. All
+/// groups of the store are bare.
+pub fn an_opening_begins_the_next_session()
+    ensures { OpeningsReopen }
+{}
+
+/// A task of a command belongs to no other command of the plan. For that, no name of a group has
+/// two hyphens in a row, no two groups have the same name, and no two commands of a group the same
+/// key.
+pub fn a_task_is_of_one_command()
+    ensures { TasksAreOfOneCommand }
+{}
