@@ -4,6 +4,7 @@ use Rattle.console_lines.specs.declared.faults.RunFault.{RunFault}
 use Rattle.console_lines.specs.declared.rejections.Rejection.TheVariants.{BadLine}
 use Rattle.plan_lines.specs.declared.runs.RunEnd.{RunEnd}
 use Rattle.plan_lines.specs.declared.runs.RunEnd.TheVariants.{Bad, InputEnded, Refused}
+use Rattle.plan_lines.specs.Runs.{RunsPlan}
 use Rattle.store_words.specs.declared.endings.Done.{Done}
 use Rattle.store_words.specs.declared.endings.Done.TheVariants.{NoPlan, Rejection, Well}
 use Rattle.store_words.specs.declared.failures.Failure.{Failure}
@@ -16,6 +17,7 @@ AnswersPlan (Ok (Bad line)) answer =
     answer ≡ Ok (Rejection (record { number = line; why = BadLine }))
 AnswersPlan (Err why) answer = answer ≡ Err (record { fault = why; file = None })
 
--- The answer is that of some end of a run. Nothing is said of what was read and written.
+-- A run has read this input and written this output, and the answer says how it has ended.
 abbrev pub DoesPlan : Result Done Failure → (r0 r1 w0 w1 : Option (List ℕ)) → Type 0
-DoesPlan answer r0 r1 w0 w1 = (done : Result RunEnd RunFault) × AnswersPlan done answer
+DoesPlan answer r0 r1 w0 w1 =
+    (done : Result RunEnd RunFault) × RunsPlan done r0 r1 w0 w1 × AnswersPlan done answer

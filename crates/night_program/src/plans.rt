@@ -8,8 +8,8 @@ use std::alloc::Global;
 use std::io::{Read, Write};
 use store_words::{Done, Failure};
 
-/// Answers the plan and the rounds of the input. The contract says how the end of a run becomes the
-/// result. Which bytes are read and printed is tested, and not part of it.
+/// Answers the plan and the rounds of the input, as [`run`] does. The result says how the run has
+/// ended.
 pub fn plan<'a, I: Read, O: Write>(
     alloc: Global,
     input: &mut I,
