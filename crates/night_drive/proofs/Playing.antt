@@ -1,13 +1,15 @@
--- The facts about a plan after an event are those after turns.
-use Rattle.std.proofs.Common.{◌≡◌, ◌<◌, ◌∙◌, ◌==◌, ◌||◌, ℕ, suc, ◌+◌, Bool, true}
-use Rattle.std.proofs.Common.{false, cond, List, [], ◌∷◌, map, length, Option, Some, None}
+-- The night that a store shows after an event is the one after turns.
+use Rattle.std.proofs.Common.{◌≡◌, ◌<◌, ◌∙◌, ◌==◌, ◌||◌, ℕ, zero, suc, ◌+◌, Bool, true}
+use Rattle.std.proofs.Common.{false, cond, List, [], ◌∷◌, ◌++◌, map, length, Option, Some, None}
 use Rattle.std.proofs.Common.{slice_get, set, fold, inl, inr, refl, sym, ap, arith}
 use Rattle.std.proofs.Math.Bool.{or-false, or-true}
 use Rattle.std.proofs.lemmas.Bool.{cases_eq, cases_lt, eq-eqb, ne_eqb}
 use Rattle.std.proofs.lemmas.List.{length-map, length-set}
-use Rattle.std.proofs.lemmas.Option.{none-some, slice_get-map, slice_get_past}
+use Rattle.std.proofs.lemmas.List.Folds.{list_any-append}
+use Rattle.std.proofs.lemmas.Option.{none-some, same_Some, slice_get-map, slice_get_past}
 use Rattle.std.proofs.lemmas.Option.{slice_get_within}
 use Rattle.std.specs.Option.{option_map, option_map_or}
+use Rattle.std.specs.Prelude.{unwrap_or}
 use Rattle.run_model.specs.declared.tasks.Outcome.{Outcome}
 use Rattle.run_model.specs.declared.tasks.Outcome.TheVariants as outcome
 use Rattle.run_model.specs.Event as event
@@ -22,9 +24,9 @@ use Rattle.night_plan.proofs.Lasting.{turned_at}
 use Rattle.night_plan.proofs.Rows.{get_set_other, get_set_same, row_at}
 use Rattle.night_plan.specs.declared.commands.Command.{Command}
 use Rattle.night_plan.specs.declared.commands.Plan.{Plan}
-use Rattle.night_plan.specs.declared.facts.Facts.{Facts}
 use Rattle.night_plan.specs.declared.facts.Known.{Known}
-use Rattle.night_plan.specs.Nights.{Night, night}
+use Rattle.night_plan.specs.declared.facts.Phase.TheVariants.{Busy}
+use Rattle.night_plan.specs.Nights.{Night}
 use Rattle.night_plan.specs.Sessions.{after_all}
 use Rattle.night_plan.specs.Turns.{Turn, Begin, Cut, Fail, Stop, all_turned}
 use Rattle.night_plan.specs.Turns.{done_after, is_among, turned}
@@ -34,8 +36,8 @@ use Rattle.night_drive.specs.Openings.{interrupted}
 use Rattle.night_drive.specs.PlanTurns.{AdvancesAreTurns, AreBare, CancelsAreTurns}
 use Rattle.night_drive.specs.PlanTurns.{OpeningsReopen}
 use Rattle.night_drive.specs.PlanTurns.{FinishesAreTurns, OthersAreNoTurns}
-use Rattle.night_drive.specs.PlanTurns.{StartsAreTurns}
-use Rattle.night_drive.specs.Seen.{AreNames, IsCalled, IsSeen, is_over, known_of, moment_of}
+use Rattle.night_drive.specs.PlanTurns.{BeginsJoin, SeenIsShown, StartsAreTurns, known_in, night_in}
+use Rattle.night_drive.specs.Seen.{AreNames, IsCalled, is_over, known_of, moment_of}
 use Rattle.night_drive.specs.Tries.{is_cancel}
 use Rattle.night_drive.specs.Turns.{end_of}
 use Rattle.night_drive.proofs.Finishing.{finish_ends}
@@ -89,44 +91,99 @@ same_below xs ys n one other same = same_rows xs ys at
 
 -- ---- what is known of all commands
 
-known_turned : (p q : State) (old new : Ends) (plan : Plan) (names : Names) (before after : Facts)
-    (t : Turn) → AreNames plan names → IsSeen p old plan names before
-    → IsSeen q new plan names after
+known_shown : (p : State) (ends : Ends) (names : Names) (commands : List Command)
+    (keys : List (List ℕ)) (c : ℕ) (command : Command) (group key : List ℕ)
+    → slice_get commands c ≡ Some command → slice_get keys c ≡ Some key
+    → slice_get names.groups.items command.group ≡ Some group
+    → slice_get (known_in p ends names commands keys) c
+    ≡ Some (known_of p (moment_of ends) names.night group key)
+known_shown p ends names [] keys c command group key is keyed of = absurd (none-some command is)
+known_shown p ends names (x ∷ commands) [] c command group key is keyed of =
+    absurd (none-some key keyed)
+known_shown p ends names (x ∷ commands) (y ∷ keys) zero command group key is keyed of =
+    let one : x ≡ command = same_Some x command is in
+    let two : y ≡ key = same_Some y key keyed in
+    ap (λ (z : Command). Some (known_of p (moment_of ends) names.night
+    (unwrap_or (slice_get names.groups.items z.group) []) y)) one
+    ∙ ap (λ o. Some (known_of p (moment_of ends) names.night (unwrap_or o []) y)) of
+    ∙ ap (λ z. Some (known_of p (moment_of ends) names.night group z)) two
+known_shown p ends names (x ∷ commands) (y ∷ keys) (suc c) command group key is keyed of =
+    known_shown p ends names commands keys c command group key is keyed of
+
+shown : (p : State) (ends : Ends) (plan : Plan) (names : Names) (c : ℕ) (it : Called plan names c)
+    → slice_get (night_in p ends plan names).known c
+    ≡ Some (known_of p (moment_of ends) names.night it.group it.key)
+shown p ends plan names c it =
+    known_shown p ends names plan.commands.items names.keys.items c it.command it.group it.key
+    it.called.is it.called.key_is it.called.group_is
+
+length-known_in : (p : State) (ends : Ends) (names : Names) (commands : List Command)
+    (keys : List (List ℕ)) → length keys ≡ length commands
+    → length (known_in p ends names commands keys) ≡ length commands
+length-known_in p ends names [] keys same = refl
+length-known_in p ends names (x ∷ commands) [] same = absurd (omega (arith, same))
+length-known_in p ends names (x ∷ commands) (y ∷ keys) same =
+    let less : length keys ≡ length commands = omega (arith, same) in
+    ap suc (length-known_in p ends names commands keys less)
+
+all_shown : (p : State) (ends : Ends) (plan : Plan) (names : Names) → AreNames plan names
+    → length (night_in p ends plan names).known ≡ length plan.commands.items
+all_shown p ends plan names are =
+    length-known_in p ends names plan.commands.items names.keys.items are.keys
+
+known_turned : (p q : State) (old new : Ends) (plan : Plan) (names : Names) (t : Turn)
+    → AreNames plan names
     → ((c : ℕ) (command : Command) (group key : List ℕ)
     → IsCalled names plan.commands.items c command group key
     → known_of q (moment_of new) names.night group key
     ≡ turned t c (known_of p (moment_of old) names.night group key))
-    → after.known.items ≡ all_turned t 0 before.known.items
-known_turned p q old new plan names before after t are first second each =
-    same_below after.known.items (all_turned t 0 before.known.items) (length plan.commands.items)
-    second.sized.known (length-all_turned t 0 before.known.items ∙ first.sized.known) at
+    → (night_in q new plan names).known ≡ all_turned t 0 (night_in p old plan names).known
+known_turned p q old new plan names t are each =
+    same_below (night_in q new plan names).known
+    (all_turned t 0 (night_in p old plan names).known) (length plan.commands.items)
+    (all_shown q new plan names are)
+    (length-all_turned t 0 (night_in p old plan names).known ∙ all_shown p old plan names are) at
   where
     at : (c : ℕ) → c < length plan.commands.items
-        → slice_get after.known.items c ≡ slice_get (all_turned t 0 before.known.items) c
+        → slice_get (night_in q new plan names).known c
+        ≡ slice_get (all_turned t 0 (night_in p old plan names).known) c
     at c less =
         let it = named plan names are c less in
         let k : Known = known_of p (moment_of old) names.night it.group it.key in
-        second.known c it.command it.group it.key less it.called
+        shown q new plan names c it
         ∙ ap (λ (x : Known). Some x) (each c it.command it.group it.key it.called)
-        ∙ sym (turned_at (night plan before) t c k
-        (first.known c it.command it.group it.key less it.called))
+        ∙ sym (turned_at (night_in p old plan names) t c k (shown p old plan names c it))
 
-known_same : (p q : State) (ends : Ends) (plan : Plan) (names : Names) (before after : Facts)
-    → AreNames plan names → IsSeen p ends plan names before → IsSeen q ends plan names after
+known_mapped : (p q : State) (ends : Ends) (plan : Plan) (names : Names) (f : Known → Known)
+    → AreNames plan names
     → ((group key : List ℕ) → known_of q (moment_of ends) names.night group key
-    ≡ known_of p (moment_of ends) names.night group key)
-    → after.known.items ≡ before.known.items
-known_same p q ends plan names before after are first second each =
-    same_below after.known.items before.known.items (length plan.commands.items)
-    second.sized.known first.sized.known at
+    ≡ f (known_of p (moment_of ends) names.night group key))
+    → (night_in q ends plan names).known ≡ map f (night_in p ends plan names).known
+known_mapped p q ends plan names f are each =
+    same_below (night_in q ends plan names).known (map f (night_in p ends plan names).known)
+    (length plan.commands.items) (all_shown q ends plan names are)
+    (length-map (night_in p ends plan names).known f ∙ all_shown p ends plan names are) at
   where
     at : (c : ℕ) → c < length plan.commands.items
-        → slice_get after.known.items c ≡ slice_get before.known.items c
+        → slice_get (night_in q ends plan names).known c
+        ≡ slice_get (map f (night_in p ends plan names).known) c
     at c less =
         let it = named plan names are c less in
-        second.known c it.command it.group it.key less it.called
-        ∙ ap (λ (x : Known). Some x) (each it.group it.key)
-        ∙ sym (first.known c it.command it.group it.key less it.called)
+        shown q ends plan names c it ∙ ap (λ (x : Known). Some x) (each it.group it.key)
+        ∙ sym (slice_get-map f (night_in p ends plan names).known c
+        ∙ ap (option_map f) (shown p ends plan names c it))
+
+map_none : {X : Type 0} (xs : List X) → map (λ x. x) xs ≡ xs
+map_none [] = refl
+map_none (x ∷ xs) = ap (λ ys. x ∷ ys) (map_none xs)
+
+known_same : (p q : State) (ends : Ends) (plan : Plan) (names : Names) → AreNames plan names
+    → ((group key : List ℕ) → known_of q (moment_of ends) names.night group key
+    ≡ known_of p (moment_of ends) names.night group key)
+    → (night_in q ends plan names).known ≡ (night_in p ends plan names).known
+known_same p q ends plan names are each =
+    known_mapped p q ends plan names (λ k. k) are each
+    ∙ map_none (night_in p ends plan names).known
 
 -- ---- which groups are done
 
@@ -191,31 +248,37 @@ length-stopped [] done = refl
 length-stopped (g ∷ stopped) done =
     length-stopped stopped (set done g true) ∙ length-set done g true
 
-done_stopped : (p q : State) (old new : Ends) (plan : Plan) (names : Names) (before after : Facts)
-    (stopped : List ℕ) → AreNames plan names → IsSeen p old plan names before
-    → IsSeen q new plan names after
+done_stopped : (p q : State) (names : Names) (stopped : List ℕ)
     → ((g : ℕ) (group : List ℕ) → slice_get names.groups.items g ≡ Some group
     → is_over q names.night group ≡ (is_over p names.night group || is_among g stopped))
-    → after.done.items ≡ stopped_in stopped before.done.items
-done_stopped p q old new plan names before after stopped are first second each =
-    same_below after.done.items (stopped_in stopped before.done.items) (length plan.groups.items)
-    second.sized.done (length-stopped stopped before.done.items ∙ first.sized.done) at
+    → map (is_over q names.night) names.groups.items
+    ≡ stopped_in stopped (map (is_over p names.night) names.groups.items)
+done_stopped p q names stopped each =
+    let old : List Bool = map (is_over p names.night) names.groups.items in
+    let new : List Bool = map (is_over q names.night) names.groups.items in
+    same_below new (stopped_in stopped old) (length names.groups.items)
+    (length-map names.groups.items (is_over q names.night))
+    (length-stopped stopped old ∙ length-map names.groups.items (is_over p names.night)) at
   where
-    at : (g : ℕ) → g < length plan.groups.items
-        → slice_get after.done.items g ≡ slice_get (stopped_in stopped before.done.items) g
+    at : (g : ℕ) → g < length names.groups.items
+        → slice_get (map (is_over q names.night) names.groups.items) g
+        ≡ slice_get (stopped_in stopped (map (is_over p names.night) names.groups.items)) g
     at g less =
-        let group = row_at names.groups.items g (omega (arith, less, are.groups)) in
-        second.done g group.0 less group.1
+        let group = row_at names.groups.items g less in
+        slice_get-map (is_over q names.night) names.groups.items g
+        ∙ ap (option_map (is_over q names.night)) group.1
         ∙ ap (λ (x : Bool). Some x) (each g group.0 group.1)
-        ∙ sym (stopped_at stopped before.done.items g
-        ∙ ap (option_map (λ b. b || is_among g stopped)) (first.done g group.0 less group.1))
+        ∙ sym (stopped_at stopped (map (is_over p names.night) names.groups.items) g
+        ∙ ap (option_map (λ b. b || is_among g stopped))
+        (slice_get-map (is_over p names.night) names.groups.items g
+        ∙ ap (option_map (is_over p names.night)) group.1))
 
-done_same : (p q : State) (old new : Ends) (plan : Plan) (names : Names) (before after : Facts)
-    → AreNames plan names → IsSeen p old plan names before → IsSeen q new plan names after
+done_same : (p q : State) (names : Names)
     → ((group : List ℕ) → is_over q names.night group ≡ is_over p names.night group)
-    → after.done.items ≡ before.done.items
-done_same p q old new plan names before after are first second each =
-    done_stopped p q old new plan names before after [] are first second
+    → map (is_over q names.night) names.groups.items
+    ≡ map (is_over p names.night) names.groups.items
+done_same p q names each =
+    done_stopped p q names []
     (λ g group is. each group ∙ sym (or-false (is_over p names.night group)))
 
 -- ---- nights
@@ -230,11 +293,10 @@ with_facts plan known done = record {
   done = done;
 }
 
-night_is : (plan : Plan) (facts : Facts) (known : List Known) (done : List Bool)
-    → facts.known.items ≡ known → facts.done.items ≡ done
-    → night plan facts ≡ with_facts plan known done
-night_is plan facts known done first second =
-    ap (λ x. with_facts plan x facts.done.items) first ∙ ap (with_facts plan known) second
+facts_are : (plan : Plan) (old new : List Known) (before after : List Bool) → new ≡ old
+    → after ≡ before → with_facts plan new after ≡ with_facts plan old before
+facts_are plan old new before after first second =
+    ap (λ x. with_facts plan x after) first ∙ ap (with_facts plan old) second
 
 stops_know : (g i : ℕ) (known : List Known) → all_turned (Stop g) i known ≡ known
 stops_know g i [] = refl
@@ -249,20 +311,48 @@ after_stops plan known done (g ∷ stopped) =
     ∙ ap (λ ks. after_all (with_facts plan ks (set done g true)) (map Stop stopped))
     (sym (stops_know g 0 known))
 
+-- ---- what was read
+
+pub seen_is_shown : SeenIsShown
+seen_is_shown p ends plan names facts are seen =
+    facts_are plan (night_in p ends plan names).known facts.known.items
+    (map (is_over p names.night) names.groups.items) facts.done.items
+    (same_below facts.known.items (night_in p ends plan names).known (length plan.commands.items)
+    seen.sized.known (all_shown p ends plan names are) known)
+    (same_below facts.done.items (map (is_over p names.night) names.groups.items)
+    (length plan.groups.items) seen.sized.done
+    (length-map names.groups.items (is_over p names.night) ∙ are.groups) done)
+  where
+    known : (c : ℕ) → c < length plan.commands.items
+        → slice_get facts.known.items c ≡ slice_get (night_in p ends plan names).known c
+    known c less =
+        let it = named plan names are c less in
+        seen.known c it.command it.group it.key less it.called
+        ∙ sym (shown p ends plan names c it)
+
+    done : (g : ℕ) → g < length plan.groups.items
+        → slice_get facts.done.items g
+        ≡ slice_get (map (is_over p names.night) names.groups.items) g
+    done g less =
+        let group = row_at names.groups.items g (omega (arith, less, are.groups)) in
+        seen.done g group.0 less group.1
+        ∙ sym (slice_get-map (is_over p names.night) names.groups.items g
+        ∙ ap (option_map (is_over p names.night)) group.1)
+
 -- ---- event by event
 
 pub starts_are_turns : StartsAreTurns
-starts_are_turns p ends plan names before after n c now sizes are first second fresh of =
-    night_is plan after (all_turned (Begin now sizes (c ∷ [])) 0 before.known.items)
-    before.done.items
-    (known_turned p (step p (event.Start n)) ends ends plan names before after
-    (Begin now sizes (c ∷ [])) are first second
+starts_are_turns p ends plan names n c now sizes are fresh of =
+    facts_are plan (all_turned (Begin now sizes (c ∷ [])) 0 (night_in p ends plan names).known)
+    (night_in (step p (event.Start n)) ends plan names).known
+    (map (is_over p names.night) names.groups.items)
+    (map (is_over (step p (event.Start n)) names.night) names.groups.items)
+    (known_turned p (step p (event.Start n)) ends ends plan names (Begin now sizes (c ∷ [])) are
     (λ d command group key called.
     start_begins p (moment_of ends) names.night group key n d now sizes (c ∷ []) fresh
     (of.last d command group key called)
     (or-false (c == d) ∙ sym (of.only d command group key called))))
-    (done_same p (step p (event.Start n)) ends ends plan names before after are first second
-    (λ group. refl))
+    (done_same p (step p (event.Start n)) names (λ group. refl))
 
 -- An end changes no group.
 end_leaves : (c moment : ℕ) (o : Outcome) (done : List Bool)
@@ -275,53 +365,94 @@ end_leaves c moment (outcome.Failure error) done = by_cancel (is_cancel error)
     by_cancel false = refl
 
 pub finishes_are_turns : FinishesAreTurns
-finishes_are_turns p old new plan names before after n c o are first second runs counted bare others
-    of =
+finishes_are_turns p old new plan names n c o are runs counted bare others of =
     let q : State = step p (event.Finish n o) in
     let t : Turn = end_of c (moment_of new n) o in
-    night_is plan after (all_turned t 0 before.known.items) (done_after t before.done.items)
-    (known_turned p q old new plan names before after t are first second
+    let done : List Bool = map (is_over p names.night) names.groups.items in
+    facts_are plan (all_turned t 0 (night_in p old plan names).known)
+    (night_in q new plan names).known (done_after t done)
+    (map (is_over q names.night) names.groups.items)
+    (known_turned p q old new plan names t are
     (λ d command group key called.
     finish_ends p (moment_of old) (moment_of new) names.night group key n d c o runs
     (of.last d command group key called) counted others
     (sym (of.only d command group key called))))
-    (done_same p q old new plan names before after are first second
+    (done_same p q names
     (λ group. others_leave_groups p (event.Finish n o) names.night group (bare_finishes p n o bare))
-    ∙ end_leaves c (moment_of new n) o before.done.items)
+    ∙ end_leaves c (moment_of new n) o done)
 
 pub cancels_are_turns : CancelsAreTurns
-cancels_are_turns p ends plan names before after s cause stopped are first second numbered those =
+cancels_are_turns p ends plan names s cause stopped are numbered those =
     let q : State = step p (event.Cancel s cause) in
-    night_is plan after before.known.items (stopped_in stopped before.done.items)
-    (known_same p q ends plan names before after are first second
+    let known : List Known = (night_in p ends plan names).known in
+    let done : List Bool = map (is_over p names.night) names.groups.items in
+    facts_are plan known (night_in q ends plan names).known (stopped_in stopped done)
+    (map (is_over q names.night) names.groups.items)
+    (known_same p q ends plan names are
     (λ group key. others_leave p (event.Cancel s cause) (moment_of ends) names.night group key
     numbered refl refl refl))
-    (done_stopped p q ends ends plan names before after stopped are first second
+    (done_stopped p q names stopped
     (λ g group is. cancel_stops p s cause names.night group
     ∙ ap (λ b. is_over p names.night group || b) (those g group is)))
-    ∙ after_stops plan before.known.items before.done.items stopped
+    ∙ after_stops plan known done stopped
 
 pub advances_are_turns : AdvancesAreTurns
-advances_are_turns p ends plan names before after moment stopped are first second numbered those =
+advances_are_turns p ends plan names moment stopped are numbered those =
     let q : State = step p (event.Advance moment) in
-    night_is plan after before.known.items (stopped_in stopped before.done.items)
-    (known_same p q ends plan names before after are first second
+    let known : List Known = (night_in p ends plan names).known in
+    let done : List Bool = map (is_over p names.night) names.groups.items in
+    facts_are plan known (night_in q ends plan names).known (stopped_in stopped done)
+    (map (is_over q names.night) names.groups.items)
+    (known_same p q ends plan names are
     (λ group key. others_leave p (event.Advance moment) (moment_of ends) names.night group key
     numbered refl refl refl))
-    (done_stopped p q ends ends plan names before after stopped are first second
+    (done_stopped p q names stopped
     (λ g group is. advance_stops p moment names.night group
     ∙ ap (λ b. is_over p names.night group || b) (those g group is)))
-    ∙ after_stops plan before.known.items before.done.items stopped
+    ∙ after_stops plan known done stopped
 
 pub others_are_no_turns : OthersAreNoTurns
-others_are_no_turns p e ends plan names before after are first second numbered same no_start
-    no_finish no_restart =
-    night_is plan after before.known.items before.done.items
-    (known_same p (step p e) ends plan names before after are first second
+others_are_no_turns p e ends plan names are numbered same no_start no_finish no_restart =
+    facts_are plan (night_in p ends plan names).known (night_in (step p e) ends plan names).known
+    (map (is_over p names.night) names.groups.items)
+    (map (is_over (step p e) names.night) names.groups.items)
+    (known_same p (step p e) ends plan names are
     (λ group key. others_leave p e (moment_of ends) names.night group key numbered no_start
     no_finish no_restart))
-    (done_same p (step p e) ends ends plan names before after are first second
-    (λ group. others_leave_groups p e names.night group same))
+    (done_same p (step p e) names (λ group. others_leave_groups p e names.night group same))
+
+-- ---- several begins
+
+begun_twice : (now : ℕ) (sizes first second : List ℕ) (c : ℕ) (k : Known)
+    → turned (Begin now sizes second) c (turned (Begin now sizes first) c k)
+    ≡ turned (Begin now sizes (first ++ second)) c k
+begun_twice now sizes first second c k =
+    by_both (is_among c first) (is_among c second)
+    ∙ ap (λ b. cond b (record k { phase = Busy }) k)
+    (sym (list_any-append (λ d. d == c) first second))
+  where
+    by_both : (a b : Bool)
+        → cond b (record (cond a (record k { phase = Busy }) k) { phase = Busy })
+        (cond a (record k { phase = Busy }) k)
+        ≡ cond (a || b) (record k { phase = Busy }) k
+    by_both true true = refl
+    by_both true false = refl
+    by_both false true = refl
+    by_both false false = refl
+
+all_begun_twice : (now : ℕ) (sizes first second : List ℕ) (i : ℕ) (known : List Known)
+    → all_turned (Begin now sizes second) i (all_turned (Begin now sizes first) i known)
+    ≡ all_turned (Begin now sizes (first ++ second)) i known
+all_begun_twice now sizes first second i [] = refl
+all_begun_twice now sizes first second i (k ∷ known) =
+    ap (λ x. x ∷ all_turned (Begin now sizes second) (i + 1)
+    (all_turned (Begin now sizes first) (i + 1) known)) (begun_twice now sizes first second i k)
+    ∙ ap (λ xs. turned (Begin now sizes (first ++ second)) i k ∷ xs)
+    (all_begun_twice now sizes first second (i + 1) known)
+
+pub begins_join : BeginsJoin
+begins_join n now sizes first second =
+    ap (λ known. record n { known = known }) (all_begun_twice now sizes first second 0 n.known)
 
 -- ---- an opening
 
@@ -336,22 +467,13 @@ fold_still e w t bare (n ∷ ns) =
     ∙ fold_still e w t bare ns
 
 pub openings_reopen : OpeningsReopen
-openings_reopen p ends plan names before after are first second bare =
-    night_is plan after (map interrupted before.known.items) before.done.items
-    (same_below after.known.items (map interrupted before.known.items)
-    (length plan.commands.items) second.sized.known
-    (length-map before.known.items interrupted ∙ first.sized.known) at)
-    (done_same p (step p event.Restart) ends ends plan names before after are first second
+openings_reopen p ends plan names are bare =
+    let q : State = step p event.Restart in
+    facts_are plan (map interrupted (night_in p ends plan names).known)
+    (night_in q ends plan names).known (map (is_over p names.night) names.groups.items)
+    (map (is_over q names.night) names.groups.items)
+    (known_mapped p q ends plan names interrupted are
+    (λ group key. known_reopened p q (restarted p) (moment_of ends) names.night group key))
+    (done_same p q names
     (λ group. others_leave_groups p event.Restart names.night group
     (fold_still (p.count + 1) p.work p.tree bare (running_tasks p.work))))
-  where
-    at : (c : ℕ) → c < length plan.commands.items
-        → slice_get after.known.items c ≡ slice_get (map interrupted before.known.items) c
-    at c less =
-        let it = named plan names are c less in
-        second.known c it.command it.group it.key less it.called
-        ∙ ap (λ (x : Known). Some x) (known_reopened p (step p event.Restart) (restarted p)
-        (moment_of ends) names.night it.group it.key)
-        ∙ sym (slice_get-map interrupted before.known.items c
-        ∙ ap (option_map interrupted)
-        (first.known c it.command it.group it.key less it.called))

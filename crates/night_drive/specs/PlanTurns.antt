@@ -1,7 +1,7 @@
--- The effect of an event on the facts about a whole plan. It is the effect of turns of
+-- The effect of an event on the night that a store shows. It is the effect of turns of
 -- `night_plan`.
-use Rattle.std.specs.Prelude.{◌≡◌, ◌≢◌, ◌==◌, ℕ, Bool, true, false, List, [], ◌∷◌, Option, Some}
-use Rattle.std.specs.Prelude.{None, map, slice_get}
+use Rattle.std.specs.Prelude.{◌≡◌, ◌≢◌, ◌==◌, ℕ, Bool, true, false, List, [], ◌∷◌, ◌++◌, Option}
+use Rattle.std.specs.Prelude.{Some, None, map, slice_get, unwrap_or}
 use Rattle.run_model.specs.declared.tasks.Outcome.{Outcome}
 use Rattle.run_model.specs.Event.{Event}
 use Rattle.run_model.specs.Event as event
@@ -16,15 +16,45 @@ use Rattle.model_laws.specs.Kinds.{is_finish, is_restart, is_start}
 use Rattle.night_plan.specs.declared.commands.Command.{Command}
 use Rattle.night_plan.specs.declared.commands.Plan.{Plan}
 use Rattle.night_plan.specs.declared.facts.Facts.{Facts}
-use Rattle.night_plan.specs.Nights.{night}
+use Rattle.night_plan.specs.declared.facts.Known.{Known}
+use Rattle.night_plan.specs.Nights.{Night, night}
 use Rattle.night_plan.specs.Sessions.{after_all, restarted}
 use Rattle.night_plan.specs.Turns.{after as after_turn, Begin, Stop, is_among}
 use Rattle.night_drive.specs.declared.ends.Ends.{Ends}
 use Rattle.night_drive.specs.declared.names.Names.{Names}
 use Rattle.night_drive.specs.Distinct.{AreDistinct}
-use Rattle.night_drive.specs.Seen.{AreNames, IsCalled, IsSeen, moment_of}
+use Rattle.night_drive.specs.Seen.{AreNames, IsCalled, IsSeen, is_over, known_of, moment_of}
 use Rattle.night_drive.specs.Tries.{counts}
 use Rattle.night_drive.specs.Turns.{IsLast, end_of, has_come, is_task, of_last}
+
+-- ---- the night that a store shows
+
+-- The facts about these commands, which have these keys.
+abbrev pub known_in : State → Ends → Names → List Command → (keys : List (List ℕ)) → List Known
+known_in p ends names (command ∷ commands) (key ∷ keys) =
+    known_of p (moment_of ends) names.night
+    (unwrap_or (slice_get names.groups.items command.group) []) key
+    ∷ known_in p ends names commands keys
+known_in p ends names _ _ = []
+
+-- The night of the plan whose facts are those that the rows of the state give.
+abbrev pub night_in : State → Ends → Plan → Names → Night
+night_in p ends plan names = record {
+  first = plan.first;
+  groups = plan.groups.items;
+  commands = plan.commands.items;
+  known = known_in p ends names plan.commands.items names.keys.items;
+  done = map (is_over p names.night) names.groups.items;
+}
+
+-- The facts that are read from a state make up this night.
+abbrev pub SeenIsShown : Type 0
+SeenIsShown =
+    (p : State) (ends : Ends) (plan : Plan) (names : Names) (facts : Facts)
+    → AreNames plan names → IsSeen p ends plan names facts
+    → night plan facts ≡ night_in p ends plan names
+
+-- ---- one event
 
 -- Task n belongs to command c of the plan and to no other command, and no later task is a try of
 -- this command.
@@ -38,26 +68,30 @@ pub record IsOfCommand (p : State) (names : Names) (commands : List Command) (n 
 -- A start is the turn in which the command of the task begins.
 abbrev pub StartsAreTurns : Type 0
 StartsAreTurns =
-    (p : State) (ends : Ends) (plan : Plan) (names : Names) (before after : Facts) (n c now : ℕ)
-    (sizes : List ℕ)
-    → AreNames plan names → IsSeen p ends plan names before
-    → IsSeen (step p (event.Start n)) ends plan names after → has_stage is_fresh p.work n ≡ true
+    (p : State) (ends : Ends) (plan : Plan) (names : Names) (n c now : ℕ) (sizes : List ℕ)
+    → AreNames plan names → has_stage is_fresh p.work n ≡ true
     → IsOfCommand p names plan.commands.items n c
-    → night plan after ≡ after_turn (night plan before) (Begin now sizes (c ∷ []))
+    → night_in (step p (event.Start n)) ends plan names
+    ≡ after_turn (night_in p ends plan names) (Begin now sizes (c ∷ []))
+
+-- What begins in two turns at one moment may as well begin in one.
+abbrev pub BeginsJoin : Type 0
+BeginsJoin =
+    (n : Night) (now : ℕ) (sizes first second : List ℕ)
+    → after_turn (after_turn n (Begin now sizes first)) (Begin now sizes second)
+    ≡ after_turn n (Begin now sizes (first ++ second))
 
 -- A finish is the turn in which the command of the task ends, if the task's group is bare. The
 -- moment of the end becomes known.
 abbrev pub FinishesAreTurns : Type 0
 FinishesAreTurns =
-    (p : State) (old new : Ends) (plan : Plan) (names : Names) (before after : Facts) (n c : ℕ)
-    (outcome : Outcome)
-    → AreNames plan names → IsSeen p old plan names before
-    → IsSeen (step p (event.Finish n outcome)) new plan names after
-    → has_stage is_running p.work n ≡ true → counts (stage_of outcome) ≡ true
+    (p : State) (old new : Ends) (plan : Plan) (names : Names) (n c : ℕ) (outcome : Outcome)
+    → AreNames plan names → has_stage is_running p.work n ≡ true → counts (stage_of outcome) ≡ true
     → own_scope p.work (group_of_task p.work n) ≡ None
     → ((m : ℕ) → m ≢ n → moment_of new m ≡ moment_of old m)
     → IsOfCommand p names plan.commands.items n c
-    → night plan after ≡ after_turn (night plan before) (end_of c (moment_of new n) outcome)
+    → night_in (step p (event.Finish n outcome)) new plan names
+    ≡ after_turn (night_in p old plan names) (end_of c (moment_of new n) outcome)
 
 -- These groups of the plan, and no others, pass the test with their last scopes.
 abbrev pub AreThose : State → Names → (ℕ → Bool) → List ℕ → Type 0
@@ -68,31 +102,28 @@ AreThose p names test stopped =
 -- A cancel is a turn for each group that it stops.
 abbrev pub CancelsAreTurns : Type 0
 CancelsAreTurns =
-    (p : State) (ends : Ends) (plan : Plan) (names : Names) (before after : Facts) (s : ℕ)
-    (cause : Option (List ℕ)) (stopped : List ℕ)
-    → AreNames plan names → IsSeen p ends plan names before
-    → IsSeen (step p (event.Cancel s cause)) ends plan names after → AreNumbered p
+    (p : State) (ends : Ends) (plan : Plan) (names : Names) (s : ℕ) (cause : Option (List ℕ))
+    (stopped : List ℕ)
+    → AreNames plan names → AreNumbered p
     → AreThose p names (λ last. is_on s (chain p.tree.scopes last)) stopped
-    → night plan after ≡ after_all (night plan before) (map Stop stopped)
+    → night_in (step p (event.Cancel s cause)) ends plan names
+    ≡ after_all (night_in p ends plan names) (map Stop stopped)
 
 -- A clock that moves is a turn for each group whose deadline has come.
 abbrev pub AdvancesAreTurns : Type 0
 AdvancesAreTurns =
-    (p : State) (ends : Ends) (plan : Plan) (names : Names) (before after : Facts) (moment : ℕ)
-    (stopped : List ℕ)
-    → AreNames plan names → IsSeen p ends plan names before
-    → IsSeen (step p (event.Advance moment)) ends plan names after → AreNumbered p
-    → AreThose p names (has_come p moment) stopped
-    → night plan after ≡ after_all (night plan before) (map Stop stopped)
+    (p : State) (ends : Ends) (plan : Plan) (names : Names) (moment : ℕ) (stopped : List ℕ)
+    → AreNames plan names → AreNumbered p → AreThose p names (has_come p moment) stopped
+    → night_in (step p (event.Advance moment)) ends plan names
+    ≡ after_all (night_in p ends plan names) (map Stop stopped)
 
 -- Each other event that doesn't change the tree is no turn. A restart isn't such an event.
 abbrev pub OthersAreNoTurns : Type 0
 OthersAreNoTurns =
-    (p : State) (e : Event) (ends : Ends) (plan : Plan) (names : Names) (before after : Facts)
-    → AreNames plan names → IsSeen p ends plan names before
-    → IsSeen (step p e) ends plan names after → AreNumbered p → (step p e).tree ≡ p.tree
+    (p : State) (e : Event) (ends : Ends) (plan : Plan) (names : Names)
+    → AreNames plan names → AreNumbered p → (step p e).tree ≡ p.tree
     → is_start e ≡ false → is_finish e ≡ false → is_restart e ≡ false
-    → night plan after ≡ night plan before
+    → night_in (step p e) ends plan names ≡ night_in p ends plan names
 
 -- No group has a scope of its own.
 abbrev pub AreBare : WorkState → Type 0
@@ -101,10 +132,9 @@ AreBare w = (g : ℕ) → own_scope w g ≡ None
 -- What an opening finds is what `night_plan` lets a session begin with, if all groups are bare.
 abbrev pub OpeningsReopen : Type 0
 OpeningsReopen =
-    (p : State) (ends : Ends) (plan : Plan) (names : Names) (before after : Facts)
-    → AreNames plan names → IsSeen p ends plan names before
-    → IsSeen (step p event.Restart) ends plan names after → AreBare p.work
-    → night plan after ≡ restarted (night plan before)
+    (p : State) (ends : Ends) (plan : Plan) (names : Names)
+    → AreNames plan names → AreBare p.work
+    → night_in (step p event.Restart) ends plan names ≡ restarted (night_in p ends plan names)
 
 -- A task of a command of the plan belongs to no other command, if the names are distinct.
 abbrev pub TasksAreOfOneCommand : Type 0

@@ -1,14 +1,25 @@
-//! The effect of each event on the facts about a whole plan, as turns of `night_plan`. So what its
-//! laws say of nights that go from turn to turn holds of what a store records.
+//! The effect of each event on the night that a store shows, as turns of `night_plan`. So the laws
+//! about nights that go from turn to turn hold for what a store records.
 
-ghost use Rattle.night_drive.specs.PlanTurns.{AdvancesAreTurns, CancelsAreTurns, FinishesAreTurns};
-ghost use Rattle.night_drive.specs.PlanTurns.{OpeningsReopen, OthersAreNoTurns, StartsAreTurns};
-ghost use Rattle.night_drive.specs.PlanTurns.{TasksAreOfOneCommand};
+ghost use Rattle.night_drive.specs.PlanTurns.{AdvancesAreTurns, BeginsJoin, CancelsAreTurns};
+ghost use Rattle.night_drive.specs.PlanTurns.{FinishesAreTurns, OpeningsReopen, OthersAreNoTurns};
+ghost use Rattle.night_drive.specs.PlanTurns.{SeenIsShown, StartsAreTurns, TasksAreOfOneCommand};
+
+/// The facts that are read from a store make up the night that it shows.
+pub fn the_facts_make_up_the_night()
+    ensures { SeenIsShown }
+{}
 
 /// A start is the turn in which the command of its task begins. The task belongs to this command
 /// and to no other, wasn't started before, and no later task is a try of the command.
 pub fn a_start_is_a_turn()
     ensures { StartsAreTurns }
+{}
+
+/// Two turns in which commands begin, at the same moment and with the same sizes of pools, have the
+/// effect of one turn in which all of them begin.
+pub fn begins_are_joined()
+    ensures { BeginsJoin }
 {}
 
 /// A finish is the turn in which the command of its task ends well, fails or is canceled. The task
@@ -29,8 +40,8 @@ pub fn other_events_are_no_turns()
     ensures { OthersAreNoTurns }
 {}
 
-/// After an opening the facts are those with which the next session of `night_plan` begins. All
-/// groups of the store are bare.
+/// After an opening a store shows the night with which the next session of `night_plan` begins. All
+/// its groups are bare.
 pub fn an_opening_begins_the_next_session()
     ensures { OpeningsReopen }
 {}
