@@ -183,8 +183,8 @@ cancel_saves_none scope cause h =
 -- ---- what a cancel leaves
 
 -- A command that was obeyed, if the line asks for it.
-pub cancel_obeyed : {D : Type 0} (state : D → DiskState) (b c : BookView D) (asked_for : LineRequest)
-    (call : Command) (r : Result Answer Refusal)
+pub cancel_obeyed : {D : Type 0} (state : D → DiskState) (b c : BookView D)
+    (asked_for : LineRequest) (call : Command) (r : Result Answer Refusal)
     → asked_for ≡ asks call
     → b.journal.broken ≡ false
     → AnswersStep state b (step.Command call) (replied answered.Answer r) c
