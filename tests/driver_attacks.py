@@ -21,8 +21,9 @@ from running import bytes_of
 
 IN_USE = re.compile(r"night-run: s: in use by another night-run.*\n")
 YEAR = 365 * 86_400
-# How far the clock is set, in seconds: for some of them the store's own clock is ahead afterwards.
-CLOCKS = (0, -3600, 3600, -400 * 86_400, YEAR, 32 * YEAR)
+# How far the clock is set amid a night, in seconds, and for each of the nights after it: the store's
+# own clock is ahead then.
+CLOCKS, LATER = (0, -3600, 3600, -400 * 86_400, YEAR), (0, 32 * YEAR, 0)
 
 
 def finishes(room: Room, kind: str, again: tuple[str, ...] = ()) -> None:
@@ -123,7 +124,7 @@ def clock_is_set(tries: Shared) -> None:
             0, ["15 commands: 15 ok; 15 run this time"], ""))
         tries.is_same(f"{kind}: retries", (room.path, its), room.begun(), {
             **{f"g.k{it}": 1 for it in range(12)}, **{f"h.r{it}": 2 for it in range(3)}})
-        for clock in 0, 32 * YEAR, 0:
+        for clock in LATER:
             room.write("clock", str(clock))
             tries.is_same(f"{kind}: the next night", (room.path, its, clock), room.last(
                 "s", "JOBS", "--nightly"), (0, "15 commands: 15 ok; 15 run this time"))
