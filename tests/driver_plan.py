@@ -445,17 +445,21 @@ def retries_wait_on(tries: Shared) -> None:
 
 
 def failures_after_a_set_clock(tries: Shared) -> None:
-    """A retry waits for its whole wait, also if the clock was set just before the failure."""
-    for what, then in ("ahead", 1.8e9), ("back", 5000.0), ("not", 10_000.0):
+    """A retry waits for its whole wait, also if the clock was set just before the failure. One
+    to come, as the clock was set back after it, isn't waited for."""
+    for what, then, now in ("ahead", 1.8e9, 0.0), ("back", 5000.0, 0.0), ("not", 10_000.0, 0.0), (
+            "back after it", 1.8e9, 10_001.0):
         planner = planner_of(tries, "g: retries 1 wait 60s\ng a true\ng b true")
         facts = driver_module(tries, "facts").Facts()
         facts.busy.update((("g", "a"), ("g", "b")))
         planner.choose(facts, 2, 10_000.0)
         facts.busy.discard(("g", "a"))
         facts.ended(("g", "a"), driver_module(tries, "ends").failed("exit 3"), then)
-        for now, wanted in (then, then + 60), (then + 59.5, then + 60), (then + 60, None):
-            found = planner.choose(facts, 2, now)
-            tries.is_same(f"a failure as the clock is set {what}", now - then,
+        now = now or then
+        due = now + 60 if now == then else None
+        for at, wanted in (now, due), (now + 59.5, due), (now + 60, None):
+            found = planner.choose(facts, 2, at)
+            tries.is_same(f"a failure as the clock is set {what}", at - now,
                           (len(found.names), found.later), (0 if wanted else 1, wanted))
 
 

@@ -49,7 +49,7 @@ class Planner:
         self.asking: Asking | None = None
         self.meanwhile: Callable[[], float] = lambda: SECONDS
         self.offset: int | None = None  # from the machine's clock to the moments that are written
-        self.moment = LONGEST  # the last one that was written
+        self.moment = self.latest = LONGEST  # the last one that was written, and that of now
         self.failed_at: dict[Name, tuple[float, int]] = {}  # of the last failures, as written
         self.forget()
 
@@ -114,12 +114,12 @@ class Planner:
         if self.asking is None:
             self.begin()
         assert self.asking
-        moment = self.moment if now is None else self.moment_at(now)
+        self.latest = self.moment + LONGEST if now is None else self.moment_at(now)
         lines = self.news(facts, held)
         if most is not None:
             lines += self.room(facts, most)
         if now is not None:
-            lines += self.clock(now, moment, bool(lines))
+            lines += self.clock(now, bool(lines))
         if most is None:
             return self.stood(self.heard([*lines, "standings"]))
         if lines or self.choice is None:
@@ -231,19 +231,21 @@ class Planner:
             self.choice = None
         return moment
 
-    def clock(self, now: float, moment: int, has_news: bool) -> list[str]:
+    def clock(self, now: float, has_news: bool) -> list[str]:
         """The line for the moment, if something else is written or a retry is due."""
         later = self.choice.later if self.choice else None
         if not has_news and self.choice is not None and (later is None or now < later):
             return []
-        self.moment = moment
-        return [f"now {moment}"]
+        self.moment = self.latest
+        return [f"now {self.moment}"]
 
     def moment_of(self, name: Name, when: float) -> int:
         """How the moment of a failure is written: always as it was written first, even if the
-        machine's clock was set since then."""
+        machine's clock was set since then. A failure to come, by a clock that was set back, comes
+        in a moment: it isn't waited for."""
         if name not in self.failed_at or self.failed_at[name][0] != when:
-            self.failed_at[name] = when, max(0, int(when * TICKS) + (self.offset or 0))
+            found = int(when * TICKS) + (self.offset or 0)
+            self.failed_at[name] = when, min(max(0, found), self.latest + 1)
         return self.failed_at[name][1]
 
     # --- what it answers
