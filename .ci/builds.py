@@ -25,8 +25,8 @@ from schedule import length
 PROGRAM = "night"
 MADE = f"crates/{PROGRAM}/out/{PROGRAM}"
 STAMP = "build.stamp"  # in a crate's out/, where it is built
-# So many of a failed proof's last lines are shown, but for those that count modules.
-SAID, COUNTS = 12, ("logic ", "statements ", "library ", "crate ")
+# How many of a failed proof's last lines are shown, and how those begin that only count modules.
+SHOWN, COUNTS = 12, ("logic ", "statements ", "library ", "crate ")
 FULL = "remove what isn't needed there, such as crates/*/out of another checkout"
 # A crate of so many seconds for each one below it gets a second processor: each copy of the prover
 # reads those anew, and night_program, over 22, took 275 processor seconds with two, 155 with one.
@@ -54,7 +54,7 @@ class Build:
         self.program = found[0]
         self.crates = [*self.program.below(), self.program]
         self.figures = Figures(self.way, self.factor)
-        self.took, self.told = 0.0, 0.0  # of crates that ended, by the clock and by the figures
+        self.took, self.foreseen = 0.0, 0.0  # seconds of the crates that ended, and by the figures
 
     def begin(self) -> None:
         """Keeps other builds out of this checkout, and finds which crates are left to prove."""
@@ -101,7 +101,7 @@ class Build:
         """Returns how long the rest takes by the last figures, and by how much longer those that
         ended took, some of it having run so long."""
         left = {it: low for it, low in self.waits.items() if it not in self.progress.ended}
-        pace = self.took / self.told if self.told else 1.0
+        pace = self.took / self.foreseen if self.foreseen else 1.0
         took = {it: max(pace * self.figures.of(it).clock - ran.get(it, 0.0), 1.0) for it in left}
         return float(length(left, took, self.lanes))
 
@@ -141,29 +141,30 @@ class Build:
         spent = self.meter.seconds(crate.name, Of.PROOF)
         self.progress.end(crate.name, f"proved in {took:.0f} s ({spent:.0f} processor seconds)")
         if is_new and spent:
-            self.took, self.told = self.took + took, self.told + self.figures.of(crate.name).clock
+            self.took += took
+            self.foreseen += self.figures.of(crate.name).clock
             memory = self.meter.memory(crate.name)
             self.figures.note(crate.name, Figure(round(took), round(spent), memory))
 
     def read_by(self, crate: Crate) -> list[tuple[str, int, int]]:
-        """Returns what tells whether a file that a proof reads was changed, even if changed back:
-        the prover may have read what it was between."""
+        """Returns the identity and the time of each file that a proof reads. They show that a file
+        was changed, even if it was changed back: the prover may have read it in between."""
         files = [file for it in [*crate.below(), crate] for file in it.files()]
         return [(it, found.st_ino, found.st_mtime_ns)
                 for it, found in zip(files, map(os.lstat, files))]
 
     def why(self, log: str, status: int | None) -> str:
-        """Returns what a proof that failed said last, and what is likely to have ended it."""
+        """Returns the last lines of a failed proof, and what is likely to have ended it."""
         with open(log, encoding="utf-8", errors="replace") as file:
-            said = file.read().splitlines()
-        last = [it for it in said if not it.startswith(COUNTS)][-SAID:]
-        told = "".join(f"\n    {it}" for it in last)
+            printed = file.read().splitlines()
+        last = [it for it in printed if not it.startswith(COUNTS)][-SHOWN:]
+        shown = "".join(f"\n    {it}" for it in last)
         if status == -signal.SIGKILL:
             return ": it was killed, most likely for memory; end other programs, and run this again"
-        if "No space left on device" in "\n".join(said):
-            return f": the disk is full; {FULL}, and run this again{told}"
+        if "No space left on device" in "\n".join(printed):
+            return f": the disk is full; {FULL}, and run this again{shown}"
         ended = "" if status is None else f"status {status}; "
-        return f" ({ended}{os.path.relpath(log, self.top)} has all of it):{told}"
+        return f" ({ended}{os.path.relpath(log, self.top)} has all of it):{shown}"
 
 
 class ByRattle(Build):
@@ -188,7 +189,7 @@ class ByRattle(Build):
                     lambda jobs: self.prove(crate, jobs))
 
     def prove(self, crate: Crate, jobs: int) -> bool:
-        """Proves and builds one crate, and says how that ended."""
+        """Proves and builds one crate, and prints how that ended."""
         log, began = f"{crate.folder}/out/build.log", time.monotonic()
         self.progress.begin(crate.name)
         try:
@@ -245,20 +246,20 @@ class ByRt(Build):
         return self.well
 
     def check_all(self) -> None:
-        """Has `rt` check all crates, and says of each how it ended: at its verdict, or at the
-        summary, since a library that was checked in another checkout gets no verdict here."""
+        """Has `rt` check all crates, and prints how each ended: at its verdict, or at the summary,
+        since a library that was checked in another checkout gets no verdict here."""
         crates, undecided, loose = {it.name: it for it in self.left}, dict[str, str](), ""
         with needs.check_all(self.kit, self.program, self.lanes_by_memory()) as ran:
             assert ran.stdout
-            for name, said in sections(ran.stdout):
+            for name, printed in sections(ran.stdout):
                 if name == "summary":
-                    self.read_summary(said, crates, undecided)
+                    self.read_summary(printed, crates, undecided)
                 if name not in crates:
-                    loose += said
-                elif name not in self.well and "\nlogic=" in f"\n{said}":
-                    self.end_section(crates[name], said)
+                    loose += printed
+                elif name not in self.well and "\nlogic=" in f"\n{printed}":
+                    self.end_section(crates[name], printed)
                 elif name not in self.well:
-                    undecided[name] = said
+                    undecided[name] = printed
         if ran.returncode and False not in self.well.values():
             self.end_badly(self.program, "".join([loose, *undecided.values()]))
 
@@ -267,10 +268,10 @@ class ByRt(Build):
         most = max(self.figures.of(it.name).memory for it in self.left)
         return max(1, min(self.lanes, int(0.85 * machine.memory() / most)))
 
-    def end_section(self, crate: Crate, said: str) -> None:
-        """Reads what was said of a crate."""
-        if "\nlogic=proved" not in f"\n{said}":
-            return self.end_badly(crate, said)
+    def end_section(self, crate: Crate, printed: str) -> None:
+        """Reads the lines that `rt` printed about a crate."""
+        if "\nlogic=proved" not in f"\n{printed}":
+            return self.end_badly(crate, printed)
         if self.read[crate.name] != self.read_by(crate):
             self.forget(crate)
             self.well[crate.name] = False
@@ -280,17 +281,18 @@ class ByRt(Build):
             self.note(crate)
             self.end(crate, self.meter.ran(crate.name), True)
 
-    def end_badly(self, crate: Crate, said: str) -> None:
+    def end_badly(self, crate: Crate, printed: str) -> None:
         log = f"{crate.folder}/out/build.log"
         os.makedirs(os.path.dirname(log), exist_ok=True)
         with open(log, "w", encoding="utf-8") as file:
-            file.write(said)
+            file.write(printed)
         self.well[crate.name] = False
         self.progress.end(crate.name, f"NOT BUILT{self.why(log, None)}")
 
-    def read_summary(self, said: str, crates: dict[str, Crate], undecided: dict[str, str]) -> None:
-        """Reads how crates ended that got no verdict, of which something or nothing was said."""
-        for line in said.splitlines():
+    def read_summary(self, printed: str, crates: dict[str, Crate],
+                     undecided: dict[str, str]) -> None:
+        """Reads how those crates ended that got no verdict. `rt` may print nothing about them."""
+        for line in printed.splitlines():
             name, _, how = line.partition(": ")
             if name in crates and name not in self.well and how == "ok":
                 self.end_section(crates[name], "logic=proved")
@@ -315,18 +317,19 @@ class ByRt(Build):
 
 
 def sections(lines: Iterable[str]) -> Iterator[tuple[str, str]]:
-    """Yields what `rt all` says of each crate, with its name, as soon as that is whole or says that
-    the crate is proved; then what follows; and what comes before the first, with none."""
-    name, said = "", ""
+    """Yields the name of each crate with the lines that `rt all` prints about it, as soon as they
+    are complete, or contain that the crate is proved. The lines before the first crate have no
+    name, and those after the last verdict come last."""
+    name, printed = "", ""
     for line in lines:
         if line.startswith("== "):
-            yield name, said
-            name, said = line[3:].strip(), ""
+            yield name, printed
+            name, printed = line[3:].strip(), ""
         else:
-            said += line
+            printed += line
             if line.startswith("logic=proved"):
-                yield name, said
-    yield name, said
+                yield name, printed
+    yield name, printed
 
 
 def held(folder: str, by: str) -> int:

@@ -36,13 +36,13 @@ BAD = re.compile(r"^rt: must-fail \S+: BAD EDIT", re.M)
 
 
 @dataclass(frozen=True)
-class Told:
-    """What rt ci said of the crates, and the seconds that it took for each."""
+class Report:
+    """What `rt ci` printed about the crates, and the seconds that each took."""
 
     text: str
     meter: Meter
 
-    def says(self, pattern: str) -> re.Match[str] | None:
+    def find(self, pattern: str) -> re.Match[str] | None:
         return re.search(pattern, self.text, re.M | re.S)
 
     def spent(self, crate: Crate, of: Of) -> str:
@@ -52,27 +52,27 @@ class Told:
         return f"{crate.name}: {self.proof(crate)}; {self.mutants(crate)}; {self.tests(crate)}"
 
     def proof(self, crate: Crate) -> str:
-        if self.says(rf"^rt: {crate.name} is kept: "):
+        if self.find(rf"^rt: {crate.name} is kept: "):
             return "kept"
-        if not self.says(rf"^rt: {crate.name} proved$"):
+        if not self.find(rf"^rt: {crate.name} proved$"):
             return "NOT PROVED"
-        found = self.says(rf"^== {crate.name}\n.*?^logic=proved(?: functions=(\d+))?")
+        found = self.find(rf"^== {crate.name}\n.*?^logic=proved(?: functions=(\d+))?")
         number = found and found[1] or 0
         return f"proved, {number} functions{self.spent(crate, Of.PROOF)}"
 
     def mutants(self, crate: Crate) -> str:
-        """What is said of the mutants of must-fail/, and of those that .ci/mutants put there."""
+        """Counts the mutants of must-fail/, and those that .ci/mutants put there."""
         tried = re.findall(rf"^rt: must-fail {crate.name}/(mutant-)?\S+: (.*)", self.text, re.M)
         changed = sum(bool(was_put) for was_put, _ in tried)
         total = len(crate.edits()) + changed
         if not total:
             return "no mutants"
-        refused = [said for _, said in tried if said.startswith("refused,")]
-        alone = sum("(only because a proof file " in said for said in refused)
+        refused = [how for _, how in tried if how.startswith("refused,")]
+        alone = sum("(only because a proof file " in how for how in refused)
         text = f"{len(refused)} of {total} mutants refused"
         text += f", {alone} by a written answer alone" if alone else ""
         text += f", {changed} of them changed" if changed else ""
-        found = self.says(rf"^rt: {crate.name}: (\d+) of its \d+ must-fail edits were tried by an"
+        found = self.find(rf"^rt: {crate.name}: (\d+) of its \d+ must-fail edits were tried by an"
                           " earlier run ")
         kept = int(found[1]) if found else 0
         if kept == total:
@@ -81,14 +81,14 @@ class Told:
         return f"{text}{self.spent(crate, Of.MUTANTS)}"
 
     def tests(self, crate: Crate) -> str:
-        """What is said of a crate's tests: rt has no line for a proof of theirs that is kept, and
-        runs none without a proof."""
+        """How a crate's tests ended. `rt` prints no line for a kept proof of tests, and runs no
+        tests without a proof."""
         if not crate.has_tests():
             return "no tests"
-        ran = self.says(rf"^rt: {crate.name}: its tests (passed|FAILED)$")
+        ran = self.find(rf"^rt: {crate.name}: its tests (passed|FAILED)$")
         passed = ran and ran[1] == "passed"
-        if self.says(rf"^rt: {crate.name}: its tests are proved$"):
-            found = self.says(rf"^== {crate.name}: its tests\n.*?^logic=proved tests=(\d+)")
+        if self.find(rf"^rt: {crate.name}: its tests are proved$"):
+            found = self.find(rf"^== {crate.name}: its tests\n.*?^logic=proved tests=(\d+)")
             how = "passed" if passed else "proved, NOT PASSED"
             return f"{found[1] if found else '?'} tests {how}{self.spent(crate, Of.TESTS)}"
         if ran:
@@ -102,9 +102,9 @@ def prove() -> Passed:
     meter.start()
     ran = passed_on([".ci/mutants", "--beside", "rt", "ci"])
     meter.stop()
-    told = Told(ran.text, meter)
+    report = Report(ran.text, meter)
     for crate in crates_of(TOP):
-        print(told.line(crate))
+        print(report.line(crate))
     used = sum(resource.getrusage(resource.RUSAGE_CHILDREN)[:2])
     clock = time.monotonic() - began
     print(f"{used / 60:.0f} processor minutes, {clock / 60:.0f} by the clock", flush=True)

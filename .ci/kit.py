@@ -56,7 +56,7 @@ class Kit:
         return f"the kit's `rattle {command}` has no {lost[0]}" if lost else ""
 
 
-def said_by(*words: str) -> str:
+def output_of(*words: str) -> str:
     """Returns what a command prints; nothing where it can't be run."""
     try:
         ran = subprocess.run(words, text=True, errors="replace", capture_output=True, check=False,
@@ -68,7 +68,7 @@ def said_by(*words: str) -> str:
 
 @functools.cache
 def help_of(rattle: str, command: str) -> str:
-    return said_by(rattle, command, "--help")
+    return output_of(rattle, command, "--help")
 
 
 def find() -> Kit:
@@ -77,14 +77,14 @@ def find() -> Kit:
     if rt is None:
         raise NoKit("there is no `rt` on the path: link bin/rt of Rattle's kit into a folder of the"
                     " path (docs/build.md)")
-    guide = said_by(rt, "doc")
+    guide = output_of(rt, "doc")
     if not os.path.isfile(guide):
         raise NoKit(f"{rt} isn't the `rt` of Rattle's kit: `rt doc` names no page")
-    return Kit(rt, os.path.dirname(guide), said_by(rt, "version"))
+    return Kit(rt, os.path.dirname(guide), output_of(rt, "version"))
 
 
-def tell(why: str, so: str) -> None:
-    """Says that the kit lacks something, and what is done in its place."""
+def warn(why: str, so: str) -> None:
+    """Prints what the kit lacks, and what is done in its place."""
     print(f"{os.path.basename(sys.argv[0])}: {why}: {so}", file=sys.stderr, flush=True)
 
 
@@ -159,8 +159,8 @@ def checked(kit: Kit, crate: Crate, kept: str) -> Ran:
     one job."""
     words = [kit.rattle, "check", *words_for(kit, crate, 1), "--incremental", kept]
     with guard.start(words, crate.folder, subprocess.PIPE) as ran:
-        said, _ = ran.communicate()
-        return Ran(words, ran.returncode, said)
+        printed, _ = ran.communicate()
+        return Ran(words, ran.returncode, printed)
 
 
 # A look at a crate without its proofs
@@ -175,8 +175,8 @@ def looked_at(kit: Kit, crate: Crate, texts: Mapping[str, str]) -> Ran:
         else:
             words = [kit.rt, "check", "--only="]  # (which begins with the same look)
         with guard.start(words, folder, subprocess.PIPE) as ran:
-            said, _ = ran.communicate()
-        return Ran(words, ran.returncode, said)
+            printed, _ = ran.communicate()
+        return Ran(words, ran.returncode, printed)
 
 
 def words_over_sources(kit: Kit, crate: Crate) -> list[str]:
