@@ -6,8 +6,8 @@
 - Nights of 2,000 tasks in a large store, each renewed, beside a group that is never waited for: it
   and its scope are shown at the end as at the beginning.
 - A cut of the power at each call of NEW, in seven ways: what was written since the last sync is not
-  there, is, or is torn, each write by its front, its end, some of its bytes, any bytes, or those of
-  open gates. NEW is the whole store, or none; OLD keeps its bytes.
+  there, is, or is torn: a write leaves its beginning, its end, some of its bytes, any bytes, or the
+  bytes of open gates. NEW is the whole store, or none; OLD keeps its bytes.
 """
 
 import contextlib
@@ -63,11 +63,11 @@ class Both:
                 run.stdin.flush()
             found.append(run.stdout.readline())
         numbers = [re.findall(r"(?:^|(?<= ))(task|start|group|scope) (\d+)", it) for it in found]
-        told = [re.sub(r"(?:^|(?<= ))(task|start|group|scope) \d+", r"\1", it) for it in found]
+        answers = [re.sub(r"(?:^|(?<= ))(task|start|group|scope) \d+", r"\1", it) for it in found]
         kinds = {"task": "tasks", "start": "tasks", "group": "groups", "scope": "scopes"}
         places = [self.place(kinds[one[0]], (int(one[1]), int(other[1])))
                   for one, other in zip(*numbers)]
-        return told, places
+        return answers, places
 
     def shown(self, tries):
         """What both show of the rows that are in both, by places."""
@@ -170,17 +170,17 @@ def try_cuts(tries, store, calls):
         tries.skip("cuts of the power", "no cc")
         return
     before, wanted = bytes(store.bytes), store.renewed()[0]
-    old, new, told = (tries.file(it) for it in ("old.store", "new.store", "told"))
+    old, new, log = (tries.file(it) for it in ("old.store", "new.store", "log"))
     tries.file("old.store", before)
     left = {True: 0, False: 0}
 
     def renew(**hurts):
         remove(new)
-        tries.file("told", b"")
-        return tries.run("renew", old, new, hurt=environment(file=new, log=told, **hurts))
+        tries.file("log", b"")
+        return tries.run("renew", old, new, hurt=environment(file=new, log=log, **hurts))
 
     tries.is_same("cuts: whole", "renew", renew(), Ended(0, store.renewed()[1], ""))
-    count = calls_in(told)
+    count = calls_in(log)
     for k in range(max(1, count - calls), count + 1):
         for way in range(7):
             ended = renew(cut=k, keep="some", way=way, seed=100 * k + way)

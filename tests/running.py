@@ -72,7 +72,7 @@ class Ended:
         return vars(self) == vars(other)
 
     def __repr__(self):
-        return f"status {self.status}, printed {self.output!r}, told {self.errors!r}"
+        return f"status {self.status}, printed {self.output!r}, errors {self.errors!r}"
 
 
 def failed(name, why, output=""):
@@ -162,12 +162,12 @@ class Tries:
     def is_file(self, kind, what, path, wanted):
         """Compares a file's bytes with these, or with None where it isn't to be there."""
         found = bytes_of(path) if os.path.exists(path) else None
-        told = "it is there, or it isn't"
+        difference = "it is there, or it isn't"
         if found != wanted and None not in (found, wanted):
             pairs = enumerate(zip(found, wanted))
             place = next((it for it, (one, other) in pairs if one != other), len(found))
-            told = f"it has {len(found)} bytes, and the first other one is at {place}"
-        self.holds(kind, what, found == wanted, told)
+            difference = f"it has {len(found)} bytes, and the first other one is at {place}"
+        self.holds(kind, what, found == wanted, difference)
 
     def skip(self, kind, why):
         self.skipped.append(f"{kind} ({why})")
@@ -195,7 +195,7 @@ def fast_room():
 
 
 def calls_in(log):
-    """How many calls the library counted that told them to this file."""
+    """How many calls the library wrote to this log."""
     words = [it.split()[0] for it in bytes_of(log).decode().splitlines()]
     return sum(it in ("read", "write", "sync", "close") for it in words)
 
