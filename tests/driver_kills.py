@@ -100,7 +100,7 @@ sys.stdout.buffer.write(it.stdout.read())
 KILLED_FORMAT = """#!/bin/sh
 if [ "$1" = format ]; then
     echo format >> formats
-    if [ "$(wc -l < formats)" -lt 3 ]; then echo part > "$3"; kill -9 $$; fi
+    if [ "$(wc -l < formats)" -lt 3 ]; then echo part > "$2"; kill -9 $$; fi
 fi
 exec {night} "$@"
 """

@@ -10,6 +10,7 @@ more than the store, and groups that take no more tasks; the next run makes othe
 from __future__ import annotations
 
 import contextlib
+import os
 import time
 from collections.abc import Callable, Iterator, Mapping
 
@@ -17,7 +18,7 @@ from . import Fault, Name
 from .ends import End
 from .facts import Book, book_of, ended_in, facts_of
 from .beside import Part
-from .files import Files
+from .files import SIZES, Files
 from .jobs import Jobs
 from .log import Log, line_of
 from .night import MOST_KILLED, RENEWAL_SECONDS, NightEnded, Session, ran
@@ -116,16 +117,21 @@ def rounds_had(book: Book) -> list[str]:
 def make(files: Files) -> None:
     """Makes the store under another name first, so that one that has its name is whole."""
     format_new(files)
+    made = files.stat(Part.MAKING)
+    if made is None or made.st_size not in SIZES:
+        raise Fault(f"`night format` has made no store of {files.shown_of(Part.MAKING)}")
     files.folder.move(files.name(Part.MAKING), files.name(Part.STORE))
     files.folder.sync()
 
 
 def format_new(files: Files) -> None:
-    """Makes a store of a new file; once more where a signal ended that."""
+    """Makes a store of a new file; once more where a signal ended that. `night` would make the file
+    for those whom a default access control list of the folder names, whatever the umask."""
     for left in reversed(range(MOST_KILLED)):
         files.remove(Part.MAKING)
+        os.close(files.open(Part.MAKING, os.O_WRONLY | os.O_CREAT | os.O_EXCL))
         try:
-            ran("format", "--new", f"{files.path}{Part.MAKING.value}")
+            ran("format", f"{files.path}{Part.MAKING.value}")
             return
         except NightEnded as ended:
             if ended.status >= 0 or not left:
