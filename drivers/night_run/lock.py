@@ -17,7 +17,7 @@ import time
 from typing import TYPE_CHECKING
 
 from . import Fault
-from .beside import Part
+from .beside import Part, mode_of
 from .processes import PID, START, Process, lives, this_process
 from .telling import note
 
@@ -139,6 +139,7 @@ def try_lock(file: int) -> bool:
 def locked(files: Files, part: Part, flags: int = 0) -> int | None:
     """A descriptor of a part, with its lock, which nobody else can take from now on; None where
     the lock isn't free at this moment."""
+    is_new = False
     while True:
         file = files.open(part, os.O_RDWR | os.O_CREAT | flags, as_found=True)
         if not try_lock(file):
@@ -148,7 +149,13 @@ def locked(files: Files, part: Part, flags: int = 0) -> int | None:
         if named and named.st_ino == found.st_ino and named.st_dev == found.st_dev:
             if not found.st_mode & OTHERS:
                 return file
+            if is_new:
+                os.close(file)
+                raise Fault(f"{files.shown_of(part)}: it was made for its user alone, and has the"
+                            f" mode {mode_of(found)}: its file system keeps no modes; take another"
+                            " one for the store")
             files.put(part, files.read(part))
+            is_new = True
         os.close(file)
 
 
