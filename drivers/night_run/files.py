@@ -60,7 +60,8 @@ def leave_mark(store: str) -> None:
             contextlib.closing(Folder.at(os.path.dirname(store), "")) as folder:
         os.close(folder.open(name, os.O_WRONLY | os.O_CREAT | os.O_EXCL))
         sync = subprocess.Popen(["sync", folder.path], stdin=subprocess.DEVNULL,
-                                stderr=subprocess.DEVNULL, start_new_session=True)
+                                stdout=subprocess.DEVNULL, stderr=subprocess.DEVNULL,
+                                start_new_session=True)
         with contextlib.suppress(subprocess.TimeoutExpired):
             sync.wait(OF_FOLDER)
 

@@ -7,7 +7,8 @@ import time
 from collections.abc import Iterable, Mapping
 from dataclasses import dataclass, field, replace
 
-from . import Name, rows
+from . import Fault, Name, rows
+from .beside import Part
 from .ends import INTERRUPTED
 from .facts import Book, Facts, book_of, facts_of, logged_groups, numbered
 from .files import Files
@@ -26,6 +27,8 @@ from .tries import Named, running_now
 
 # How many of the last lines of an output are shown, out of how many of its last bytes.
 LINES, BYTES = 3, 4096
+# So often what two files say is read again, as one of them has changed meanwhile.
+MOMENTS = 20
 EMPTY = State(0, 0, {}, (), (), ())
 
 
@@ -61,11 +64,12 @@ def look(files: Files, planner: Planner, past: Past | None = None) -> View:
 
 def moment(files: Files) -> tuple[Past, State]:
     """What the store and the ends of a renewed one say at one moment."""
-    while True:
+    for _ in range(MOMENTS):
         past = read_past(files)
         state = inspected(files) if files.exists() else EMPTY
         if read_past(files) == past:
             return past, state
+    raise Fault(f"{files.shown_of(Part.ENDED)} changes again and again")
 
 
 def busy_in(files: Files, state: State, book: Book, running: Iterable[Named]) -> set[Name]:
