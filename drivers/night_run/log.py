@@ -20,7 +20,7 @@ import time
 from collections.abc import Collection, Iterator
 from dataclasses import dataclass
 
-from .beside import Part
+from .beside import NotOurs, Part
 from .ends import End, read_end
 from .files import Files
 from .rounds import round_of
@@ -32,6 +32,8 @@ LINE = re.compile(r"([0-9]{1,6})\t([a-z0-9_-]{1,32})\t([a-z0-9_-]{1,32})\t([^\t]
 
 # The log is read from its end in blocks of this many bytes. A longer line is none of its own.
 BLOCK, MOST_LINE = 1 << 16, 1 << 20
+# No more of its end than this is read: a file with holes may have any size.
+MOST_READ = 1 << 29
 # After this many lines in a row of earlier nights all that stands before is of these, too.
 MOST_OLDER = 10_000
 # How many bytes wait at most while the log can't be written.
@@ -116,14 +118,16 @@ def round_in(group: bytes) -> int:
 
 
 def backwards(file: int) -> Iterator[bytes]:
-    """The lines of a file, the last one first. A line that is too long is skipped."""
+    """The lines of a file, the last one first. A line that is too long is skipped, and so is what
+    stands before the last ones of a file that is."""
     at, tail, is_cut = os.fstat(file).st_size, b"", False
-    while at:
+    first_read = max(0, at - MOST_READ)
+    while at > first_read:
         size = min(BLOCK, at)
         at -= size
         first, *lines = os.pread(file, size, at).split(b"\n")
         if not lines:
-            tail = first + tail
+            tail = b"" if is_cut else first + tail
             if len(tail) > MOST_LINE:
                 tail, is_cut = b"", True
             continue
@@ -132,7 +136,7 @@ def backwards(file: int) -> Iterator[bytes]:
             yield last + tail
         yield from reversed(lines)
         tail, is_cut = first, False
-    if not is_cut:
+    if not (at or is_cut):
         yield tail
 
 
@@ -157,6 +161,8 @@ class Log:
             size = os.fstat(self.file).st_size
             is_cut = size and os.pread(self.file, 1, size - 1) != b"\n"
             self.write("\n" if is_cut else "" if size else HEAD)
+        except NotOurs:
+            raise
         except OSError as error:
             self.failed(error)
 
