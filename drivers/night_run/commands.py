@@ -23,7 +23,7 @@ from .files import Files
 from .jobs import Job
 from .mounts import Folders, NoAnswer
 from .processes import (boot, group_exists, groups_in, session_exists, session_lives, signal_groups,
-                        signal_session)
+                        signal_session, stat_of)
 from .telling import error_text, note_once
 from .tries import Contents, Named, Tries, naming
 
@@ -148,7 +148,7 @@ class Command(Running):
                     tries.forget(it)
         except NotOurs as error:
             note_once(error_text(error))
-            self.failure = "its output isn't to be trusted"
+            self.failure = "a file of it isn't to be trusted"
         except OSError as error:
             if error.errno in LATER:
                 raise NotNow(error_text(error)) from None
@@ -158,8 +158,8 @@ class Command(Running):
             self.failure = str(error)
 
     def noted(self, tries: Tries, it: Named, events: int, far: Far) -> int:
-        """Notes that a try is about to begin; the file of it. NotNow where that can't be, whatever
-        the reason: nothing begins without it."""
+        """Notes that a try is about to begin; the file of it. NotNow where that can't be: nothing
+        begins without it. (What isn't to be trusted isn't waited for.)"""
         try:
             file = tries.make(it, events, self.job.command)
             try:
@@ -171,6 +171,8 @@ class Command(Running):
                 os.close(file)
                 tries.forget(it)
                 raise
+        except NotOurs:
+            raise
         except OSError as error:
             raise NotNow(error_text(error)) from None
 
@@ -276,8 +278,9 @@ class Command(Running):
             self.took, self.status = time.monotonic() - self.since, -signal.SIGKILL
 
     def is_left_alone(self, grace: float) -> bool:
-        """Whether nothing of its group is left; what doesn't go is killed."""
-        if self.is_clear or not session_exists(self.pid):
+        """Whether nothing of its group is left; what doesn't go is killed. Its shell was waited
+        for, so a process of that number is another one, and nothing of the group is left."""
+        if self.is_clear or not session_exists(self.pid) or stat_of(self.pid):
             return True
         now = time.monotonic()
         if self.left_since is None:
