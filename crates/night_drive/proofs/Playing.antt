@@ -1,6 +1,6 @@
 -- The night that a store shows after an event is the one after turns.
 use Rattle.std.proofs.Common.{◌≡◌, ◌<◌, ◌∙◌, ◌==◌, ◌||◌, ℕ, zero, suc, ◌+◌, Bool, true}
-use Rattle.std.proofs.Common.{false, cond, List, [], ◌∷◌, ◌++◌, map, length, Option, Some, None}
+use Rattle.std.proofs.Common.{false, cond, List, [], ◌∷◌, ◌++◌, map, length, Option, Some, None, codes}
 use Rattle.std.proofs.Common.{slice_get, set, fold, inl, inr, refl, sym, ap, arith}
 use Rattle.std.proofs.Math.Bool.{or-false, or-true}
 use Rattle.std.proofs.lemmas.Bool.{cases_eq, cases_lt, eq-eqb, ne_eqb}
@@ -12,14 +12,15 @@ use Rattle.std.specs.Option.{option_map, option_map_or}
 use Rattle.std.specs.Prelude.{unwrap_or}
 use Rattle.run_model.specs.declared.tasks.Outcome.{Outcome}
 use Rattle.run_model.specs.declared.tasks.Outcome.TheVariants as outcome
+use Rattle.run_model.specs.declared.tasks.Stage.TheVariants as stage
 use Rattle.run_model.specs.Event as event
 use Rattle.run_model.specs.State.{State, TreeState, WorkState}
-use Rattle.run_model.specs.Step.{after_task_end, step}
+use Rattle.run_model.specs.Step.{after_task_end, own_scope, step}
 use Rattle.run_model.specs.Tasks.{running_tasks}
 use Rattle.run_model.specs.TreeChanges.{after_cancel}
 use Rattle.run_model.specs.WorkChanges.{group_of_task, interruption}
 use Rattle.model_laws.proofs.Folds.{same_rows}
-use Rattle.model_laws.proofs.Interrupts.{restarted}
+use Rattle.model_laws.proofs.Interrupts.{group_of_task_stays, restarted}
 use Rattle.night_plan.proofs.Lasting.{turned_at}
 use Rattle.night_plan.proofs.Rows.{get_set_other, get_set_same, row_at}
 use Rattle.night_plan.specs.declared.commands.Command.{Command}
@@ -36,7 +37,8 @@ use Rattle.night_drive.specs.Openings.{interrupted}
 use Rattle.night_drive.specs.PlanTurns.{AdvancesAreTurns, AreBare, CancelsAreTurns}
 use Rattle.night_drive.specs.PlanTurns.{OpeningsReopen}
 use Rattle.night_drive.specs.PlanTurns.{FinishesAreTurns, OthersAreNoTurns}
-use Rattle.night_drive.specs.PlanTurns.{BeginsJoin, SeenIsShown, StartsAreTurns, known_in, night_in}
+use Rattle.night_drive.specs.PlanTurns.{BeginsJoin, SeenIsShown, StartsAreTurns}
+use Rattle.night_drive.specs.PlanTurns.{WithdrawalsAreNoTurns, known_in, night_in}
 use Rattle.night_drive.specs.Seen.{AreNames, IsCalled, is_over, known_of, moment_of}
 use Rattle.night_drive.specs.Tries.{is_cancel}
 use Rattle.night_drive.specs.Turns.{end_of}
@@ -46,6 +48,7 @@ use Rattle.night_drive.proofs.Hitting.{others_leave_groups}
 use Rattle.night_drive.proofs.Leaving.{others_leave}
 use Rattle.night_drive.proofs.Opening.{known_reopened}
 use Rattle.night_drive.proofs.Starting.{start_begins}
+use Rattle.night_drive.proofs.Withdrawing.{withdrawal_leaves}
 
 -- ---- each command and each group has a name
 
@@ -380,6 +383,23 @@ finishes_are_turns p old new plan names n c o are runs counted bare others of =
     (done_same p q names
     (λ group. others_leave_groups p (event.Finish n o) names.night group (bare_finishes p n o bare))
     ∙ end_leaves c (moment_of new n) o done)
+
+pub withdrawals_are_no_turns : WithdrawalsAreNoTurns
+withdrawals_are_no_turns p ends plan names n are fresh bare =
+    let began : State = step p (event.Start n) in
+    let o : Outcome = outcome.Failure (codes "withdrawn") in
+    let q : State = step began (event.Finish n o) in
+    let still : own_scope began.work (group_of_task began.work n) ≡ None =
+    ap (own_scope p.work) (group_of_task_stays stage.Running n n p.work.groups p.work refl)
+    ∙ bare in
+    facts_are plan (night_in p ends plan names).known (night_in q ends plan names).known
+    (map (is_over p names.night) names.groups.items)
+    (map (is_over q names.night) names.groups.items)
+    (known_same p q ends plan names are
+    (λ group key. withdrawal_leaves p (moment_of ends) names.night group key n fresh))
+    (done_same p q names
+    (λ group. others_leave_groups began (event.Finish n o) names.night group
+    (bare_finishes began n o still)))
 
 pub cancels_are_turns : CancelsAreTurns
 cancels_are_turns p ends plan names s cause stopped are numbered those =

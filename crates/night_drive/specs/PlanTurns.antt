@@ -1,8 +1,9 @@
 -- The effect of an event on the night that a store shows. It is the effect of turns of
 -- `night_plan`.
 use Rattle.std.specs.Prelude.{◌≡◌, ◌≢◌, ◌==◌, ℕ, Bool, true, false, List, [], ◌∷◌, ◌++◌, Option}
-use Rattle.std.specs.Prelude.{Some, None, map, slice_get, unwrap_or}
+use Rattle.std.specs.Prelude.{Some, None, codes, map, slice_get, unwrap_or}
 use Rattle.run_model.specs.declared.tasks.Outcome.{Outcome}
+use Rattle.run_model.specs.declared.tasks.Outcome.TheVariants as outcome
 use Rattle.run_model.specs.Event.{Event}
 use Rattle.run_model.specs.Event as event
 use Rattle.run_model.specs.Rules.{AreNumbered}
@@ -92,6 +93,16 @@ FinishesAreTurns =
     → IsOfCommand p names plan.commands.items n c
     → night_in (step p (event.Finish n outcome)) new plan names
     ≡ after_turn (night_in p old plan names) (end_of c (moment_of new n) outcome)
+
+-- A task that is started and then withdrawn is no turn, if the task's group is bare.
+abbrev pub WithdrawalsAreNoTurns : Type 0
+WithdrawalsAreNoTurns =
+    (p : State) (ends : Ends) (plan : Plan) (names : Names) (n : ℕ)
+    → AreNames plan names → has_stage is_fresh p.work n ≡ true
+    → own_scope p.work (group_of_task p.work n) ≡ None
+    → night_in (step (step p (event.Start n))
+    (event.Finish n (outcome.Failure (codes "withdrawn")))) ends plan names
+    ≡ night_in p ends plan names
 
 -- These groups of the plan, and no others, pass the test with their last scopes.
 abbrev pub AreThose : State → Names → (ℕ → Bool) → List ℕ → Type 0

@@ -9,6 +9,8 @@ ghost use Rattle.run_model.specs.declared.tasks.Outcome.TheVariants as outcome;
 ghost use Rattle.run_model.specs.Event as event;
 ghost use Rattle.run_model.specs.Scopes.{chain};
 ghost use Rattle.run_model.specs.Step.{own_scope, step};
+ghost use Rattle.run_model.specs.Tasks.{has_stage, is_fresh};
+ghost use Rattle.run_model.specs.WorkChanges.{group_of_task};
 ghost use Rattle.model_laws.specs.Hits.{is_on};
 ghost use Rattle.night_plan.specs.declared.facts.Phase.TheVariants as phase;
 ghost use Rattle.night_drive.specs.Examples.{after_all, first, known_after, known_in, moments, row};
@@ -85,8 +87,11 @@ pub fn a_finish_is_an_end()
         ≡ row (phase.Failed 1004) 2 }
 {}
 
-/// If a task is withdrawn, its command is in the phase in which an earlier try left it.
+/// If a task is withdrawn, its command is in the phase in which an earlier try left it. Of tasks 7
+/// and 8 only the second one can be withdrawn, as the first was started. Its group is bare.
 pub fn a_withdrawal_is_no_turn()
+    ensures fresh { map (has_stage is_fresh two_nights.work) (7 ∷ 8 ∷ []) ≡ false ∷ true ∷ [] }
+    ensures bare { own_scope two_nights.work (group_of_task two_nights.work 8) ≡ None }
     ensures may { allowed two_nights (event.Retry 3) ≡ true }
     ensures interrupted { known_of (after_all (event.Retry 3 ∷ event.Start 8 ∷ withdrawal 8
         ∷ event.Start 9 ∷ withdrawal 9 ∷ [])) moments second (codes "disks") (codes "b")

@@ -4,6 +4,7 @@
 ghost use Rattle.night_drive.specs.PlanTurns.{AdvancesAreTurns, BeginsJoin, CancelsAreTurns};
 ghost use Rattle.night_drive.specs.PlanTurns.{FinishesAreTurns, OpeningsReopen, OthersAreNoTurns};
 ghost use Rattle.night_drive.specs.PlanTurns.{SeenIsShown, StartsAreTurns, TasksAreOfOneCommand};
+ghost use Rattle.night_drive.specs.PlanTurns.{WithdrawalsAreNoTurns};
 
 /// The facts that are read from a store make up the night that it shows.
 pub fn the_facts_make_up_the_night()
@@ -26,6 +27,12 @@ pub fn begins_are_joined()
 /// belongs to this command and to no other, was running, and is its last try. Its group is bare.
 pub fn a_finish_is_a_turn()
     ensures { FinishesAreTurns }
+{}
+
+/// A task that is started and then withdrawn is no turn. It wasn't started before, and its group is
+/// bare.
+pub fn a_withdrawal_is_no_turn()
+    ensures { WithdrawalsAreNoTurns }
 {}
 
 /// A cancel is a turn for each group that it stops, and a clock that moves is one for each group
