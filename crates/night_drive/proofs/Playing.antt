@@ -8,6 +8,7 @@ use Rattle.std.proofs.lemmas.List.{length-map, length-set}
 use Rattle.std.proofs.lemmas.List.Folds.{list_any-append}
 use Rattle.std.proofs.lemmas.Option.{none-some, same_Some, slice_get-map, slice_get_past}
 use Rattle.std.proofs.lemmas.Option.{slice_get_within}
+use Rattle.std.specs.List.{filter_map}
 use Rattle.std.specs.Option.{option_map, option_map_or}
 use Rattle.std.specs.Prelude.{unwrap_or}
 use Rattle.run_model.specs.declared.tasks.Outcome.{Outcome}
@@ -29,7 +30,7 @@ use Rattle.night_plan.specs.declared.facts.Known.{Known}
 use Rattle.night_plan.specs.declared.facts.Phase.TheVariants.{Busy}
 use Rattle.night_plan.specs.Nights.{Night}
 use Rattle.night_plan.specs.Sessions.{after_all}
-use Rattle.night_plan.specs.Turns.{Turn, Begin, Cut, Fail, Stop, all_turned}
+use Rattle.night_plan.specs.Turns.{Turn, after as after_turn, Begin, Cut, Fail, Stop, all_turned}
 use Rattle.night_plan.specs.Turns.{done_after, is_among, turned}
 use Rattle.night_drive.specs.declared.ends.Ends.{Ends}
 use Rattle.night_drive.specs.declared.names.Names.{Names}
@@ -37,7 +38,7 @@ use Rattle.night_drive.specs.Openings.{interrupted}
 use Rattle.night_drive.specs.PlanTurns.{AdvancesAreTurns, AreBare, CancelsAreTurns}
 use Rattle.night_drive.specs.PlanTurns.{OpeningsReopen}
 use Rattle.night_drive.specs.PlanTurns.{FinishesAreTurns, OthersAreNoTurns}
-use Rattle.night_drive.specs.PlanTurns.{BeginsJoin, SeenIsShown, StartsAreTurns}
+use Rattle.night_drive.specs.PlanTurns.{BeginsJoin, RowsAreOneTurn, SeenIsShown, StartsAreTurns}
 use Rattle.night_drive.specs.PlanTurns.{WithdrawalsAreNoTurns, known_in, night_in}
 use Rattle.night_drive.specs.Seen.{AreNames, IsCalled, is_over, known_of, moment_of}
 use Rattle.night_drive.specs.Tries.{is_cancel}
@@ -473,6 +474,31 @@ all_begun_twice now sizes first second i (k ∷ known) =
 pub begins_join : BeginsJoin
 begins_join n now sizes first second =
     ap (λ known. record n { known = known }) (all_begun_twice now sizes first second 0 n.known)
+
+none_begun : (now : ℕ) (sizes : List ℕ) (i : ℕ) (known : List Known)
+    → known ≡ all_turned (Begin now sizes []) i known
+none_begun now sizes i [] = refl
+none_begun now sizes i (k ∷ known) =
+    ap (λ rest. k ∷ rest) (none_begun now sizes (i + 1) known)
+
+pub rows_are_one_turn : RowsAreOneTurn
+rows_are_one_turn p ends plan names [] now sizes are begins =
+    ap (λ known. record (night_in p ends plan names) { known = known })
+    (none_begun now sizes 0 (night_in p ends plan names).known)
+rows_are_one_turn p ends plan names ((e, Some c) ∷ row) now sizes are begins =
+    let one = begins.0 in
+    let chosen : List ℕ = filter_map (λ part. part.1) row in
+    rows_are_one_turn (step p e) ends plan names row now sizes are begins.1
+    ∙ ap (λ x. after_turn (night_in (step p x) ends plan names) (Begin now sizes chosen)) one.starts
+    ∙ ap (λ n. after_turn n (Begin now sizes chosen))
+    (starts_are_turns p ends plan names one.task c now sizes are one.fresh one.of)
+    ∙ begins_join (night_in p ends plan names) now sizes (c ∷ []) chosen
+rows_are_one_turn p ends plan names ((e, None) ∷ row) now sizes are begins =
+    let none = begins.0 in
+    rows_are_one_turn (step p e) ends plan names row now sizes are begins.1
+    ∙ ap (λ n. after_turn n (Begin now sizes (filter_map (λ part. part.1) row)))
+    (others_are_no_turns p e ends plan names are none.numbered none.same none.no_start
+    none.no_finish none.no_restart)
 
 -- ---- an opening
 

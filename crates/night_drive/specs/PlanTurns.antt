@@ -1,7 +1,8 @@
 -- The effect of an event on the night that a store shows. It is the effect of turns of
 -- `night_plan`.
 use Rattle.std.specs.Prelude.{◌≡◌, ◌≢◌, ◌==◌, ℕ, Bool, true, false, List, [], ◌∷◌, ◌++◌, Option}
-use Rattle.std.specs.Prelude.{Some, None, codes, map, slice_get, unwrap_or}
+use Rattle.std.specs.Prelude.{Some, None, codes, fold, map, slice_get, unwrap_or}
+use Rattle.std.specs.List.{filter_map}
 use Rattle.run_model.specs.declared.tasks.Outcome.{Outcome}
 use Rattle.run_model.specs.declared.tasks.Outcome.TheVariants as outcome
 use Rattle.run_model.specs.Event.{Event}
@@ -81,6 +82,40 @@ BeginsJoin =
     (n : Night) (now : ℕ) (sizes first second : List ℕ)
     → after_turn (after_turn n (Begin now sizes first)) (Begin now sizes second)
     ≡ after_turn n (Begin now sizes (first ++ second))
+
+-- This event begins command c: it is the start of a task of the command.
+pub record IsBegin (p : State) (names : Names) (commands : List Command) (e : Event) (c : ℕ)
+    : Type 0 where
+  pub task : ℕ
+  pub starts : e ≡ event.Start task
+  pub fresh : has_stage is_fresh p.work task ≡ true
+  pub of : IsOfCommand p names commands task c
+
+-- This event is no turn: it leaves the tree as it is, and isn't the start or the end of a task.
+pub record IsNoTurn (p : State) (e : Event) : Type 0 where
+  pub numbered : AreNumbered p
+  pub same : (step p e).tree ≡ p.tree
+  pub no_start : is_start e ≡ false
+  pub no_finish : is_finish e ≡ false
+  pub no_restart : is_restart e ≡ false
+
+-- Each event of the row begins the command that stands beside it. It is no turn if none does.
+abbrev pub AreBegins : State → Names → List Command → List (Event × Option ℕ) → Type 0
+AreBegins p names commands [] = Unit {0}
+AreBegins p names commands ((e, Some c) ∷ row) =
+    IsBegin p names commands e c × AreBegins (step p e) names commands row
+AreBegins p names commands ((e, None) ∷ row) =
+    IsNoTurn p e × AreBegins (step p e) names commands row
+
+-- A row of such events is the one turn in which all these commands begin.
+abbrev pub RowsAreOneTurn : Type 0
+RowsAreOneTurn =
+    (p : State) (ends : Ends) (plan : Plan) (names : Names) (row : List (Event × Option ℕ))
+    (now : ℕ) (sizes : List ℕ)
+    → AreNames plan names → AreBegins p names plan.commands.items row
+    → night_in (fold step p (map (λ part. part.0) row)) ends plan names
+    ≡ after_turn (night_in p ends plan names)
+    (Begin now sizes (filter_map (λ part. part.1) row))
 
 -- A finish is the turn in which the command of the task ends, if the task's group is bare. The
 -- moment of the end becomes known.

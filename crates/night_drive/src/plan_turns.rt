@@ -4,7 +4,7 @@
 ghost use Rattle.night_drive.specs.PlanTurns.{AdvancesAreTurns, BeginsJoin, CancelsAreTurns};
 ghost use Rattle.night_drive.specs.PlanTurns.{FinishesAreTurns, OpeningsReopen, OthersAreNoTurns};
 ghost use Rattle.night_drive.specs.PlanTurns.{SeenIsShown, StartsAreTurns, TasksAreOfOneCommand};
-ghost use Rattle.night_drive.specs.PlanTurns.{WithdrawalsAreNoTurns};
+ghost use Rattle.night_drive.specs.PlanTurns.{RowsAreOneTurn, WithdrawalsAreNoTurns};
 
 /// The facts that are read from a store make up the night that it shows.
 pub fn the_facts_make_up_the_night()
@@ -21,6 +21,13 @@ pub fn a_start_is_a_turn()
 /// effect of one turn in which all of them begin.
 pub fn begins_are_joined()
     ensures { BeginsJoin }
+{}
+
+/// A row of events that begins several commands is the one turn in which all of them begin. Each of
+/// its events is the start of a task of one of these commands, as in `a_start_is_a_turn`, or is no
+/// turn, as in `other_events_are_no_turns`.
+pub fn a_row_of_begins_is_one_turn()
+    ensures { RowsAreOneTurn }
 {}
 
 /// A finish is the turn in which the command of its task ends well, fails or is canceled. The task
