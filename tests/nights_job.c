@@ -146,6 +146,12 @@ static void tell_begin(int many, const char *folder) {
   tell("B", rest);
 }
 
+/* Has SIGTERM wait, or come. */
+static void term(int how) {
+  sigset_t one;
+  sigemptyset(&one), sigaddset(&one, SIGTERM), sigprocmask(how, &one, NULL);
+}
+
 int main(int count, char **words) {
   if (count < 8) return 92;
   char folder[400] = "", rest[30];
@@ -154,16 +160,18 @@ int main(int count, char **words) {
   if (has('c'))
     for (int at = 3; at < 256; at++) close(at);
   told = open("told", O_WRONLY | O_APPEND | O_CREAT | O_CLOEXEC, 0666);
+  /* (what comes before its begin was written is answered after that) */
+  term(SIG_BLOCK);
   signal(SIGTERM, on_term);
   look_beside();
   int many = tries();
   tell_begin(many, strrchr(folder, '/') + 1);
+  term(SIG_UNBLOCK);
   for (const char *at = flags; *at; at++)
     if (*at == 'b' || *at == 'h' || *at == 'd') leave(*at);
   if (atol(words[4])) sleep_for(atol(words[4]));
   int status = many <= atoi(words[6]) ? 3 : atoi(words[5]);
-  sigset_t term;
-  sigemptyset(&term), sigaddset(&term, SIGTERM), sigprocmask(SIG_BLOCK, &term, NULL);
+  term(SIG_BLOCK);
   printf("%s of %s ends with status %d\n", key, group, status);
   fflush(stdout);
   snprintf(rest, sizeof rest, " %d", status);
