@@ -19,7 +19,8 @@ use Rattle.night_plan.specs.declared.facts.Phase.{Phase}
 use Rattle.night_plan.specs.declared.facts.Phase.TheVariants as phase
 use Rattle.night_plan.specs.Plans.{HasNeed}
 use Rattle.night_plan.specs.Nights.{Night, at, is_busy, is_ok, is_failed, is_spent, is_ended}
-use Rattle.night_plan.specs.Nights.{is_canceled, is_cleanup, is_cut, is_done, runs, cleans_up, was_canceled}
+use Rattle.night_plan.specs.Nights.{is_canceled, is_cleanup, is_cut, is_done, runs, cleans_up}
+use Rattle.night_plan.specs.Nights.{was_canceled}
 use Rattle.night_plan.specs.Nights.{IsLost}
 use Rattle.night_plan.specs.Nights.{IsFinal}
 use Rattle.night_plan.specs.Choices.{takes_at, sum_below, in_use, taken}

@@ -78,5 +78,6 @@ invariant_of-result c =
     record {
       sound = subst (λ (k : ℕ). IsSound k groups pools commands order places)
           (let e : length commands ≡ c.len-4.result = omega arith in e)
-          (sound_known groups pools commands ranks order places (length order) known are each sized before);
+          (sound_known groups pools commands ranks order places (length order) known are each sized
+          before);
     }

@@ -5,7 +5,8 @@ use Rattle.std.proofs.lemmas.Bool.{cases_eq}
 use Rattle.std.proofs.lemmas.List.{get_or_read, length-replicate, length-set}
 use Rattle.std.specs.Prelude.{slice_index}
 use Rattle.night_plan.specs.Ranks.{FirstAfter, IsCircle, IsPath, IsSearching, NeedsRanked}
-use Rattle.night_plan.proofs.Ranking.{after_within, circled, empty_of, grouped_first, last_at, last_inside, marked_less}
+use Rattle.night_plan.proofs.Ranking.{after_within, circled, empty_of, grouped_first, last_at}
+use Rattle.night_plan.proofs.Ranking.{last_inside, marked_less}
 use Rattle.night_plan.proofs.Ranking.{marked_stays, met_first, path_first, path_pop, path_push}
 use Rattle.night_plan.proofs.Ranking.{ranked_push, ranks_first, searching_more, some_of}
 use Rattle.night_plan.proofs.Rows.{row_at}

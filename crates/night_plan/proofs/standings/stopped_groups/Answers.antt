@@ -33,8 +33,8 @@ loop-c-preserved c =
     let new : c.is_stopped.result ≡ (before || (stops group.way && is_spent n.done command fact)) =
     c.is_stopped.ensures ∙ ap (λ b. before || (stops group.way && b)) spent in
     subst (λ b. AreStopped n (i + 1) (slice_set stopped command.group b)) (sym new)
-    (stopped_more n i stopped command fact group before c.loop-c.invariant it.is it.known own group_at
-    at_b)
+    (stopped_more n i stopped command fact group before c.loop-c.invariant it.is it.known own
+    group_at at_b)
 
 pub returns : goal.returns
 returns c =

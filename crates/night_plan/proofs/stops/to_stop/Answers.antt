@@ -38,8 +38,8 @@ loop-c-preserved-then-not-is_to_stop c =
     ∙ ap (must_stop n.done command fact) cut in
     stops_same n i c.loop-c.all.items c.loop-c.invariant (λ must.
     both_ways c.is_to_stop.result c.if-not-is_to_stop.true
-    (says ∙ stop_all n i command fact group it.is it.known row stopped c.in_ok-stopped.ensures b at_b
-    must))
+    (says ∙ stop_all n i command fact group it.is it.known row stopped c.in_ok-stopped.ensures b
+    at_b must))
 
 pub loop-c-preserved : goal.loop-c-preserved
 loop-c-preserved c =
