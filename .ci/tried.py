@@ -15,8 +15,8 @@ from typing import NamedTuple
 from crates import bytes_of, crates_of, sum_of_text
 
 FILE = ".ci/mutants.tried"
-HEAD = ("# .ci/mutants alone writes this file: each mutant that the prover refused, after the sum of"
-        " the text\n# that it stood on; last the sum of these lines.\n")
+HEAD = ("# .ci/mutants alone writes this file: each mutant that the prover refused, after the sum"
+        " of the text\n# that it stood on; last the sum of these lines.\n")
 
 
 COMMENTS = {".rt": b"//", ".antt": b"--"}

@@ -21,8 +21,8 @@ from running import bytes_of
 
 IN_USE = re.compile(r"night-run: s: in use by another night-run.*\n")
 YEAR = 365 * 86_400
-# How far the clock is set amid a night, in seconds, and for each of the nights after it: the store's
-# own clock is ahead then.
+# How far the clock is set amid a night, in seconds, and for each of the nights after it: then the
+# store's own clock is ahead.
 CLOCKS, LATER = (0, -3600, 3600, -400 * 86_400, YEAR, 32 * YEAR), (0, 32 * YEAR, 0)
 
 

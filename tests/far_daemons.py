@@ -1,8 +1,8 @@
 """The engines of docs/far.md as this machine has them, each with daemons of its own in a folder of
 its own, which end with it:
 
-    ssh          sshd, behind a line that can be cut as a power failure cuts it: the far side doesn't
-                 learn that the near one has gone
+    ssh          sshd, behind a line that can be cut as a power failure cuts it: the far side
+                 doesn't learn that the near one has gone
     sbatch       munged, slurmctld and a slurmd for each of the nodes n1 and n2
     systemd-run  a user's manager
 
