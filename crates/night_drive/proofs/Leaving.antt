@@ -142,7 +142,7 @@ known_left p q numbered left ended night group key =
 
 -- ---- a row more
 
-line_pushed : (rows : List Scope) (new : Scope) → AreOrdered rows → (most s : ℕ) → s < length rows
+pub line_pushed : (rows : List Scope) (new : Scope) → AreOrdered rows → (most s : ℕ) → s < length rows
     → line_within most (rows ++ new ∷ []) s ≡ line_within most rows s
 line_pushed rows new ordered zero s less = refl
 line_pushed rows new ordered (suc most) s less =
@@ -165,7 +165,7 @@ line_pushed rows new ordered (suc most) s less =
             let lower : row.parent < s = ordered s row found is in
             same row.parent (omega (arith, lower, less))
 
-night_pushed : (p q : State) (new : Scope) → AreOrdered p.tree.scopes
+pub night_pushed : (p q : State) (new : Scope) → AreOrdered p.tree.scopes
     → q.tree.scopes ≡ p.tree.scopes ++ new ∷ [] → (s : ℕ) → s < length p.tree.scopes
     → night_of q s ≡ night_of p s
 night_pushed p q new ordered pushed s less =

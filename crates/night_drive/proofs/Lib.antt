@@ -10,3 +10,4 @@ pub mod Leaving
 pub mod Hitting
 pub mod Playing
 pub mod Parting
+pub mod Deriving

@@ -111,6 +111,13 @@ known_after e group key = known_of (step two_nights e) moments second group key
 abbrev pub after_all : List Event → State
 after_all events = fold step two_nights events
 
+-- There is a group with a scope of its own, and a new scope of the disks stands below that. A task
+-- of this group, task 9, is running.
+abbrev pub own_group : State
+own_group =
+    after_all (event.Group (codes "all") 4 ∷ event.Derive (codes "disks--2-3") 8 kind.Cause
+    ∷ event.Go 4 (codes "sh") (codes "x") ∷ event.Start 8 ∷ event.Start 9 ∷ [])
+
 -- Task n is withdrawn.
 abbrev pub withdrawal : ℕ → Event
 withdrawal n = event.Finish n (outcome.Failure (codes "withdrawn"))

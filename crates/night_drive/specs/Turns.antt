@@ -1,21 +1,24 @@
 -- The effect of an event on the facts about a plan. It is the effect of a turn of `night_plan`.
 use Rattle.std.specs.Prelude.{◌≡◌, ◌≢◌, ◌<◌, ◌==◌, ℕ, ◌&&◌, ◌||◌, nat_le, Bool, true, false}
-use Rattle.std.specs.Prelude.{if◌then◌else◌, List, codes, length, Option, None, slice_get}
+use Rattle.std.specs.Prelude.{if◌then◌else◌, List, codes, length, Option, Some, None, is_some, slice_get}
 use Rattle.std.specs.Option.{option_map_or}
 use Rattle.std.specs.Str.{bytes_eq}
+use Rattle.run_model.specs.Allowed.{takes_cause}
+use Rattle.run_model.specs.declared.scopes.Kind.{Kind}
 use Rattle.run_model.specs.declared.tasks.Outcome.{Outcome}
 use Rattle.run_model.specs.declared.tasks.Outcome.TheVariants as outcome
 use Rattle.run_model.specs.Event.{Event}
 use Rattle.run_model.specs.Event as event
 use Rattle.run_model.specs.Rules.{AreNumbered}
-use Rattle.run_model.specs.Scopes.{chain, deadline_of}
+use Rattle.run_model.specs.Scopes.{chain, deadline_of, is_done}
 use Rattle.run_model.specs.State.{State}
 use Rattle.run_model.specs.Step.{own_scope, step}
 use Rattle.run_model.specs.Tasks.{has_stage, is_fresh, is_running}
-use Rattle.run_model.specs.WorkChanges.{group_of_task, stage_of}
+use Rattle.run_model.specs.WorkChanges.{error_of, group_of_task, stage_of}
 use Rattle.model_laws.specs.Hits.{is_on}
 use Rattle.model_laws.specs.Kinds.{is_finish, is_restart, is_start}
 use Rattle.night_plan.specs.Turns.{Turn, Begin, Cut, EndOk, Fail, is_among, turned}
+use Rattle.night_drive.specs.Names.{belongs, is_same, night_of}
 use Rattle.night_drive.specs.Searches.{last_below}
 use Rattle.night_drive.specs.Seen.{is_over, is_owned, is_scope, is_try, known_of}
 use Rattle.night_drive.specs.Tries.{counts, is_cancel}
@@ -124,3 +127,30 @@ abbrev pub BareFinishesLeaveScopes : Type 0
 BareFinishesLeaveScopes =
     (p : State) (n : ℕ) (outcome : Outcome) → own_scope p.work (group_of_task p.work n) ≡ None
     → (step p (event.Finish n outcome)).tree ≡ p.tree
+
+-- A new scope to which a command may give a cause becomes the last one of each group to which it
+-- belongs, and these are done if its parent is. All other groups are done if they were before.
+abbrev pub DerivesStandLast : Type 0
+DerivesStandLast =
+    (p : State) (name : List ℕ) (parent : ℕ) (kind : Kind) (night : Option (List ℕ))
+    (group : List ℕ) → AreNumbered p → parent < length p.tree.scopes
+    → is_over (step p (event.Derive name parent kind)) night group
+    ≡ (if takes_cause kind && (belongs group name && is_same (night_of p parent) night)
+    then is_done p.tree.scopes parent else is_over p night group)
+
+-- A new group of the store, with a scope of its own, changes no fact about a group of the plan.
+abbrev pub GroupsLeaveGroups : Type 0
+GroupsLeaveGroups =
+    (p : State) (name : List ℕ) (parent : ℕ) (night : Option (List ℕ)) (group : List ℕ)
+    → AreNumbered p → is_over (step p (event.Group name parent)) night group ≡ is_over p night group
+
+-- If the group of a task has a scope of its own, then after a failure the groups are done whose
+-- last scope has this scope on its chain. All other groups are done if they were before, and after
+-- a success all are.
+abbrev pub FinishesStop : Type 0
+FinishesStop =
+    (p : State) (n s : ℕ) (outcome : Outcome) (night : Option (List ℕ)) (group : List ℕ)
+    → own_scope p.work (group_of_task p.work n) ≡ Some s
+    → is_over (step p (event.Finish n outcome)) night group
+    ≡ (is_over p night group || (is_some (error_of outcome)
+    && of_last p night group (λ last. is_on s (chain p.tree.scopes last))))

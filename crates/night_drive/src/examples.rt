@@ -3,8 +3,9 @@
 //!
 //! Each function has an empty body, and its clauses are the example.
 
-ghost use Rattle.std.specs.Prelude.{◌≡◌, [], ◌∷◌, codes, false, map, None, true};
+ghost use Rattle.std.specs.Prelude.{◌≡◌, [], ◌∷◌, codes, false, map, None, Some, true};
 ghost use Rattle.run_model.specs.Allowed.{allowed};
+ghost use Rattle.run_model.specs.declared.scopes.Kind.TheVariants as kind;
 ghost use Rattle.run_model.specs.declared.tasks.Outcome.TheVariants as outcome;
 ghost use Rattle.run_model.specs.Event as event;
 ghost use Rattle.run_model.specs.Scopes.{chain};
@@ -14,7 +15,7 @@ ghost use Rattle.run_model.specs.WorkChanges.{group_of_task};
 ghost use Rattle.model_laws.specs.Hits.{is_on};
 ghost use Rattle.night_plan.specs.declared.facts.Phase.TheVariants as phase;
 ghost use Rattle.night_drive.specs.Examples.{after_all, first, known_after, known_in, moments, row};
-ghost use Rattle.night_drive.specs.Examples.{second, two_nights, withdrawal};
+ghost use Rattle.night_drive.specs.Examples.{own_group, second, two_nights, withdrawal};
 ghost use Rattle.night_drive.specs.Names.{belongs};
 ghost use Rattle.night_drive.specs.Seen.{is_over, known_of};
 ghost use Rattle.night_drive.specs.Turns.{IsLast, has_come, is_task, of_last};
@@ -139,4 +140,30 @@ pub fn a_stop_is_of_its_groups()
         (codes "disks" ∷ codes "tapes" ∷ []) ≡ true ∷ true ∷ [] }
     ensures bare { map (own_scope two_nights.work) (0 ∷ 1 ∷ 2 ∷ 3 ∷ 4 ∷ [])
         ≡ None ∷ None ∷ None ∷ None ∷ None ∷ [] }
+{}
+
+/// The tapes are done. With a new scope below that of the night, they no longer are, and nothing
+/// changes about the disks. A new scope of the disks below that of the tapes is done at once.
+pub fn a_new_scope_is_a_new_round()
+    ensures may { map (allowed two_nights) (event.Derive (codes "tapes--2-2") 4 kind.Cause
+        ∷ event.Derive (codes "disks--2-3") 7 kind.Cause ∷ []) ≡ true ∷ true ∷ [] }
+    ensures again { map (is_over (after_all (event.Derive (codes "tapes--2-2") 4 kind.Cause ∷ []))
+        second) (codes "tapes" ∷ codes "disks" ∷ []) ≡ false ∷ false ∷ [] }
+    ensures below { map (is_over (after_all (event.Derive (codes "disks--2-3") 7 kind.Cause ∷ []))
+        second) (codes "tapes" ∷ codes "disks" ∷ []) ≡ true ∷ true ∷ [] }
+    ensures deadline { map (is_over (after_all
+        (event.Derive (codes "tapes--2-2--until") 4 (kind.Deadline 9000 None) ∷ [])) second)
+        (codes "tapes" ∷ codes "disks" ∷ []) ≡ true ∷ false ∷ [] }
+{}
+
+/// Task 9 is of a group with a scope of its own, scope 8, and a new scope of the disks stands below
+/// that. When the task fails, the disks are done. When it ends well, they aren't.
+pub fn a_failure_is_a_stop()
+    ensures may { allowed own_group (event.Finish 9 outcome.Success) ≡ true }
+    ensures own { own_scope own_group.work (group_of_task own_group.work 9) ≡ Some 8 }
+    ensures open { is_over own_group second (codes "disks") ≡ false }
+    ensures failed { is_over (step own_group (event.Finish 9 (outcome.Failure (codes "exit 1"))))
+        second (codes "disks") ≡ true }
+    ensures well { is_over (step own_group (event.Finish 9 outcome.Success)) second (codes "disks")
+        ≡ false }
 {}

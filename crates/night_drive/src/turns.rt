@@ -1,7 +1,8 @@
 //! The effect of each event on the facts about a night. It is the effect of a turn of `night_plan`.
 
 ghost use Rattle.night_drive.specs.Turns.{AdvancesStop, BareFinishesLeaveScopes, CancelsStop};
-ghost use Rattle.night_drive.specs.Turns.{FinishesEnd, OthersLeaveCommands, OthersLeaveGroups};
+ghost use Rattle.night_drive.specs.Turns.{DerivesStandLast, FinishesEnd, FinishesStop};
+ghost use Rattle.night_drive.specs.Turns.{GroupsLeaveGroups, OthersLeaveCommands, OthersLeaveGroups};
 ghost use Rattle.night_drive.specs.Turns.{StartsBegin, WithdrawalsLeaveCommands};
 
 /// A start begins the command of its task, and changes no fact about any other command. The task
@@ -38,6 +39,21 @@ pub fn a_cancel_stops_what_it_reaches()
 /// are done if they were before.
 pub fn an_advance_stops_what_is_due()
     ensures { AdvancesStop }
+{}
+
+/// A new scope becomes the last one of the groups to which it belongs. These are done if its parent
+/// is, and aren't if it isn't, even if they were before. All other groups are done if they were
+/// before. A new group of the store, with a scope of its own, changes no fact about a group of the
+/// plan.
+pub fn a_new_scope_stands_last()
+    ensures derived { DerivesStandLast }
+    ensures group { GroupsLeaveGroups }
+{}
+
+/// A failure in a group that isn't bare cancels the group's own scope, and the groups that this
+/// reaches are done. All other groups are done if they were before. A success changes no group.
+pub fn a_failure_stops_what_its_scope_reaches()
+    ensures { FinishesStop }
 {}
 
 /// An event that changes no scope changes no fact about a group. A finish is such an event if the
