@@ -436,7 +436,10 @@ def damaged(tries: Shared) -> None:
         room = Room(tries, [job("g", "a", 1)])
         make(f"{room.path}/s.log")
         room.script([])
-        tries.is_same("a log that can't be written", make.__name__, room.run(seconds=40)[0], 0)
+        tries.is_same("a log that is no file", make.__name__,
+                      (room.run(seconds=40)[0], room.has("begun")), (3, False))
+        tries.holds("a log that is no file: it is named, and why", make.__name__,
+                    room.errors.startswith("night-run: s.log: it is no regular file"), room.errors)
     for name in ("s.ended", "s.pids", "s.lock"):
         room = Room(tries, [job("g", "a")])
         room.script([])
