@@ -11,6 +11,7 @@ mod demos;
 mod jobs;
 mod known;
 mod lasting;
+mod limits;
 mod plans;
 mod programs;
 mod scripts;
@@ -20,6 +21,7 @@ pub use jobs::{CopyJob, FailJob, SpinJob};
 pub use lasting::{
     a_script_runs_lines, a_store_lasts_from_run_to_run, many_runs_lose_nothing_acknowledged,
 };
+pub use limits::an_input_has_at_most_16777216_bytes;
 pub use programs::night;
 pub use scripts::script;
 pub use store_words::{Ended, Streams};
