@@ -1,6 +1,7 @@
 //! `demo` runs the input over a book in memory, which keeps nothing.
 
-ghost use Rattle.std.specs.Prelude.{◌≡◌, IfOk};
+ghost use Rattle.std.specs.Prelude.{◌≡◌, ◌⊎◌, IfErr, IfOk};
+ghost use Rattle.run_model.specs.declared.faults.Fault.TheVariants.{DiskFailed, Memory};
 ghost use Rattle.run_model.specs.declared.layouts.Layout.TheVariants.{Small};
 ghost use Rattle.run_model.specs.Layouts.{store_len};
 ghost use Rattle.night_program.specs.Demos.{DemoEnds, IsNew};
@@ -33,7 +34,8 @@ pub fn demo<R: Read, W: Write>(
 
 /// A new small store in memory.
 fn small_store(alloc: Global) -> Result<MemoryDisk, Fault>
-    ensures { IfOk result (λ disk. IsNew (⟦<MemoryDisk as RunDisk>⟧.state disk)) }
+    ensures made { IfOk result (λ disk. IsNew (⟦<MemoryDisk as RunDisk>⟧.state disk)) }
+    ensures fault { IfErr result (λ fault. (fault ≡ Memory) ⊎ (fault ≡ DiskFailed)) }
 {
     let disk = MemoryDisk::new(alloc, Layout::Small.store_len() as usize)?;
     format(disk)
@@ -43,7 +45,8 @@ fn small_store(alloc: Global) -> Result<MemoryDisk, Fault>
 fn format<D: RunDisk + Drop>(disk: D) -> Result<D, Fault>
     requires honest { (D.state disk).honest }
     requires size { (D.state disk).size ≡ store_len Small }
-    ensures { IfOk result (λ made. IsNew (D.state made)) }
+    ensures made { IfOk result (λ made. IsNew (D.state made)) }
+    ensures fault { IfErr result (λ fault. (fault ≡ Memory) ⊎ (fault ≡ DiskFailed)) }
 {
     match Book::format(disk) {
         Ok(disk) => Ok(disk),
