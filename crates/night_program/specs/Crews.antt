@@ -1,5 +1,5 @@
 -- What a crew's night over a store comes to, and the look before it at the jobs of its tasks.
-use Rattle.std.specs.Prelude.{◌≡◌, ◌⊎◌, ℕ, Bool, true, false, List, Some, None, Result, Ok}
+use Rattle.std.specs.Prelude.{◌≡◌, ◌⊎◌, Bool, true, false, Some, None, Result, Ok}
 use Rattle.std.specs.Prelude.{Err, ⊤}
 use Rattle.run_model.specs.declared.faults.Fault.{Fault}
 use Rattle.run_disk.specs.Disk.{DiskState}
@@ -10,7 +10,7 @@ use Rattle.store_words.specs.declared.endings.Done.{Done}
 use Rattle.store_words.specs.declared.endings.Done.TheVariants.{Strayed, Unknown, Well}
 use Rattle.store_words.specs.declared.failures.Failure.{Failure}
 use Rattle.store_words.specs.declared.endings.UnknownJob.{UnknownJob}
-use Rattle.store_words.specs.Failures.{FailsBy, Names}
+use Rattle.store_words.specs.Failures.{FailsBy}
 use Rattle.night_program.specs.Known.{FindsUnknown}
 
 -- The gate of a night lets each turn pass.
@@ -30,11 +30,11 @@ abbrev pub IsLooked : {D : Type 0} → (D → DiskState) → (known : Bool) → 
 IsLooked state false given begun = begun ≡ given
 IsLooked state true given begun = FindsUnknown state given (Ok None) begun
 
--- The reading found tasks with unknown jobs, or no state.
-abbrev pub StopsAt : {D : Type 0} → (D → DiskState) → (store : List ℕ) → (given : D)
+-- The reading found tasks with unknown jobs, or no state, and the failure is like this (Of).
+abbrev pub StopsAt : {D : Type 0} → (D → DiskState) → (Of : Failure → Type 0) → (given : D)
     → Result Done Failure → (read : D) → Type 0
-StopsAt state store given answer read =
+StopsAt state Of given answer read =
     ((job : UnknownJob) × FindsUnknown state given (Ok (Some job)) read
     × (answer ≡ Ok (Unknown job)))
     ⊎ ((why : Fault) × FindsUnknown state given (Err why) read
-    × FailsBy (Names store) (stopped why) answer)
+    × FailsBy Of (stopped why) answer)

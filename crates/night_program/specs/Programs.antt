@@ -23,6 +23,7 @@ use Rattle.night_program.specs.Crews.{AnswersCrew, IsLooked, IsOpen, StopsAt}
 use Rattle.store_words.specs.declared.endings.Done.{Done}
 use Rattle.store_words.specs.declared.endings.Ended.{Ended}
 use Rattle.store_words.specs.declared.failures.Failure.{Failure}
+use Rattle.store_words.specs.declared.failures.FileFailure.{FileFailure}
 use Rattle.store_words.specs.Endings.{EndsBy}
 use Rattle.store_words.specs.Failures.{AnswersAlone, AnswersStrict, HasNoFile, Names}
 use Rattle.store_words.specs.Hints.{Hints}
@@ -30,7 +31,7 @@ use Rattle.store_words.specs.Replacements.{DoesRenewInPlace}
 use Rattle.store_words.specs.Stores.{DoesPrint}
 use Rattle.store_words.specs.Words.{DoesFormat, DoesInspect, DoesMigrate, DoesRenew}
 use Rattle.store_files.specs.ErrorSinks.{SinkState, IsPrinted}
-use Rattle.store_files.specs.Files.{FilesView, HoldsAlone, IsSettled}
+use Rattle.store_files.specs.Files.{FilesView, HoldsAlone, IsSettled, ToOpen}
 
 -- A crew was asked for.
 abbrev pub asks_crew : Request → Bool
@@ -69,7 +70,7 @@ module _ {F D : Type 0} (state : D → DiskState) (seen : FilesView F D) where
     pub settled : IsSettled (state given)
     pub looked : IsLooked state known given begun
     pub works : CrewEnds state IsOpen begun workers done left w0 w1
-    pub answers : AnswersCrew (Names store) done answer
+    pub answers : AnswersCrew (Names (seen.notes given) store) done answer
 
   -- The file of this name was opened and only read: no state was found in it, or tasks of unknown
   -- jobs. Nothing was started, and the file is the disk that was read.
@@ -79,7 +80,7 @@ module _ {F D : Type 0} (state : D → DiskState) (seen : FilesView F D) where
     pub read : D
     pub held : HoldsAlone seen seen.opens store given read f0 f1
     pub settled : IsSettled (state given)
-    pub stops : StopsAt state store given answer read
+    pub stops : StopsAt state (Names (seen.notes given) store) given answer read
     pub output : w1 ≡ w0
 
   -- If there were fewer lists of jobs than workers, nothing was done.
@@ -87,7 +88,7 @@ module _ {F D : Type 0} (state : D → DiskState) (seen : FilesView F D) where
       → Result Done Failure → (f0 f1 : F) → (w0 w1 : Option (List ℕ)) → Type 0
   DoesCrew store workers lists known answer f0 f1 w0 w1 =
       ((lists < workers) × AnswersAlone {T = ⊤} (Err Memory) answer × (f1 ≡ f0) × (w1 ≡ w0))
-      ⊎ ((HasNoFile store answer × (f1 ≡ f0) × (w1 ≡ w0))
+      ⊎ ((HasNoFile (seen.refuses ToOpen f0 store) store answer × (f1 ≡ f0) × (w1 ≡ w0))
       ⊎ (Works store workers known answer f0 f1 w0 w1
       ⊎ ((known ≡ true) × LooksFirst store answer f0 f1 w0 w1)))
 
@@ -140,16 +141,18 @@ abbrev pub IsRefused : {F : Type 0} → WordsFault → Ended → (f0 f1 : F)
 IsRefused why ended f0 f1 r0 r1 w0 w1 e0 e1 =
     Refuses why ended e0 e1 × IsUntouched f0 f1 r0 r1 w0 w1
 
-module _ {F D : Type 0} (state : D → DiskState) (seen : FilesView F D) where
+module _ {F D : Type 0} (state : D → DiskState) (seen : FilesView F D)
+    (Stream : RunFault → Option FileFailure → Type 0) where
   -- What the arguments ask for was done, with so many lists of jobs and a clock that shows these
-  -- moments, and how it ended was printed. A hint was printed before, if the input is a terminal.
+  -- moments, and how it ended was printed, with the stream that is to blame for a fault (Stream). A
+  -- hint was printed before, if the input is a terminal.
   abbrev pub Obeys : Result Request WordsFault → (lists : ℕ) → (moments : Option (List ℕ))
       → (is_terminal : Bool) → Ended
       → (f0 f1 : F) → (r0 r1 w0 w1 : Option (List ℕ)) → (e0 e1 : SinkState) → Type 0
   Obeys (Ok asked) lists moments is_terminal ended f0 f1 r0 r1 w0 w1 e0 e1 =
       (answer : Result Done Failure) × Does state seen asked lists moments answer f0 f1 r0 r1 w0 w1
       × ((e : SinkState) × Hints (is_terminal && reads_lines asked) e0 e
-      × EndsBy answer ended e e1)
+      × EndsBy Stream answer ended e e1)
   Obeys (Err why) lists moments is_terminal ended f0 f1 r0 r1 w0 w1 e0 e1 =
       IsRefused why ended f0 f1 r0 r1 w0 w1 e0 e1
 

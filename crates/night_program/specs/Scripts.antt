@@ -11,7 +11,7 @@ use Rattle.console_lines.specs.Faults.{stopped}
 use Rattle.run_console.specs.RunProgress.{BeginsScript, Lasts, RunEnds, RunStops}
 use Rattle.run_console.specs.declared.untils.Until.{Until}
 use Rattle.run_console.specs.declared.untils.Until.TheVariants.{End, FirstRejection}
-use Rattle.store_files.specs.Files.{FilesView, HoldsAlone, IsSettled}
+use Rattle.store_files.specs.Files.{FilesView, HoldsAlone, IsSettled, ToOpen}
 use Rattle.store_words.specs.declared.endings.Done.{Done}
 use Rattle.store_words.specs.declared.failures.Failure.{Failure}
 use Rattle.store_words.specs.Failures.{AnswersStrict, HasNoFile, Names}
@@ -69,10 +69,10 @@ module _ {F D : Type 0} (state : D → DiskState) (seen : FilesView F D) where
     pub settled : IsSettled (state given)
     pub done : Result (Option RejectedLine) RunFault
     pub runs : ScriptEnds state (until_of strict) given done left r0 r1 w0 w1
-    pub answers : AnswersStrict (Names store) done answer
+    pub answers : AnswersStrict (Names (seen.notes given) store) done answer
 
   abbrev pub DoesScript : List ℕ → (strict : Bool) → Result Done Failure → (f0 f1 : F)
       → (r0 r1 w0 w1 : Option (List ℕ)) → Type 0
   DoesScript store strict answer f0 f1 r0 r1 w0 w1 =
-      (HasNoFile store answer × (f1 ≡ f0) × (r1 ≡ r0) × (w1 ≡ w0))
+      (HasNoFile (seen.refuses ToOpen f0 store) store answer × (f1 ≡ f0) × (r1 ≡ r0) × (w1 ≡ w0))
       ⊎ Scripts store strict answer f0 f1 r0 r1 w0 w1

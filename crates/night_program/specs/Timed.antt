@@ -10,7 +10,7 @@ use Rattle.night_program.specs.Scripts.{EndsOver, Runs, until_of}
 use Rattle.store_words.specs.declared.endings.Done.{Done}
 use Rattle.store_words.specs.declared.failures.Failure.{Failure}
 use Rattle.store_words.specs.Failures.{AnswersStrict, HasNoFile, Names}
-use Rattle.store_files.specs.Files.{FilesView, HoldsAlone, IsSettled}
+use Rattle.store_files.specs.Files.{FilesView, HoldsAlone, IsSettled, ToOpen}
 
 -- The input was run in this way (Ran), with the time before its lines: the moments that the clock
 -- returned, beginning with the clock of the state over which they were run. Nothing is said about
@@ -42,10 +42,10 @@ module _ {F D : Type 0} (state : D → DiskState) (seen : FilesView F D)
     pub settled : IsSettled (state given)
     pub done : Result (Option RejectedLine) RunFault
     pub runs : TimedEnds moments state (until_of strict) given done left r0 r1 w0 w1
-    pub answers : AnswersStrict (Names store) done answer
+    pub answers : AnswersStrict (Names (seen.notes given) store) done answer
 
   abbrev pub DoesTimed : List ℕ → (strict : Bool) → Result Done Failure → (f0 f1 : F)
       → (r0 r1 w0 w1 : Option (List ℕ)) → Type 0
   DoesTimed store strict answer f0 f1 r0 r1 w0 w1 =
-      (HasNoFile store answer × (f1 ≡ f0) × (r1 ≡ r0) × (w1 ≡ w0))
+      (HasNoFile (seen.refuses ToOpen f0 store) store answer × (f1 ≡ f0) × (r1 ≡ r0) × (w1 ≡ w0))
       ⊎ ScriptsTimed store strict answer f0 f1 r0 r1 w0 w1

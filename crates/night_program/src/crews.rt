@@ -65,7 +65,7 @@ fn worked<'a, Y: FirstError>(
     store: &'a str,
     why: &Y,
 ) -> Result<Done, Failure<'a>>
-    ensures { AnswersCrew (Names store.now) done result }
+    ensures { AnswersCrew (Names (Y.notes why.now) store.now) done result }
 {
     match done {
         Ok(true) => Ok(Done::Well),

@@ -4,6 +4,7 @@ ghost use Rattle.std.specs.Prelude.{◌≡◌, ℕ, false, map, vec_len, IfErr, 
 ghost use Rattle.std.specs.String.{string_bytes};
 ghost use Rattle.night_program.specs.Programs.{Does, IsRefused, Refuses, RunsWords, asks_crew};
 ghost use Rattle.night_program.specs.Programs.{reads_lines, refusal_status};
+ghost use Rattle.store_words.specs.Failures.{Blames};
 
 use crate::crews::crew_file;
 use crate::demos::demo;
@@ -72,6 +73,7 @@ pub fn night<
         (O.contents output.old) (O.contents output.new)
         (E.state errors.old) (E.state errors.new)) }
     ensures runs { IfOk words (λ words. RunsWords F.Disk.state F.seen
+        (Blames (Y.notes streams.now.input) (Y.notes streams.now.output))
         (map string_bytes words.items) (vec_len jobs) (C.moments clock.old)
         streams.now.is_terminal result
         files.old files.new

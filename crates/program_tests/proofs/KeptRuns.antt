@@ -6,11 +6,11 @@ use Rattle.program_tests.specs.Keeping.{ScriptsAreRuns}
 use Rattle.program_tests.specs.Shelves.{Lies, Nothing, shelf_view, spot_at}
 use Rattle.program_tests.proofs.ShelfLemmas.{gets_over, held_there, lies_there, same_bytes}
 
-module _ {D : Type 0} (state : D → DiskState) (disks : (d : D) → IsDisk (state d))
+module _ {D : Type 0} (state : D → DiskState) (passes : D → ℕ) (disks : (d : D) → IsDisk (state d))
     (honest : (d : D) → (state d).honest) where
   -- what was given back lies there
   laid : (name : List ℕ) (given left next : D)
-      → (it : IsOpenedAgain (shelf_view state) name given left next)
+      → (it : IsOpenedAgain (shelf_view state passes) name given left next)
       → spot_at it.second name ≡ Lies (state left).now
   laid name given left next it = elim it.held [
     | inl held ↦ gets_over held.after it.second name (Lies (state left).now) held.closes
@@ -21,7 +21,7 @@ module _ {D : Type 0} (state : D → DiskState) (disks : (d : D) → IsDisk (sta
         (lies_there (spot_at it.first name) (state given).now held.opens.had))
   ]
 
-  pub kept : KeepsWhatIsLeft state (shelf_view state)
+  pub kept : KeepsWhatIsLeft state (shelf_view state passes)
   kept name from given left next it early =
       let same : (state left).now ≡ (state next).now =
       same_bytes (state left).now (state next).now
@@ -34,11 +34,11 @@ module _ {D : Type 0} (state : D → DiskState) (disks : (d : D) → IsDisk (sta
             ((disks left).now_is_image (honest left)));
       }
 
-  pub readings : ReadingsAreRuns state (shelf_view state)
+  pub readings : ReadingsAreRuns state (shelf_view state passes)
   readings name given read next it alone =
       (read, alone, kept name given given read next it alone.passed.later)
 
-  pub scripts : ScriptsAreRuns state (shelf_view state)
+  pub scripts : ScriptsAreRuns state (shelf_view state passes)
   scripts name given left next steps told it over played = inr (record {
     left = left;
     over = over;

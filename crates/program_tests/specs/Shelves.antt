@@ -1,11 +1,14 @@
 -- What a shelf has under each name, and what each of its calls does with that.
-use Rattle.std.specs.Prelude.{◌≡◌, ◌≢◌, ◌⊎◌, ℕ, List, Bool, true, false}
+use Rattle.std.specs.Prelude.{◌≡◌, ◌≢◌, ◌⊎◌, ◌<◌, ◌^◌, ◌-◌, ℕ, List, Bool, true, false}
+use Rattle.std.specs.Prelude.{Option, Some, None, ⊤}
 use Rattle.std.specs.Prelude.{nat_eq}
 use Rattle.std.specs.Cmp.Lexicographic.{pointwise}
 use Rattle.std.specs.String.{string_bytes}
 use Rattle.run_disk.specs.Disk.{DiskState, IsAtRest}
 use Rattle.run_disk.specs.MemoryDisks.{state_of}
-use Rattle.store_files.specs.Files.{FilesView}
+use Rattle.store_files.specs.declared.file_errors.FileError.{FileError}
+use Rattle.store_files.specs.declared.file_errors.FileError.TheVariants.{InUse}
+use Rattle.store_files.specs.Files.{FileCall, FilesView, ToLook, ToMake, ToOpen, ToRead, ToReplace}
 use Rattle.program_tests.specs.declared.shelves.Kept.{Kept}
 use Rattle.program_tests.specs.declared.shelves.Kept.TheVariants.{File, Gone, Open}
 use Rattle.program_tests.specs.declared.shelves.Shelf.{Shelf}
@@ -39,6 +42,12 @@ abbrev pub IsElsewhereSame : List ℕ → Shelf → Shelf → Type 0
 IsElsewhereSame name f0 f1 =
     (other : List ℕ) → other ≢ name → spot_at f1 other ≡ spot_at f0 other
 
+-- An opening returned this error. If it is that the file is in use, another program has the files
+-- of the shelf open, or the file is open.
+abbrev pub IsUsed : Shelf → List ℕ → FileError → Type 0
+IsUsed shelf name error =
+    error ≡ InUse → (shelf.is_used ≡ true) ⊎ (spot_at shelf name ≡ Held)
+
 -- The file of this name had the bytes that reads give of the disk, which is honest and at rest; and
 -- it is held then. No other file changed.
 pub record Takes (f0 : Shelf) (name : List ℕ) (disk : DiskState) (f1 : Shelf) : Type 0 where
@@ -71,9 +80,23 @@ pub record Gives (given : DiskState) (bytes : List ℕ) (left : DiskState) : Typ
   pub bytes_are : bytes ≡ given.now
   pub same : left.now ≡ given.now
 
--- The files of a shelf, over disks in these states.
-abbrev pub shelf_view : {D : Type 0} → (D → DiskState) → FilesView Shelf D
-shelf_view state = record {
+-- What is known of an error that a call on the file of this name returned: whether the file is in
+-- use. Nothing is known of one that a file couldn't be made for.
+abbrev pub IsRefused : FileCall → Shelf → List ℕ → FileError → Type 0
+IsRefused ToOpen shelf name error = IsUsed shelf name error
+IsRefused ToRead shelf name error = IsUsed shelf name error
+IsRefused ToLook shelf name error = error ≡ InUse → spot_at shelf name ≡ Held
+IsRefused ToMake shelf name error = ⊤
+IsRefused ToReplace shelf name error = (error ≡ InUse) × (shelf.is_kept ≡ true)
+
+-- The first error of a disk that fails after so many calls; none, if it never fails.
+abbrev pub IsBroken : (passes : ℕ) → Option FileError → Type 0
+IsBroken passes (Some error) = passes < 2 ^ 64 - 1
+IsBroken passes None = passes ≡ 2 ^ 64 - 1
+
+-- The files of a shelf, over disks in these states, of which each passes so many calls.
+abbrev pub shelf_view : {D : Type 0} → (D → DiskState) → (passes : D → ℕ) → FilesView Shelf D
+shelf_view state passes = record {
   opens = λ shelf name disk after. Takes shelf name (state disk) after;
   shows = λ shelf name disk after. Shows shelf name (state disk) after;
   lacks = λ shelf name. spot_at shelf name ≡ Nothing;
@@ -81,4 +104,6 @@ shelf_view state = record {
   removes = Loses;
   remakes = λ shelf name after. IsElsewhereSame name shelf after;
   gives = λ disk bytes left. Gives (state disk) bytes (state left);
+  refuses = IsRefused;
+  notes = λ disk error. IsBroken (passes disk) error;
 }

@@ -1,6 +1,7 @@
 //! What a run of the program leaves on a shelf, the next one finds: so what the law on many runs
 //! takes of files can be met.
 
+ghost use Rattle.std.specs.Prelude.{ℕ};
 ghost use Rattle.program_tests.specs.Keeping.{KeepsWhatIsLeft, ReadingsAreRuns, ScriptsAreRuns};
 ghost use Rattle.program_tests.specs.Shelves.{shelf_view};
 
@@ -10,12 +11,12 @@ use store_files::Files;
 
 /// A shelf of honest disks keeps what is left in its files.
 fn honest_disks_are_kept<D: RunDisk>()
-    ensures found { ((disk : D) → (D.state disk).honest)
-        → KeepsWhatIsLeft D.state (shelf_view D.state) }
-    ensures readings { ((disk : D) → (D.state disk).honest)
-        → ReadingsAreRuns D.state (shelf_view D.state) }
-    ensures scripts { ((disk : D) → (D.state disk).honest)
-        → ScriptsAreRuns D.state (shelf_view D.state) }
+    ensures found { (passes : D → ℕ) → ((disk : D) → (D.state disk).honest)
+        → KeepsWhatIsLeft D.state (shelf_view D.state passes) }
+    ensures readings { (passes : D → ℕ) → ((disk : D) → (D.state disk).honest)
+        → ReadingsAreRuns D.state (shelf_view D.state passes) }
+    ensures scripts { (passes : D → ℕ) → ((disk : D) → (D.state disk).honest)
+        → ScriptsAreRuns D.state (shelf_view D.state passes) }
 {}
 
 /// An opening of a file on a shelf finds what the run before it left there. So a file that was only

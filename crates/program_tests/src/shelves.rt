@@ -1,6 +1,6 @@
 //! Files in memory, which keep what is written.
 
-ghost use Rattle.std.specs.Prelude.{◌≡◌, ◌≢◌, IfNone, IfOk, IfSome, OnErr, OnOk};
+ghost use Rattle.std.specs.Prelude.{◌≡◌, ◌≢◌, IfErr, IfNone, IfOk, IfSome, OnErr, OnOk};
 ghost use Rattle.std.specs.Bool.{OnFalse, OnTrue};
 ghost use Rattle.std.specs.String.{string_bytes};
 ghost use Rattle.run_disk.specs.Disk.{IsAtRest};
@@ -51,11 +51,12 @@ pub struct Shelf {
 }
 
 impl Kept {
-    ghost use Rattle.program_tests.specs.Shelves.{Lies, Nothing, spot_of};
+    ghost use Rattle.program_tests.specs.Shelves.{Held, Lies, Nothing, spot_of};
 
     /// The bytes of a file that is not open.
     fn bytes(&self, alloc: Global) -> Result<Vec<u8>, FileError>
         ensures had { IfOk result (λ bytes. spot_of self.now ≡ Lies bytes.items) }
+        ensures held { IfErr result (λ error. error ≡ FileError.InUse → spot_of self.now ≡ Held) }
     {
         match self {
             Kept::File(disk) => bytes_of(alloc, disk),
@@ -83,7 +84,8 @@ impl Place {
 }
 
 impl Shelf {
-    ghost use Rattle.program_tests.specs.Shelves.{Gets, IsElsewhereSame, Lies, Nothing};
+    ghost use Rattle.run_disk.specs.FailingDisks.{calls_cut};
+    ghost use Rattle.program_tests.specs.Shelves.{Gets, Held, IsElsewhereSame, Lies, Nothing};
     ghost use Rattle.program_tests.specs.Shelves.{spot_at, spot_of};
 
     /// A shelf with this disk as the file of this name, which nobody uses, and whose disks are
@@ -128,6 +130,8 @@ impl Shelf {
     /// The bytes of the file of this name, if it is there and not open.
     pub fn bytes(&self, name: &str) -> Result<Vec<u8>, FileError>
         ensures had { IfOk result (λ bytes. spot_at self.now name.now ≡ Lies bytes.items) }
+        ensures held { IfErr result (λ error. error ≡ FileError.InUse
+            → spot_at self.now name.now ≡ Held) }
     {
         match self.kept_at(name) {
             Some(kept) => Ok(kept.bytes(self.alloc)?),
@@ -151,11 +155,17 @@ impl Shelf {
             ≡ Lies (⟦<Fuse<MemoryDisk> as RunDisk>⟧.state opened.disk).now) }
         ensures rest { IfOk result (λ opened.
             IsAtRest (⟦<Fuse<MemoryDisk> as RunDisk>⟧.state opened.disk)) }
+        ensures noted { IfOk result (λ opened.
+            (calls_cut opened.disk).first ≡ opened.why.passes) }
+        ensures held { IfErr result (λ error. error ≡ FileError.InUse
+            → spot_at self.now name.now ≡ Held) }
     {
         match MemoryDisk::from_bytes(self.alloc, self.bytes(name)?) {
             Ok(disk) => Ok(Opened {
                 disk: Fuse::new(disk, self.passes),
-                why: Broken(self.passes),
+                why: Broken {
+                    passes: self.passes,
+                },
             }),
             Err(_) => Err(said("no memory")),
         }
@@ -215,6 +225,7 @@ impl Shelf {
         ensures made { IfOk result (λ made.
             IsOfZeros size (⟦<Fuse<MemoryDisk> as RunDisk>⟧.state made.disk)) }
         ensures new { IfOk result (λ made. made.is_new ≡ is_new) }
+        ensures noted { IfOk result (λ made. (calls_cut made.disk).first ≡ made.why.passes) }
         ensures same { OnErr result (self.new ≡ self.old) }
     {
         let disk = zeros(self.alloc, size)?;
@@ -223,7 +234,9 @@ impl Shelf {
         self.has_made = true;
         Ok(Made {
             disk: Fuse::new(disk, self.passes),
-            why: Broken(self.passes),
+            why: Broken {
+                passes: self.passes,
+            },
             is_new,
         })
     }
@@ -263,13 +276,15 @@ fn zeros(alloc: Global, size: u64) -> Result<MemoryDisk, FileError>
 }
 
 impl Files for Shelf {
+    ghost use Rattle.run_disk.specs.FailingDisks.{calls_cut};
     ghost use Rattle.program_tests.specs.Shelves.{shelf_view};
 
     type Disk = Fuse<MemoryDisk>;
 
     type FirstError = Broken;
 
-    ghost seen = { shelf_view (⟦<Fuse<MemoryDisk> as RunDisk>⟧.state) };
+    ghost seen = { shelf_view (⟦<Fuse<MemoryDisk> as RunDisk>⟧.state)
+        (λ disk. (calls_cut disk).first) };
 
     fn open(&mut self, name: &str) -> Result<Opened<Fuse<MemoryDisk>, Broken>, FileError> {
         if self.is_used {
@@ -347,11 +362,17 @@ impl Files for Shelf {
 
 /// Tells why a call of a disk failed that fails after this many.
 #[derive(Drop)]
-pub struct Broken(u64);
+pub struct Broken {
+    passes: u64,
+}
 
 impl FirstError for Broken {
+    ghost use Rattle.program_tests.specs.Shelves.{IsBroken};
+
+    ghost notes = { λ broken error. IsBroken broken.passes error };
+
     fn first_error(&self) -> Option<FileError> {
-        if self.0 < u64::MAX {
+        if self.passes < u64::MAX {
             Some(said("broken"))
         } else {
             None
@@ -360,7 +381,9 @@ impl FirstError for Broken {
 }
 
 /// What a system says.
-pub fn said(text: &str) -> FileError {
+pub fn said(text: &str) -> FileError
+    ensures { result ≢ FileError.InUse }
+{
     let mut said = ArrayString::new();
     let _fits = said.try_push_str(text);
     FileError::System(said)

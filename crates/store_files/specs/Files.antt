@@ -1,9 +1,23 @@
 -- What contracts see of the files that hold stores, and of a disk as it is opened.
-use Rattle.std.specs.Prelude.{◌≡◌, ◌⊎◌, ◌++◌, ℕ, Bool, true, false, List, codes}
+use Rattle.std.specs.Prelude.{◌≡◌, ◌⊎◌, ◌++◌, ℕ, Bool, true, false, List, Option, codes}
 use Rattle.run_model.specs.declared.layouts.Layout.{Layout}
 use Rattle.run_model.specs.Layouts.{store_len}
 use Rattle.run_disk.specs.Disk.{DiskState, IsAtRest}
 use Rattle.run_journal.specs.Pairs.{AreZeros}
+use Rattle.store_files.specs.declared.file_errors.FileError.{FileError}
+
+-- What the files were asked for when they returned an error.
+pub data FileCall : Type 0 where
+  -- to open a file for writing
+  ToOpen : FileCall
+  -- to open it for reading alone
+  ToRead : FileCall
+  -- to open it for reading alone, even if another program has it open
+  ToLook : FileCall
+  -- to create it, or to empty it
+  ToMake : FileCall
+  -- to replace it by another one
+  ToReplace : FileCall
 
 -- The files, each of which is known by its name. An open file is a disk, which whoever opened it
 -- gives back as it was left. Each of these is a step from all files to all files.
@@ -22,11 +36,19 @@ pub record FilesView (F D : Type 0) : Type 1 where
   pub remakes : F → List ℕ → F → Type 0
   -- a read of the whole disk returned these bytes, and left the disk so
   pub gives : D → List ℕ → D → Type 0
+  -- this call on the file of a name returned this error
+  pub refuses : FileCall → F → List ℕ → FileError → Type 0
+  -- the first error of a file that was opened as this disk, if a call of it has failed
+  pub notes : D → Option FileError → Type 0
 
 -- A disk is settled: if it is honest, it is at rest. So a crash leaves what reads return, whatever
 -- wrote to it before.
 abbrev pub IsSettled : DiskState → Type 0
 IsSettled s = s.honest → IsAtRest s
+
+-- Whatever error may be the first one here (Given) is noted there, too (Noted).
+abbrev pub AreNoted : (Given Noted : Option FileError → Type 0) → Type 0
+AreNoted Given Noted = (error : Option FileError) → Given error → Noted error
 
 -- The name of the file beside the file with this name, such as `jobs.store.renewing`.
 abbrev pub beside : List ℕ → List ℕ
@@ -82,14 +104,18 @@ pub record IsReadTwice {F D : Type 0} (seen : FilesView F D) (bytes : List ℕ) 
   pub first : IsRead seen bytes between
   pub second : seen.gives between bytes left
 
--- The file with this name was made, with the size of a store of this layout, and is settled. No
--- other file changed. If it is honest, it holds zeros. The result says whether there was no file
--- with its name before. If a new file was asked for, there was none.
+-- The disk has this many bytes, and is settled. If it is honest, a crash leaves zeros.
+pub record IsFilled (size : ℕ) (made : DiskState) : Type 0 where
+  pub sized : made.size ≡ size
+  pub zeros : made.honest → (x : List ℕ) → made.images x → AreZeros x
+  pub settled : IsSettled made
+
+-- The file with this name was made, with the size of a store of this layout, and filled with zeros.
+-- No other file changed. The result says whether there was no file with its name before. If a new
+-- file was asked for, there was none.
 pub record Makes {F D : Type 0} (state : D → DiskState) (seen : FilesView F D) (name : List ℕ)
     (layout : Layout) (only_new is_new : Bool) (made : D) (f0 f1 : F) : Type 0 where
   pub put : seen.puts f0 name made f1
-  pub sized : (state made).size ≡ store_len layout
-  pub zeros : (state made).honest → (x : List ℕ) → (state made).images x → AreZeros x
-  pub settled : IsSettled (state made)
+  pub filled : IsFilled (store_len layout) (state made)
   pub only : only_new ≡ true → is_new ≡ true
   pub new : is_new ≡ true → seen.lacks f0 name

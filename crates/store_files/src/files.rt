@@ -1,10 +1,12 @@
 //! [`Files`] is the trait of files that hold stores, and [`FirstError`] is the first error of one.
 
-ghost use Rattle.std.specs.Prelude.{◌≡◌, ◌⊎◌, ◌+◌, ℕ, List, length, slice_range, true};
-ghost use Rattle.std.specs.Prelude.{IfOk, OnErr, OnOk};
+ghost use Rattle.std.specs.Prelude.{◌≡◌, ◌⊎◌, ◌+◌, Option, length, slice_range, true};
+ghost use Rattle.std.specs.Prelude.{IfErr, IfOk, OnOk};
 ghost use Rattle.run_disk.specs.Calls.{Calls, Reads};
-ghost use Rattle.run_journal.specs.Pairs.{AreZeros};
-ghost use Rattle.store_files.specs.Files.{FilesView, IsKept, IsReplaced, IsSettled};
+ghost use Rattle.store_files.specs.declared.file_errors.FileError.{FileError as Error};
+ghost use Rattle.store_files.specs.Files.{AreNoted, FilesView, IsFilled, IsKept, IsReplaced};
+ghost use Rattle.store_files.specs.Files.{IsSettled};
+ghost use Rattle.store_files.specs.Files.{ToLook, ToMake, ToOpen, ToRead, ToReplace};
 
 use crate::file_errors::FileError;
 use run_disk::{DiskFailed, RunDisk};
@@ -14,8 +16,12 @@ pub const BESIDE: &str = ".renewing";
 
 /// The first error of a file. It can be read even after the file's disk is gone.
 pub trait FirstError {
+    /// Which error it may be; `None` if no call has failed.
+    ghost notes: { Self → Option Error → Type 0 };
+
     /// The error of the first call that failed; `None` if none did.
-    fn first_error(&self) -> Option<FileError>;
+    fn first_error(&self) -> Option<FileError>
+        ensures { notes self.now result };
 }
 
 /// An open file: a disk, and the first error of its calls.
@@ -55,7 +61,10 @@ pub trait Files {
         ensures opens { IfOk result (λ opened.
             seen.opens self.old name.now opened.disk self.new) }
         ensures settled { IfOk result (λ opened. IsSettled (Self.Disk.state opened.disk)) }
-        ensures same { OnErr result (self.new ≡ self.old) };
+        ensures noted { IfOk result (λ opened. AreNoted (Self.FirstError.notes opened.why)
+            (seen.notes opened.disk)) }
+        ensures not { IfErr result (λ error.
+            seen.refuses ToOpen self.old name.now error × (self.new ≡ self.old)) };
 
     /// Opens the file of this name for reading alone.
     fn open_to_read(
@@ -65,13 +74,19 @@ pub trait Files {
         ensures shows { IfOk result (λ opened.
             seen.shows self.old name.now opened.disk self.new) }
         ensures settled { IfOk result (λ opened. IsSettled (Self.Disk.state opened.disk)) }
-        ensures same { OnErr result (self.new ≡ self.old) };
+        ensures noted { IfOk result (λ opened. AreNoted (Self.FirstError.notes opened.why)
+            (seen.notes opened.disk)) }
+        ensures not { IfErr result (λ error.
+            seen.refuses ToRead self.old name.now error × (self.new ≡ self.old)) };
 
     /// Opens the file of this name for reading alone, even if another program has it open.
     fn look(&mut self, name: &str) -> Result<Opened<Self::Disk, Self::FirstError>, FileError>
         ensures shows { IfOk result (λ opened.
             seen.shows self.old name.now opened.disk self.new) }
-        ensures same { OnErr result (self.new ≡ self.old) };
+        ensures noted { IfOk result (λ opened. AreNoted (Self.FirstError.notes opened.why)
+            (seen.notes opened.disk)) }
+        ensures not { IfErr result (λ error.
+            seen.refuses ToLook self.old name.now error × (self.new ≡ self.old)) };
 
     /// Gives back the file of this name, whose disk is left so. No call of the disk is made.
     fn close(&mut self, name: &str, disk: Self::Disk)
@@ -99,12 +114,12 @@ pub trait Files {
         size: u64,
     ) -> Result<Made<Self::Disk, Self::FirstError>, FileError>
         ensures put { IfOk result (λ made. seen.puts self.old name.now made.disk self.new) }
-        ensures size { IfOk result (λ made. (Self.Disk.state made.disk).size ≡ size) }
-        ensures zeros { IfOk result (λ made. (Self.Disk.state made.disk).honest
-            → (x : List ℕ) → (Self.Disk.state made.disk).images x → AreZeros x) }
-        ensures settled { IfOk result (λ made. IsSettled (Self.Disk.state made.disk)) }
+        ensures filled { IfOk result (λ made. IsFilled size (Self.Disk.state made.disk)) }
         ensures new { IfOk result (λ made. made.is_new ≡ true → seen.lacks self.old name.now) }
-        ensures not { OnErr result (seen.remakes self.old name.now self.new) };
+        ensures noted { IfOk result (λ made. AreNoted (Self.FirstError.notes made.why)
+            (seen.notes made.disk)) }
+        ensures not { IfErr result (λ error. seen.refuses ToMake self.old name.now error
+            × seen.remakes self.old name.now self.new) };
 
     /// Like `create`, but fails if there is a file of this name. Before a byte is written, the new
     /// file gets the owner and the rights of the file `like`, if one is named.
@@ -115,13 +130,12 @@ pub trait Files {
         size: u64,
     ) -> Result<Made<Self::Disk, Self::FirstError>, FileError>
         ensures put { IfOk result (λ made. seen.puts self.old name.now made.disk self.new) }
-        ensures size { IfOk result (λ made. (Self.Disk.state made.disk).size ≡ size) }
-        ensures zeros { IfOk result (λ made. (Self.Disk.state made.disk).honest
-            → (x : List ℕ) → (Self.Disk.state made.disk).images x → AreZeros x) }
-        ensures settled { IfOk result (λ made. IsSettled (Self.Disk.state made.disk)) }
+        ensures filled { IfOk result (λ made. IsFilled size (Self.Disk.state made.disk)) }
         ensures new { IfOk result (λ made. (made.is_new ≡ true) × seen.lacks self.old name.now) }
-        ensures not { OnErr result
-            ((self.new ≡ self.old) ⊎ seen.removes self.new name.now self.old) };
+        ensures noted { IfOk result (λ made. AreNoted (Self.FirstError.notes made.why)
+            (seen.notes made.disk)) }
+        ensures not { IfErr result (λ error. seen.refuses ToMake self.old name.now error
+            × ((self.new ≡ self.old) ⊎ seen.removes self.new name.now self.old)) };
 
     /// Renames the file `from`, which is `disk`, to `to`, the name of the file `over`, and closes
     /// both. At every moment `to` leads to one of the two files. After Ok, a power failure leaves
@@ -137,8 +151,9 @@ pub trait Files {
         requires settled { IsSettled (Self.Disk.state disk) }
         ensures done { OnOk result
             (IsReplaced seen disk from.now to.now self.old self.new) }
-        ensures left { OnErr result (IsKept seen disk over from.now to.now self.old self.new
-            ⊎ IsReplaced seen disk from.now to.now self.old self.new) };
+        ensures left { IfErr result (λ error. seen.refuses ToReplace self.old to.now error
+            × (IsKept seen disk over from.now to.now self.old self.new
+            ⊎ IsReplaced seen disk from.now to.now self.old self.new)) };
 
     /// Removes the file of this name, if the system lets it.
     fn remove(&mut self, name: &str)

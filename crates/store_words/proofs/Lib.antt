@@ -1,3 +1,4 @@
 mod EndLemmas
 pub mod FoundLemmas
+pub mod NotedLemmas
 pub mod WordLemmas

@@ -1,6 +1,6 @@
 -- How the program ends: its exit status, and what it prints on standard error.
 use Rattle.std.specs.Prelude.{◌≡◌, ◌∷◌, ◌++◌, [], ℕ, Bool, true, List, Option, Result, Ok, Err}
-use Rattle.std.specs.Prelude.{IfSome, codes}
+use Rattle.std.specs.Prelude.{codes}
 use Rattle.std.specs.Fmt.{decimal}
 use Rattle.std.specs.Option.{option_map_or}
 use Rattle.console_lines.specs.declared.faults.RunFault.{RunFault}
@@ -18,7 +18,7 @@ use Rattle.store_words.specs.declared.endings.Ended.{Ended}
 use Rattle.store_words.specs.declared.failures.Failure.{Failure}
 use Rattle.store_words.specs.declared.failures.FileFailure.{FileFailure}
 use Rattle.store_words.specs.declared.endings.UnknownJob.{UnknownJob}
-use Rattle.store_words.specs.Failures.{IsStream, name_text, problem_text}
+use Rattle.store_words.specs.Failures.{name_text, problem_text}
 
 -- The exit status if a fault ended the program. Missing memory has one of its own.
 abbrev pub fault_status : RunFault → ℕ
@@ -84,11 +84,13 @@ abbrev pub failure_lines : Failure → (stream : Option FileFailure) → List �
 failure_lines failure stream =
     fault_line failure.fault ++ (blamed_line failure.file ++ blamed_line stream)
 
--- The subcommand came to this result, or a fault ended it, and that is printed.
-abbrev pub EndsBy : Result Done Failure → Ended → (e0 e1 : SinkState) → Type 0
-EndsBy (Ok done) ended e0 e1 =
+-- The subcommand came to this result, or a fault ended it, and that is printed. So is the stream
+-- that is to blame for the fault (Stream).
+abbrev pub EndsBy : (Stream : RunFault → Option FileFailure → Type 0) → Result Done Failure → Ended
+    → (e0 e1 : SinkState) → Type 0
+EndsBy Stream (Ok done) ended e0 e1 =
     (ended.status ≡ done_status done) × PrintsDone done ended.printed e0 e1
-EndsBy (Err failure) ended e0 e1 =
+EndsBy Stream (Err failure) ended e0 e1 =
     (ended.status ≡ fault_status failure.fault)
-    × ((stream : Option FileFailure) × IfSome stream (IsStream failure.fault)
+    × ((stream : Option FileFailure) × Stream failure.fault stream
     × IsPrinted ended.printed (failure_lines failure stream) e0 e1)

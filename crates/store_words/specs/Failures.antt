@@ -1,5 +1,5 @@
 -- What ended a subcommand before it was done, and which file is to blame for what.
-use Rattle.std.specs.Prelude.{◌≡◌, ◌⊎◌, ℕ, List, Option, Some, None, Result, Ok, Err, IfSome}
+use Rattle.std.specs.Prelude.{◌≡◌, ℕ, List, Option, Some, None, Result, Ok, Err, IfSome}
 use Rattle.std.specs.Prelude.{codes, option_map}
 use Rattle.run_model.specs.declared.faults.Fault.TheVariants as of_store
 use Rattle.run_model.specs.declared.faults.Fault.TheVariants.{DiskFailed}
@@ -65,31 +65,39 @@ abbrev pub source_problem : (from to : Option Layout) → RunFault → Option Fi
 source_problem (Some from) None why = Some of_file.Large
 source_problem from to why = problem_of why
 
--- For a store's fault, the file of this name is printed, if any is, with the error of a call or
--- with this problem of its content, if there is one. For any other fault, such as missing memory,
--- no file is printed.
-abbrev pub NamesBy : RunFault → (held : Option FileProblem) → List ℕ → Option FileFailure → Type 0
-NamesBy (Store why) held name file =
-    IfSome file (λ f. name_text f.name ≡ name)
-    × (((error : FileError) × (option_map (λ f. f.problem) file ≡ Some (of_file.Call error)))
-    ⊎ (option_map (λ f. f.problem) file ≡ held))
-NamesBy why held name file = file ≡ None
+-- What is printed to be wrong with a file: the error of its first call that failed. If none failed,
+-- this problem of its content, if there is one.
+abbrev pub first_problem : Option FileError → (held : Option FileProblem) → Option FileProblem
+first_problem (Some error) held = Some (of_file.Call error)
+first_problem None held = held
 
--- The file of this name is printed with what the fault says of its content, or the error of a call.
-abbrev pub Names : List ℕ → Failure → Type 0
-Names name failure = NamesBy failure.fault (problem_of failure.fault) name failure.file
+-- For a store's fault, the file of this name is printed, if anything is wrong with it: the first
+-- error that was noted of it (Noted), or else this problem of its content. For any other fault,
+-- such as missing memory, no file is printed.
+abbrev pub NamesBy : (Noted : Option FileError → Type 0) → RunFault → (held : Option FileProblem)
+    → List ℕ → Option FileFailure → Type 0
+NamesBy Noted (Store why) held name file =
+    IfSome file (λ f. name_text f.name ≡ name) × ((first : Option FileError) × Noted first
+    × (option_map (λ f. f.problem) file ≡ first_problem first held))
+NamesBy Noted why held name file = file ≡ None
+
+-- The file of this name is printed with the first error that was noted of it, or else with what the
+-- fault says of its content.
+abbrev pub Names : (Noted : Option FileError → Type 0) → List ℕ → Failure → Type 0
+Names Noted name failure = NamesBy Noted failure.fault (problem_of failure.fault) name failure.file
 
 -- The same for a store with the layout `from`, of which one of the layout `to` was to be made.
-abbrev pub NamesSource : (from to : Option Layout) → List ℕ → Failure → Type 0
-NamesSource from to name failure =
-    NamesBy failure.fault (source_problem from to failure.fault) name failure.file
+abbrev pub NamesSource : (Noted : Option FileError → Type 0) → (from to : Option Layout) → List ℕ
+    → Failure → Type 0
+NamesSource Noted from to name failure =
+    NamesBy Noted failure.fault (source_problem from to failure.fault) name failure.file
 
--- The same for the one of these two files that is to blame, if no store was made in the new file of
--- the one in the old file.
-abbrev pub NamesOf : MigrateFault → (old new : List ℕ) → Failure → Type 0
-NamesOf of_two.Memory old new failure = failure.file ≡ None
-NamesOf (of_two.Old why) old new failure = Names old failure
-NamesOf (of_two.New why) old new failure = Names new failure
+-- If no store was made in a new file of the one in an old file, the one that is to blame is printed
+-- like this.
+abbrev pub NamesOf : (Old New : Failure → Type 0) → MigrateFault → Failure → Type 0
+NamesOf Old New of_two.Memory failure = failure.file ≡ None
+NamesOf Old New (of_two.Old why) failure = Old failure
+NamesOf Old New (of_two.New why) failure = New failure
 
 -- The program's fault for a fault of a migration or a renewal.
 abbrev pub unmigrated : MigrateFault → RunFault
@@ -97,30 +105,31 @@ unmigrated of_two.Memory = Memory
 unmigrated (of_two.Old why) = stopped why
 unmigrated (of_two.New why) = stopped why
 
--- The stream that is to blame for a fault.
-abbrev pub stream_of : RunFault → Option FileName
-stream_of Input = Some StandardInput
-stream_of Output = Some StandardOutput
-stream_of why = None
+-- This stream is printed with the first error that was noted of it; or nothing, if none was.
+abbrev pub IsStream : (Noted : Option FileError → Type 0) → FileName → Option FileFailure → Type 0
+IsStream Noted name stream =
+    (first : Option FileError) × Noted first
+    × (stream ≡ option_map (λ error. record { name = name; problem = of_file.Call error }) first)
 
--- The stream that is to blame for a fault, with the error of a call of it.
-abbrev pub IsStream : RunFault → FileFailure → Type 0
-IsStream why stream =
-    (stream_of why ≡ Some stream.name)
-    × ((error : FileError) × (stream.problem ≡ of_file.Call error))
+-- The stream that is to blame for a fault is printed: standard input or standard output, with the
+-- first error that was noted of it (Input or Output). For any other fault no stream is printed.
+abbrev pub Blames : (OfInput OfOutput : Option FileError → Type 0) → RunFault → Option FileFailure
+    → Type 0
+Blames OfInput OfOutput Input stream = IsStream OfInput StandardInput stream
+Blames OfInput OfOutput Output stream = IsStream OfOutput StandardOutput stream
+Blames OfInput OfOutput why stream = stream ≡ None
 
 -- The fault of a file that couldn't be opened or made: memory is missing, or the device failed.
 abbrev pub fault_of : FileError → RunFault
 fault_of NoMemory = Memory
 fault_of _ = Store (Faulty DiskFailed)
 
--- The file of this name couldn't be opened or made. It is named with the error, and the fault is
--- that of the error.
-abbrev pub IsNoFile : List ℕ → Failure → Type 0
-IsNoFile name failure =
-    (file : FileFailure) × (error : FileError) × (failure.file ≡ Some file)
-    × (file.problem ≡ of_file.Call error) × (name_text file.name ≡ name)
-    × (failure.fault ≡ fault_of error)
+-- The file of this name couldn't be opened, made or replaced. It is named with this error, and the
+-- fault is that of the error.
+abbrev pub IsNoFile : FileError → List ℕ → Failure → Type 0
+IsNoFile error name failure =
+    (file : FileFailure) × (failure.file ≡ Some file) × (file.problem ≡ of_file.Call error)
+    × (name_text file.name ≡ name) × (failure.fault ≡ fault_of error)
 
 -- The file that is to blame if a new store couldn't replace the old one: the file beside, if
 -- another program has that open, or else the store's own.
@@ -128,22 +137,19 @@ abbrev pub blamed : List ℕ → FileError → List ℕ
 blamed store InUse = beside store
 blamed store _ = store
 
--- A new store couldn't replace the old one. The file that is to blame is named with the error, and
+-- A new store couldn't replace the old one. The file that is to blame is named with this error, and
 -- the fault is that of the error.
-abbrev pub IsUnput : List ℕ → Failure → Type 0
-IsUnput store failure =
-    (file : FileFailure) × (error : FileError) × (failure.file ≡ Some file)
-    × (file.problem ≡ of_file.Call error) × (name_text file.name ≡ blamed store error)
-    × (failure.fault ≡ fault_of error)
+abbrev pub IsUnput : FileError → List ℕ → Failure → Type 0
+IsUnput error store failure = IsNoFile error (blamed store error) failure
 
 -- This fault ended the subcommand, and this holds for the failure.
 abbrev pub FailsBy : (Failure → Type 0) → RunFault → Result Done Failure → Type 0
 FailsBy Of why answer =
     (failure : Failure) × (answer ≡ Err failure) × (failure.fault ≡ why) × Of failure
 
--- This fault ended a migration or a renewal, and the file that is to blame is named.
-abbrev pub FailsOf : MigrateFault → (old new : List ℕ) → Result Done Failure → Type 0
-FailsOf why old new answer = FailsBy (NamesOf why old new) (unmigrated why) answer
+-- This fault ended a migration or a renewal, and the file that is to blame is printed like this.
+abbrev pub FailsOf : (Old New : Failure → Type 0) → MigrateFault → Result Done Failure → Type 0
+FailsOf Old New why answer = FailsBy (NamesOf Old New why) (unmigrated why) answer
 
 -- The result of a subcommand that did this: all is well, or the same fault ended it.
 abbrev pub AnswersOver :
@@ -162,6 +168,9 @@ AnswersStrict Of (Err why) answer = FailsBy Of why answer
 abbrev pub AnswersAlone : {T : Type 0} → Result T RunFault → Result Done Failure → Type 0
 AnswersAlone done answer = AnswersOver (λ failure. failure.file ≡ None) done answer
 
--- The file of this name couldn't be opened or made, and that is the result.
-abbrev pub HasNoFile : List ℕ → Result Done Failure → Type 0
-HasNoFile name answer = (failure : Failure) × (answer ≡ Err failure) × IsNoFile name failure
+-- The file of this name couldn't be opened or made, and that is the result: it names the error for
+-- which this holds.
+abbrev pub HasNoFile : (Returned : FileError → Type 0) → List ℕ → Result Done Failure → Type 0
+HasNoFile Returned name answer =
+    (failure : Failure) × (error : FileError) × Returned error × (answer ≡ Err failure)
+    × IsNoFile error name failure

@@ -14,6 +14,7 @@ use Rattle.state_views.specs.declared.views.View.{View}
 use Rattle.store_words.specs.declared.endings.Done.{Done}
 use Rattle.store_words.specs.declared.failures.Failure.{Failure}
 use Rattle.store_words.specs.Failures.{AnswersOver, FailsBy, HasNoFile, Names}
+use Rattle.store_files.specs.declared.file_errors.FileError.TheVariants.{InUse}
 use Rattle.store_files.specs.Files.{FilesView, IsReadTwice}
 use Rattle.store_words.specs.Stores.{InspectEnds}
 
@@ -45,9 +46,11 @@ abbrev pub LookEnds : {F D : Type 0} → View → (D → DiskState) → FilesVie
     → (given : D) → Result Done Failure → (left : D) → (w0 w1 : Option (List ℕ)) → Type 0
 LookEnds view state seen store given answer left w0 w1 =
     ((done : Result ⊤ RunFault) × (layout_of (state given).size ≡ None)
-    × InspectEnds view state given done left w0 w1 × AnswersOver (Names store) done answer)
+    × InspectEnds view state given done left w0 w1
+    × AnswersOver (Names (seen.notes given) store) done answer)
     ⊎ (((state given).honest → OnlyReads (state given) (state left))
     × (((done : Result ⊤ RunFault) × LooksAt view state seen given left done w0 w1
-    × AnswersOver (Names store) done answer)
-    ⊎ ((w1 ≡ w0) × (HasNoFile store answer
-    ⊎ ((why : Fault) × IsUnread why × FailsBy (Names store) (stopped why) answer)))))
+    × AnswersOver (Names (seen.notes given) store) done answer)
+    ⊎ ((w1 ≡ w0) × (HasNoFile (λ error. error ≡ InUse) store answer
+    ⊎ ((why : Fault) × IsUnread why
+    × FailsBy (Names (seen.notes given) store) (stopped why) answer)))))

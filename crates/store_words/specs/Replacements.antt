@@ -12,19 +12,20 @@ use Rattle.store_words.specs.declared.endings.Done.{Done}
 use Rattle.store_words.specs.declared.failures.Failure.{Failure}
 use Rattle.store_words.specs.declared.renewals.Kept.{Kept}
 use Rattle.store_words.specs.Failures.{AnswersAlone, FailsBy, FailsOf, HasNoFile, IsUnput, Names}
+use Rattle.store_files.specs.declared.file_errors.FileError.{FileError}
+use Rattle.store_files.specs.declared.file_errors.FileError.TheVariants.{InUse}
 use Rattle.store_files.specs.Files.{FilesView, Holds, HoldsAlone, IsKept, IsNotMade, IsReplaced}
-use Rattle.store_files.specs.Files.{IsSettled, Makes, beside}
+use Rattle.store_files.specs.Files.{IsSettled, Makes, ToMake, ToOpen, ToReplace, beside}
 use Rattle.store_words.specs.Stores.{DoesPrint, Remakes, renewed_line}
 
--- The file with this name was opened (IsOpened), and doesn't have the size of a store.
-pub record HasNoSize {D : Type 0} (state : D → DiskState) (IsOpened : D → Type 0)
-    (store : List ℕ) (answer : Result Done Failure) : Type 0 where
-  pub source : D
-  pub opened : IsOpened source
-  pub none : layout_of (state source).size ≡ None
-  pub answers : FailsBy (Names store) (stopped WrongSize) answer
-
 module _ {F D : Type 0} (state : D → DiskState) (seen : FilesView F D) where
+  -- The file with this name was opened and given back, and doesn't have the size of a store.
+  pub record HasNoSize (store : List ℕ) (answer : Result Done Failure) (f0 f1 : F) : Type 0 where
+    pub source : D
+    pub held : HoldsAlone seen seen.opens store source source f0 f1
+    pub none : layout_of (state source).size ≡ None
+    pub answers : FailsBy (Names (seen.notes source) store) (stopped WrongSize) answer
+
   -- The file of this name was had for this program alone, and taken away; or nothing was done.
   abbrev pub Clears : (name : List ℕ) → (f0 f1 : F) → Type 0
   Clears name f0 f1 =
@@ -38,16 +39,22 @@ module _ {F D : Type 0} (state : D → DiskState) (seen : FilesView F D) where
     pub cleared : Clears name f0 before
     pub makes : Makes state seen name layout true true given before f1
 
-  -- The file of this name couldn't be made anew, and no other file was touched. What was there
-  -- before may be gone, and what was made of it may be there.
-  pub record LacksBeside (name : List ℕ) (f0 f1 : F) : Type 0 where
+  -- The file of this name couldn't be made anew, and no other file was touched. Either another
+  -- program has it open, and nothing was done; or the making returned this error. What was there
+  -- before may be gone then, and what was made of it may be there.
+  pub record LacksBeside (name : List ℕ) (error : FileError) (f0 f1 : F) : Type 0 where
     pub before : F
     pub cleared : Clears name f0 before
     pub only : IsNotMade seen name true before f1
+    pub refused : (seen.refuses ToOpen f0 name InUse × (error ≡ InUse) × (f1 ≡ f0))
+        ⊎ seen.refuses ToMake before name error
 
   -- A disk couldn't be put in the place of the file of the second name, which is the disk `over`,
-  -- or isn't known to last there; and the file of the first name was taken away.
-  pub record IsNotPut (disk over : D) (from to : List ℕ) (f0 f1 : F) : Type 0 where
+  -- or isn't known to last there; and the file of the first name was taken away. The replacing
+  -- returned this error.
+  pub record IsNotPut (disk over : D) (from to : List ℕ) (error : FileError) (f0 f1 : F)
+      : Type 0 where
+    pub refused : seen.refuses ToReplace f0 to error
     pub tried : F
     pub which : IsKept seen disk over from to f0 tried ⊎ IsReplaced seen disk from to f0 tried
     pub removed : seen.removes tried from f1
@@ -60,15 +67,18 @@ module _ {F D : Type 0} (state : D → DiskState) (seen : FilesView F D) where
 
   -- A store was made in the file beside the one of this name, of what was read there. Then it was
   -- put in its place, and how much is left was printed; or it couldn't be put there, which is told.
-  -- Or none was made.
-  abbrev pub Puts : (store : List ℕ) → Result Kept MigrateFault → (read left : D)
+  -- Or none was made, and the file that is to blame is printed with its first error, if one was
+  -- noted of it (OfOld or OfNew).
+  abbrev pub Puts : (OfOld OfNew : Option FileError → Type 0) → (store : List ℕ)
+      → Result Kept MigrateFault → (read left : D)
       → Result Done Failure → (f0 f1 : F) → (w0 w1 : Option (List ℕ)) → Type 0
-  Puts store (Ok kept) read left answer f0 f1 w0 w1 =
+  Puts OfOld OfNew store (Ok kept) read left answer f0 f1 w0 w1 =
       (IsReplaced seen left (beside store) store f0 f1 × DoesPrint (renewed_line kept) answer w0 w1)
-      ⊎ (IsNotPut left read (beside store) store f0 f1
-      × ((failure : Failure) × (answer ≡ Err failure) × IsUnput store failure) × (w1 ≡ w0))
-  Puts store (Err why) read left answer f0 f1 w0 w1 =
-      IsNotBeside store read f0 f1 × FailsOf why store (beside store) answer × (w1 ≡ w0)
+      ⊎ ((error : FileError) × IsNotPut left read (beside store) store error f0 f1
+      × ((failure : Failure) × (answer ≡ Err failure) × IsUnput error store failure) × (w1 ≡ w0))
+  Puts OfOld OfNew store (Err why) read left answer f0 f1 w0 w1 =
+      IsNotBeside store read f0 f1
+      × FailsOf (Names OfOld store) (Names OfNew (beside store)) why answer × (w1 ≡ w0)
 
   -- The store on the one disk was renewed to the other one, the file beside, and that put in its
   -- place.
@@ -78,7 +88,7 @@ module _ {F D : Type 0} (state : D → DiskState) (seen : FilesView F D) where
     pub left : D
     pub done : Result Kept MigrateFault
     pub remakes : Remakes state state source given done read left
-    pub puts : Puts store done read left answer f0 f1 w0 w1
+    pub puts : Puts (seen.notes source) (seen.notes given) store done read left answer f0 f1 w0 w1
 
   -- The file of this name was opened for this program alone, and one beside it made for a store of
   -- its layout.
@@ -99,17 +109,18 @@ module _ {F D : Type 0} (state : D → DiskState) (seen : FilesView F D) where
   -- was no memory for a name; or the file beside wasn't had, and no other one touched.
   abbrev pub LeavesInPlace : (store : List ℕ) → Result Done Failure → (f0 f1 : F) → Type 0
   LeavesInPlace store answer f0 f1 =
-      HasNoSize state (λ source. HoldsAlone seen seen.opens store source source f0 f1) store answer
+      HasNoSize store answer f0 f1
       ⊎ ((AnswersAlone {T = ⊤} (Err Memory) answer × (source : D)
       × HoldsAlone seen seen.opens store source source f0 f1)
-      ⊎ (HasNoFile (beside store) answer × (source : D)
-      × Holds seen seen.opens store (LacksBeside (beside store)) source source f0 f1))
+      ⊎ ((source : D) × Holds seen seen.opens store (λ opened after.
+      HasNoFile (λ error. LacksBeside (beside store) error opened after) (beside store) answer)
+      source source f0 f1))
 
   -- The store in the file of this name was renewed in its place; or its file wasn't had, or was
   -- left as it was.
   abbrev pub DoesRenewInPlace : (store : List ℕ) → Result Done Failure → (f0 f1 : F)
       → (w0 w1 : Option (List ℕ)) → Type 0
   DoesRenewInPlace store answer f0 f1 w0 w1 =
-      (HasNoFile store answer × (f1 ≡ f0) × (w1 ≡ w0))
+      (HasNoFile (seen.refuses ToOpen f0 store) store answer × (f1 ≡ f0) × (w1 ≡ w0))
       ⊎ ((LeavesInPlace store answer f0 f1 × (w1 ≡ w0))
       ⊎ RenewsInPlace store answer f0 f1 w0 w1)

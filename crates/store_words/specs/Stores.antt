@@ -107,11 +107,11 @@ MigratesRead from to old given (Err fault) read left =
 
 -- A store was made in the new file from the one in the old file, and this line about it was
 -- printed. Or none was made, or it couldn't be read, and nothing was printed; the result holds the
--- fault and the file that is to blame.
-abbrev pub AnswersMade : {K : Type 0} → (line : K → List ℕ) → (old new : List ℕ)
+-- fault and the file that is to blame, the old one or the new one (Old or New).
+abbrev pub AnswersMade : {K : Type 0} → (line : K → List ℕ) → (Old New : Failure → Type 0)
     → Result K MigrateFault → Result Done Failure → (w0 w1 : Option (List ℕ)) → Type 0
-AnswersMade line old new (Ok kept) answer w0 w1 = DoesPrint (line kept) answer w0 w1
-AnswersMade line old new (Err why) answer w0 w1 = FailsOf why old new answer × (w1 ≡ w0)
+AnswersMade line Old New (Ok kept) answer w0 w1 = DoesPrint (line kept) answer w0 w1
+AnswersMade line Old New (Err why) answer w0 w1 = FailsOf Old New why answer × (w1 ≡ w0)
 
 -- ---- renew
 

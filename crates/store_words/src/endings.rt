@@ -4,6 +4,7 @@ ghost use Rattle.std.specs.Prelude.{◌≡◌};
 ghost use Rattle.store_words.specs.Endings.{EndsBy, PrintsDone, done_status};
 ghost use Rattle.store_words.specs.Endings.{blamed_line, failure_lines, fault_status, file_line};
 ghost use Rattle.store_words.specs.Endings.{return_line, stray_lines, unknown_line};
+ghost use Rattle.store_words.specs.Failures.{Blames};
 ghost use Rattle.store_files.specs.ErrorSinks.{IsPrinted};
 
 use crate::failures::{Failure, FileFailure};
@@ -56,7 +57,8 @@ pub fn end<E: ErrorSink, Y: FirstError + Drop>(
     streams: &Streams<Y>,
     errors: &mut E,
 ) -> Ended
-    ensures { EndsBy answer.now result (E.state errors.old) (E.state errors.new) }
+    ensures { EndsBy (Blames (Y.notes streams.now.input) (Y.notes streams.now.output)) answer.now
+        result (E.state errors.old) (E.state errors.new) }
 {
     match answer {
         Ok(done) => Ended {

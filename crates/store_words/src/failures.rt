@@ -59,14 +59,14 @@ impl fmt::Display for FileName<'_> {
 
 /// Returns the failure of a subcommand that couldn't open or make a file that the arguments name.
 pub fn no_file<'a>(name: &'a str, error: FileError) -> Failure<'a>
-    ensures { IsNoFile name.now result }
+    ensures { IsNoFile error name.now result }
 {
     unopened(FileName::Own(name), error)
 }
 
 /// Returns the failure of a subcommand that couldn't open or make a file.
 pub fn unopened<'a>(name: FileName<'a>, error: FileError) -> Failure<'a>
-    ensures { IsNoFile (name_text name.entry) result }
+    ensures { IsNoFile error (name_text name.entry) result }
 {
     Failure {
         fault: fault_of(&error),
@@ -104,7 +104,7 @@ fn fault_of(error: &FileError) -> RunFault
 /// `InUse`, the file next to the store is to blame, because another program has it open. Otherwise
 /// the store is.
 pub fn not_put<'a>(store: &'a str, error: FileError) -> Failure<'a>
-    ensures { IsUnput store.now result }
+    ensures { IsUnput error store.now result }
 {
     let fault = fault_of(&error);
     let name = blamed(store, &error);
@@ -133,7 +133,7 @@ fn blamed<'a>(store: &'a str, error: &FileError) -> FileName<'a>
 /// the file, or else what the fault says about the content of the file.
 pub fn failed_over<'a, Y: FirstError>(fault: RunFault, name: &'a str, why: &Y) -> Failure<'a>
     ensures fault { result.fault ≡ fault }
-    ensures file { Names name.now result }
+    ensures file { Names (Y.notes why.now) name.now result }
 {
     failed(fault, FileName::Own(name), why, FileProblem::of(fault))
 }
@@ -148,7 +148,7 @@ pub fn failed_source<'a, Y: FirstError>(
     why: &Y,
 ) -> Failure<'a>
     ensures fault { result.fault ≡ fault }
-    ensures file { NamesSource from to name.now result }
+    ensures file { NamesSource (Y.notes why.now) from to name.now result }
 {
     failed(
         fault,
@@ -168,7 +168,8 @@ pub fn failed_of<'a, Y: FirstError>(
     why_new: &Y,
 ) -> Failure<'a>
     ensures fault { result.fault ≡ unmigrated fault }
-    ensures file { NamesOf fault (name_text old.entry) (name_text new.entry) result }
+    ensures file { NamesOf (Names (Y.notes why_old.now) (name_text old.entry))
+        (Names (Y.notes why_new.now) (name_text new.entry)) fault result }
 {
     let told = unmigrated(fault);
     match fault {
@@ -199,7 +200,7 @@ fn failed<'a, Y: FirstError>(
     held: Option<FileProblem>,
 ) -> Failure<'a>
     ensures fault { result.fault ≡ fault }
-    ensures file { NamesBy fault held (name_text name.entry) result.file }
+    ensures file { NamesBy (Y.notes why.now) fault held (name_text name.entry) result.file }
 {
     match fault {
         RunFault::Store(_) => Failure {
@@ -218,7 +219,8 @@ fn file_failed<'a, Y: FirstError>(
     why: &Y,
     held: Option<FileProblem>,
 ) -> Option<FileFailure<'a>>
-    ensures { (trouble : TroubleOf) → NamesBy (Store trouble) held (name_text name.entry) result }
+    ensures { (trouble : TroubleOf)
+        → NamesBy (Y.notes why.now) (Store trouble) held (name_text name.entry) result }
 {
     match why.first_error() {
         Some(error) => Some(of_call(name, error)),
@@ -235,7 +237,7 @@ pub fn done_over<'a, Y: FirstError>(
     name: &'a str,
     why: &Y,
 ) -> Result<Done, Failure<'a>>
-    ensures { AnswersOver (Names name.now) done result }
+    ensures { AnswersOver (Names (Y.notes why.now) name.now) done result }
 {
     match done {
         Ok(()) => Ok(Done::Well),
@@ -249,7 +251,7 @@ pub fn strict_over<'a, Y: FirstError>(
     name: &'a str,
     why: &Y,
 ) -> Result<Done, Failure<'a>>
-    ensures { AnswersStrict (Names name.now) done result }
+    ensures { AnswersStrict (Names (Y.notes why.now) name.now) done result }
 {
     match done {
         Ok(None) => Ok(Done::Well),

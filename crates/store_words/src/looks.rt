@@ -2,7 +2,7 @@
 
 ghost use Rattle.std.specs.Prelude.{◌≡◌, IfErr, IfOk, IfSome};
 ghost use Rattle.run_disk.specs.Runs.{OnlyReads};
-ghost use Rattle.store_files.specs.Files.{IsReadTwice};
+ghost use Rattle.store_files.specs.Files.{AreNoted, IsReadTwice};
 ghost use Rattle.store_words.specs.Looks.{IsCopy, IsUnread, LookEnds};
 
 use crate::stores::inspect;
@@ -29,6 +29,8 @@ pub fn look<'a, F: Files, W: Write>(
     view: View<'_>,
     output: &mut W,
 ) -> (Result<Done, Failure<'a>>, F::Disk)
+    requires noted { AreNoted (F.FirstError.notes opened.why)
+        (F.seen.notes opened.disk) }
     ensures { LookEnds view.entry F.Disk.state F.seen store.now opened.disk result.0 result.1
         (W.contents output.old) (W.contents output.new) }
 {

@@ -1,8 +1,8 @@
 //! A renewal in place makes a new store next to the old one, and replaces the old store by it.
 
-ghost use Rattle.std.specs.Prelude.{◌≡◌, IfOk, OnErr, OnOk};
+ghost use Rattle.std.specs.Prelude.{◌≡◌, IfErr, IfOk, OnOk};
 ghost use Rattle.std.specs.String.{string_bytes};
-ghost use Rattle.store_files.specs.Files.{IsReplaced, IsSettled, beside};
+ghost use Rattle.store_files.specs.Files.{AreNoted, IsReplaced, IsSettled, beside};
 ghost use Rattle.store_words.specs.Replacements.{DoesRenewInPlace, EndsInPlace, IsNotPut};
 ghost use Rattle.store_words.specs.Replacements.{LacksBeside, MakesBeside};
 
@@ -72,7 +72,10 @@ fn make_beside<F: Files>(
 ) -> Result<Made<F::Disk, F::FirstError>, FileError>
     ensures made { IfOk result (λ made. MakesBeside F.Disk.state F.seen name.now layout
         made.disk files.old files.new) }
-    ensures not { OnErr result (LacksBeside F.Disk.state F.seen name.now files.old files.new) }
+    ensures not { IfErr result (λ error.
+        LacksBeside F.Disk.state F.seen name.now error files.old files.new) }
+    ensures noted { IfOk result (λ made. AreNoted (F.FirstError.notes made.why)
+        (F.seen.notes made.disk)) }
 {
     match files.open(name) {
         Ok(_left) => files.remove(name),
@@ -96,6 +99,10 @@ fn put_renewed<'a, F: Files, O: Write>(
 ) -> Result<Done, Failure<'a>>
     requires settled { IsSettled (F.Disk.state made.disk) }
     requires named { name.now ≡ beside store.now }
+    requires old { AreNoted (F.FirstError.notes stored.why)
+        (F.seen.notes stored.disk) }
+    requires new { AreNoted (F.FirstError.notes made.why)
+        (F.seen.notes made.disk) }
     ensures { EndsInPlace F.Disk.state F.seen store.now stored.disk made.disk result
         files.old files.new (O.contents output.old) (O.contents output.new) }
 {
@@ -129,8 +136,8 @@ fn put<F: Files>(
 ) -> Result<(), FileError>
     requires settled { IsSettled (F.Disk.state disk) }
     ensures put { OnOk result (IsReplaced F.seen disk from.now to.now files.old files.new) }
-    ensures not { OnErr result
-        (IsNotPut F.Disk.state F.seen disk over from.now to.now files.old files.new) }
+    ensures not { IfErr result (λ error.
+        IsNotPut F.Disk.state F.seen disk over from.now to.now error files.old files.new) }
 {
     let done = files.replace(disk, over, from, to);
     if done.is_err() {

@@ -1,10 +1,11 @@
 //! What each subcommand does with the files that its arguments name.
 
-ghost use Rattle.std.specs.Prelude.{◌≡◌, IfOk, OnErr};
-ghost use Rattle.store_files.specs.Files.{IsNotMade, Makes};
+ghost use Rattle.std.specs.Prelude.{◌≡◌, IfErr, IfOk};
+ghost use Rattle.store_files.specs.Files.{AreNoted, IsNotMade, Makes, ToMake};
 ghost use Rattle.store_words.specs.Stores.{AnswersMade};
 ghost use Rattle.store_words.specs.Words.{DoesFormat, DoesInspect, DoesMake, DoesMigrate};
-ghost use Rattle.store_words.specs.Words.{DoesRenew, IsLeft};
+ghost use Rattle.store_words.specs.Failures.{Names};
+ghost use Rattle.store_words.specs.Words.{DoesRenew, IsLeft, LooksInUse};
 
 use crate::looks::look;
 use crate::makings::Making;
@@ -55,7 +56,10 @@ fn make<F: Files>(
 ) -> Result<Made<F::Disk, F::FirstError>, FileError>
     ensures made { IfOk result (λ made. Makes F.Disk.state F.seen name.now layout only_new
         made.is_new made.disk files.old files.new) }
-    ensures not { OnErr result (IsNotMade F.seen name.now only_new files.old files.new) }
+    ensures noted { IfOk result (λ made. AreNoted (F.FirstError.notes made.why)
+        (F.seen.notes made.disk)) }
+    ensures not { IfErr result (λ error. F.seen.refuses ToMake files.old name.now error
+        × IsNotMade F.seen name.now only_new files.old files.new) }
 {
     let size = layout.store_len();
     if only_new {
@@ -113,7 +117,7 @@ fn look_file<'a, F: Files, O: Write>(
     files: &mut F,
     output: &mut O,
 ) -> Result<Done, Failure<'a>>
-    ensures { DoesInspect F.Disk.state F.seen view.entry store.now result files.old files.new
+    ensures { LooksInUse F.Disk.state F.seen view.entry store.now result files.old files.new
         (O.contents output.old) (O.contents output.new) }
 {
     match files.look(store) {
@@ -220,7 +224,8 @@ fn made_of<'a, D: RunDisk, M: Making<D>, Y: FirstError, O: Write>(
     why_new: &Y,
     output: &mut O,
 ) -> Result<Done, Failure<'a>>
-    ensures { AnswersMade M.line old.now new.now done result
+    ensures { AnswersMade M.line (Names (Y.notes why_old.now) old.now)
+        (Names (Y.notes why_new.now) new.now) done result
         (O.contents output.old) (O.contents output.new) }
 {
     match done {

@@ -1,5 +1,7 @@
 //! An [`ErrorCell`] keeps the first error of a file.
 
+ghost use Rattle.std.specs.Prelude.{⊤};
+
 use std::io;
 use std::sync::atomic::{AtomicI64, Ordering};
 use store_files::{FileError, FirstError};
@@ -34,6 +36,9 @@ impl ErrorCell {
 }
 
 impl FirstError for &ErrorCell {
+    // What the system's calls return isn't known.
+    ghost notes = { λ cell error. ⊤ };
+
     fn first_error(&self) -> Option<FileError> {
         match self.0.load(Ordering::SeqCst) {
             NOTHING => None,

@@ -1,7 +1,7 @@
 //! [`SystemFiles`] implements the trait [`Files`] for the system's files.
 
 ghost use Rattle.std.specs.Prelude.{◌≡◌, ⊤, IfOk};
-ghost use Rattle.store_files.specs.Files.{FilesView};
+ghost use Rattle.store_files.specs.Files.{FilesView, IsFilled};
 
 use crate::contents::{copy, fill};
 use crate::disks::{Inode, SystemDisk};
@@ -224,8 +224,8 @@ impl<'a, S: fs::Files<File = File>> SystemFiles<'a, S> {
         size: u64,
         is_new: bool,
     ) -> Result<Made<SystemDisk<'a, S>, &'a ErrorCell>, FileError>
-        ensures size { IfOk result (λ made.
-            (⟦<SystemDisk<'a, S> as RunDisk>⟧.state made.disk).size ≡ size) }
+        ensures filled { IfOk result (λ made.
+            IsFilled size (⟦<SystemDisk<'a, S> as RunDisk>⟧.state made.disk)) }
         ensures new { IfOk result (λ made. made.is_new ≡ is_new) }
     {
         self.lock(&file, name)?;
@@ -250,7 +250,8 @@ impl<'a, S: fs::Files<File = File>> SystemFiles<'a, S> {
         like: Option<&str>,
         size: u64,
     ) -> Result<SystemDisk<'a, S>, FileError>
-        ensures { IfOk result (λ made. (⟦<SystemDisk<'a, S> as RunDisk>⟧.state made).size ≡ size) }
+        ensures { IfOk result (λ made.
+            IsFilled size (⟦<SystemDisk<'a, S> as RunDisk>⟧.state made)) }
     {
         let mut file = file;
         let mark = self.mark_of(name)?;
@@ -397,6 +398,8 @@ impl<'a, S: fs::Files<File = File> + Clock + Sync> Files for SystemFiles<'a, S> 
       removes = λ files name after. ⊤;
       remakes = λ files name after. ⊤;
       gives = λ disk bytes left. ⊤;
+      refuses = λ call files name error. ⊤;
+      notes = λ disk error. ⊤;
     } };
 
     fn open(&mut self, name: &str) -> Result<Opened<SystemDisk<'a, S>, &'a ErrorCell>, FileError> {

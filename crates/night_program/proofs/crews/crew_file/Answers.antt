@@ -2,7 +2,8 @@ use Rattle.std.proofs.Common.{◌≡◌, ◌∙◌, ℕ, arith, inl, inr, refl, 
 use Rattle.std.specs.Prelude.{None, Some}
 use Rattle.run_crew.specs.Crews.{CrewEnds}
 use Rattle.night_program.specs.Crews.{IsLooked, IsOpen}
-use Rattle.night_program.proofs.Looking.{found_is, looked_first, looked_not}
+use Rattle.store_words.proofs.NotedLemmas.{named}
+use Rattle.night_program.proofs.Looking.{answers_crew, found_is, looked_first, looked_not}
 use Rattle.night_program.proofs.crews.crew_file.Goals as goal
 use Rattle.night_program.proofs.crews.crew_file.Goals.{then-known+in-Ok-None, else-known}
 
@@ -54,7 +55,8 @@ returns-in-Err-unknown_on g c =
             c.failed_over.result,
             refl,
             c.failed_over.ensures.fault ∙ c.from-in-Err-unknown_on.ensures,
-            c.failed_over.ensures.file,
+            named c.args.store.now c.in-Ok.ensures.noted c.failed_over.result
+                c.failed_over.ensures.file,
           ),
         );
         output = refl;
@@ -103,5 +105,14 @@ returns g c =
       settled = c.in-Ok.ensures.settled;
       looked = looked;
       works = subst P count c.crew_over-done.ensures;
-      answers = c.worked.ensures;
+      answers = answers_crew _ _ (named c.args.store.now c.in-Ok.ensures.noted)
+          c.worked.ensures;
     }))
+
+pub returns-in-Err : goal.returns-in-Err
+returns-in-Err g c =
+    inr (inl (
+      (c.no_file.result, c.in-Err.error, c.in-Err.ensures.not.0, refl, c.no_file.ensures),
+      c.in-Err.ensures.not.1,
+      refl,
+    ))

@@ -1,6 +1,7 @@
-use Rattle.std.proofs.Common.{inr, refl, subst}
+use Rattle.std.proofs.Common.{inl, inr, refl, subst}
 use Rattle.run_console.specs.declared.untils.Until.{Until}
 use Rattle.night_program.specs.Scripts.{ScriptEnds}
+use Rattle.store_words.proofs.NotedLemmas.{answers_strict, named}
 use Rattle.night_program.proofs.scripts.script_file.Goals as goal
 
 pub returns : goal.returns
@@ -23,5 +24,15 @@ returns g c =
       settled = c.in-Ok.ensures.settled;
       done = c.script-done.result.0;
       runs = subst Runs c.until_of.ensures c.script-done.ensures;
-      answers = c.strict_over.ensures;
+      answers = answers_strict _ _ (named c.args.store.now c.in-Ok.ensures.noted)
+          c.strict_over.ensures;
     }
+
+pub returns-in-Err : goal.returns-in-Err
+returns-in-Err g c =
+    inl (
+      (c.no_file.result, c.in-Err.error, c.in-Err.ensures.not.0, refl, c.no_file.ensures),
+      c.in-Err.ensures.not.1,
+      refl,
+      refl,
+    )

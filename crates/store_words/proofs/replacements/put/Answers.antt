@@ -1,12 +1,13 @@
-use Rattle.std.proofs.lemmas.Result.{on_err_weaker}
+use Rattle.std.proofs.lemmas.Result.{IfErr-weaker}
 use Rattle.store_words.proofs.replacements.put.Goals as goal
 
 pub returns-then-is_err-clause-not : goal.returns-then-is_err-clause-not
 returns-then-is_err-clause-not g c =
-    on_err_weaker c.replace-done.result
-    (λ which. record {
+    IfErr-weaker c.replace-done.result _ _
+    (λ error left. record {
+      refused = left.0;
       tried = c.replace-done.new.self;
-      which = which;
+      which = left.1;
       removed = c.remove.ensures;
     })
     c.replace-done.ensures.left

@@ -1,4 +1,6 @@
 use Rattle.std.proofs.Common.{inl, inr, List, refl, subst, ℕ}
+use Rattle.store_files.specs.Files.{beside}
+use Rattle.store_words.proofs.NotedLemmas.{named, names_of}
 use Rattle.store_words.proofs.replacements.put_renewed.Goals as goal
 
 pub returns-in-Ok-put : goal.returns-in-Ok-put
@@ -22,6 +24,7 @@ returns-in-Ok g c =
       done = c.renew-done.result.0;
       remakes = c.renew-done.ensures;
       puts = rw c.in-Ok.is (inr (
+        c.in-Err-put.error,
         rw c.requires.named at c.in-Err-put.ensures.not,
         (c.not_put.result, refl, c.not_put.ensures),
         refl,
@@ -47,7 +50,8 @@ returns g c =
           c.failed_of.result,
           refl,
           c.failed_of.ensures.fault,
-          c.failed_of.ensures.file,
+          names_of _ c.failed_of.result (named c.args.store.now c.requires.old)
+              (named (beside c.args.store.now) c.requires.new) c.failed_of.ensures.file,
         ),
         refl,
       );

@@ -1,4 +1,5 @@
 use Rattle.std.proofs.Common.{◌∙◌, inl, inr, refl, rules}
+use Rattle.store_words.proofs.NotedLemmas.{named}
 use Rattle.store_words.proofs.replacements.renew_in_place.Goals as goal
 
 pub returns-in_default : goal.returns-in_default
@@ -6,7 +7,7 @@ returns-in_default g c =
     inr (inl (
       inl record {
         source = c.in-Ok.opened.disk;
-        opened = record {
+        held = record {
           opened = c.open.new.self;
           after = c.open.new.self;
           opens = c.in-Ok.ensures.opens;
@@ -18,7 +19,8 @@ returns-in_default g c =
           c.failed_over.result,
           refl,
           c.failed_over.ensures.fault ∙ c.from.ensures,
-          c.failed_over.ensures.file,
+          named c.args.store.now c.in-Ok.ensures.noted c.failed_over.result
+              c.failed_over.ensures.file,
         );
       },
       refl,
@@ -61,16 +63,29 @@ pub returns : goal.returns
 returns g c =
     inr (inl (
       inr (inr (
-        (c.unopened.result, refl, c.unopened.ensures),
         c.in-Ok.opened.disk,
         record {
           opened = c.open.new.self;
           after = c.make_beside.new.files;
           opens = c.in-Ok.ensures.opens;
-          did = rw (c.as_str.ensures.value ∙ c.in-Ok-name_beside.ensures)
-              at c.in-Err-make_beside.ensures.not;
+          did = (
+            c.unopened.result,
+            c.in-Err-make_beside.error,
+            rw (c.as_str.ensures.value ∙ c.in-Ok-name_beside.ensures)
+                at c.in-Err-make_beside.ensures.not,
+            refl,
+            c.unopened.ensures,
+          );
           closes = c.close-in-Err-make_beside.ensures;
         },
       )),
       refl,
     ))
+
+pub returns-in-Err : goal.returns-in-Err
+returns-in-Err g c =
+    inl (
+      (c.no_file.result, c.in-Err.error, c.in-Err.ensures.not.0, refl, c.no_file.ensures),
+      c.in-Err.ensures.not.1,
+      refl,
+    )

@@ -1,4 +1,5 @@
 use Rattle.std.proofs.Common.{inl, inr, refl}
+use Rattle.store_words.proofs.NotedLemmas.{answers_over, named}
 use Rattle.store_words.proofs.words.inspect_file.Goals as goal
 
 pub returns-in-Ok : goal.returns-in-Ok
@@ -16,5 +17,6 @@ returns-in-Ok g c =
       };
       settled = c.in-Ok.ensures.settled;
       inspects = c.inspect-done.ensures;
-      answers = c.done_over.ensures;
+      answers = answers_over _ _ (named c.args.store.now c.in-Ok.ensures.noted)
+          c.done_over.ensures;
     })

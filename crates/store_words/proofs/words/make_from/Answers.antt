@@ -3,6 +3,7 @@ use Rattle.run_model.specs.declared.layouts.Layout.{Layout}
 use Rattle.run_model.specs.Layouts.{layout_of}
 use Rattle.store_words.specs.Failures.{NamesSource}
 use Rattle.store_words.specs.Sources.{ServesNot}
+use Rattle.store_words.proofs.NotedLemmas.{answers_made, named, named_source}
 use Rattle.store_words.proofs.words.make_from.Goals as goal
 
 -- No store is made of the old one, and the new file wasn't touched.
@@ -14,9 +15,10 @@ returns-in-Err-read_source g c =
     c.layout_for-to.ensures ∙ ap g.M.Making.layout c.size-2.ensures in
     let from : c.of-from.result ≡ layout_of (state source).size =
     c.of-from.ensures ∙ ap layout_of c.size.ensures in
-    let named : NamesSource (layout_of (state source).size)
+    let names : NamesSource (g.F.Files.seen.notes source) (layout_of (state source).size)
     (g.M.Making.layout (state source).size) c.args.old.now c.failed_source.result =
-    rw from at (rw to at c.failed_source.ensures.file) in
+    named_source _ _ c.args.old.now c.failed_source.result c.in-Ok.ensures.noted
+    (rw from at (rw to at c.failed_source.ensures.file)) in
     let None : Option Layout → Type 0 = λ to.
     ServesNot state to source c.in-Err-read_source.fault c.read_source.new.disk in
     inr (inl (
@@ -37,7 +39,7 @@ returns-in-Err-read_source g c =
           c.failed_source.result,
           refl,
           c.failed_source.ensures.fault ∙ c.from.ensures,
-          named,
+          names,
         );
       },
       refl,
@@ -59,7 +61,8 @@ returns-in-Ok-make g c =
           ∙ c.in-Ok-read_source.ensures.layout;
       serves = c.in-Ok-read_source.ensures.serves;
       ends = c.make-done.ensures;
-      answers = c.made_of-answer.ensures;
+      answers = answers_made _ _ _ _ _ (named c.args.old.now c.in-Ok.ensures.noted)
+          (named c.args.new.now c.in-Ok-make.ensures.noted) c.made_of-answer.ensures;
       held = record {
         opened = c.open_to_read.new.self;
         after = c.leave.new.files;
@@ -84,10 +87,26 @@ returns g c =
           opened = c.open_to_read.new.self;
           after = c.make.new.files;
           opens = c.in-Ok.ensures.shows;
-          did = c.in-Err-make.ensures.not;
+          did = (
+            (
+              c.no_file-in-Err-make.result,
+              c.in-Err-make.error,
+              c.in-Err-make.ensures.not.0,
+              refl,
+              c.no_file-in-Err-make.ensures,
+            ),
+            c.in-Err-make.ensures.not.1,
+          );
           closes = c.close-in-Err-make.ensures;
         };
-        answers = (c.no_file-in-Err-make.result, refl, c.no_file-in-Err-make.ensures);
       },
       refl,
     )))
+
+pub returns-in-Err : goal.returns-in-Err
+returns-in-Err g c =
+    inl (
+      (c.no_file.result, c.in-Err.error, c.in-Err.ensures.not.0, refl, c.no_file.ensures),
+      c.in-Err.ensures.not.1,
+      refl,
+    )

@@ -3,11 +3,14 @@ use Rattle.program_tests.proofs.ShelfLemmas.{gets_none}
 use Rattle.program_tests.proofs.shelves.ShelfFiles.replace.Goals as goal
 
 pub returns-then-self-clause-left : goal.returns-then-self-clause-left
-returns-then-self-clause-left c = inl (record {
-  first = c.close.new.self;
-  new = c.close.ensures;
-  old = c.close-then-self.ensures;
-})
+returns-then-self-clause-left c = (
+  (refl, c.if-self.true),
+  inl (record {
+    first = c.close.new.self;
+    new = c.close.ensures;
+    old = c.close-then-self.ensures;
+  }),
+)
 
 pub returns-clause-done : goal.returns-clause-done
 returns-clause-done c = record {
