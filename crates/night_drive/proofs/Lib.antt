@@ -11,3 +11,4 @@ pub mod Hitting
 pub mod Playing
 pub mod Parting
 pub mod Deriving
+pub mod Distinguishing

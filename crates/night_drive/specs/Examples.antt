@@ -1,6 +1,6 @@
 -- A store with the rows of two nights.
-use Rattle.std.specs.Prelude.{ℕ, ◌+◌, false, true, List, [], ◌∷◌, Option, Some, None, codes}
-use Rattle.std.specs.Prelude.{fold}
+use Rattle.std.specs.Prelude.{◌≡◌, ℕ, ◌+◌, false, true, List, [], ◌∷◌, Option, Some, None, codes}
+use Rattle.std.specs.Prelude.{fold, map}
 use Rattle.run_model.specs.declared.groups.Group.{Group}
 use Rattle.run_model.specs.declared.layouts.Layout.TheVariants.{Small}
 use Rattle.run_model.specs.declared.scopes.Hit.{Hit}
@@ -16,9 +16,12 @@ use Rattle.run_model.specs.Event as event
 use Rattle.run_model.specs.Rows.{new_group, new_scope, root}
 use Rattle.run_model.specs.State.{State}
 use Rattle.run_model.specs.Step.{step}
+use Rattle.night_plan.specs.declared.commands.Command.{Command}
+use Rattle.night_plan.specs.declared.commands.Plan.{Plan}
 use Rattle.night_plan.specs.declared.facts.Known.{Known}
 use Rattle.night_plan.specs.declared.facts.Phase.{Phase}
-use Rattle.night_drive.specs.Seen.{known_of}
+use Rattle.night_drive.specs.declared.names.Names.{Names}
+use Rattle.night_drive.specs.Seen.{AreNames, known_of}
 
 -- The scope of the tapes was canceled in the second night.
 abbrev pub canceled_tapes : Hit
@@ -125,3 +128,19 @@ withdrawal n = event.Finish n (outcome.Failure (codes "withdrawn"))
 -- A command that is in this phase, and has failed this many times.
 abbrev pub row : Phase → (failures : ℕ) → Known
 row phase failures = record { phase = phase; failures = failures; canceled = false }
+
+-- A plan of four commands, and their names in the second night: a, d and e of the disks, and d of
+-- the tapes.
+pub record AreFour (plan : Plan) (names : Names) : Type 0 where
+  pub named : AreNames plan names
+  pub groups_of : map (λ (command : Command). command.group) plan.commands.items
+      ≡ 0 ∷ 0 ∷ 0 ∷ 1 ∷ []
+  pub groups : names.groups.items ≡ codes "disks" ∷ codes "tapes" ∷ []
+  pub keys : names.keys.items ≡ codes "a" ∷ codes "d" ∷ codes "e" ∷ codes "d" ∷ []
+  pub night : names.night ≡ second
+
+-- A task of e is submitted, and then the tasks of d and of e are started.
+abbrev pub row_of_two : List (Event × Option ℕ)
+row_of_two =
+    (event.Go 3 (codes "sh") (codes "e"), None)
+    ∷ (event.Start 8, Some 1) ∷ (event.Start 9, Some 2) ∷ []

@@ -4,6 +4,7 @@
 //! Each function has an empty body, and its clauses are the example.
 
 ghost use Rattle.std.specs.Prelude.{◌≡◌, [], ◌∷◌, codes, false, map, None, Some, true};
+ghost use Rattle.std.specs.List.{filter_map};
 ghost use Rattle.run_model.specs.Allowed.{allowed};
 ghost use Rattle.run_model.specs.declared.scopes.Kind.TheVariants as kind;
 ghost use Rattle.run_model.specs.declared.tasks.Outcome.TheVariants as outcome;
@@ -14,9 +15,14 @@ ghost use Rattle.run_model.specs.Tasks.{has_stage, is_fresh};
 ghost use Rattle.run_model.specs.WorkChanges.{group_of_task};
 ghost use Rattle.model_laws.specs.Hits.{is_on};
 ghost use Rattle.night_plan.specs.declared.facts.Phase.TheVariants as phase;
-ghost use Rattle.night_drive.specs.Examples.{after_all, first, known_after, known_in, moments, row};
+ghost use Rattle.night_plan.specs.declared.commands.Plan.{Plan as PlanLines};
+ghost use Rattle.night_drive.specs.declared.names.Names.{Names as InStore};
+ghost use Rattle.night_drive.specs.Distinct.{AreDistinct, IsPlain};
+ghost use Rattle.night_drive.specs.Examples.{AreFour, after_all, first, known_after, known_in};
+ghost use Rattle.night_drive.specs.Examples.{moments, row, row_of_two};
 ghost use Rattle.night_drive.specs.Examples.{own_group, second, two_nights, withdrawal};
 ghost use Rattle.night_drive.specs.Names.{belongs};
+ghost use Rattle.night_drive.specs.PlanTurns.{AreBegins};
 ghost use Rattle.night_drive.specs.Seen.{is_over, known_of};
 ghost use Rattle.night_drive.specs.Turns.{IsLast, has_come, is_task, of_last};
 
@@ -157,7 +163,8 @@ pub fn a_new_scope_is_a_new_round()
 {}
 
 /// Task 9 is of a group with a scope of its own, scope 8, and a new scope of the disks stands below
-/// that. When the task fails, the disks are done. When it ends well, they aren't.
+/// that. When the task fails, the disks are done. When it ends well, they aren't, until the group
+/// is waited for.
 pub fn a_failure_is_a_stop()
     ensures may { allowed own_group (event.Finish 9 outcome.Success) ≡ true }
     ensures own { own_scope own_group.work (group_of_task own_group.work 9) ≡ Some 8 }
@@ -166,4 +173,30 @@ pub fn a_failure_is_a_stop()
         second (codes "disks") ≡ true }
     ensures well { is_over (step own_group (event.Finish 9 outcome.Success)) second (codes "disks")
         ≡ false }
+    ensures waited { is_over (step (step own_group (event.Finish 9 outcome.Success)) (event.Wait 4))
+        second (codes "disks") ≡ true }
+{}
+
+/// A name may have hyphens, but not two in a row. Where a plan's names are `a`, `d` and `e` of the
+/// disks, and `d` of the tapes, they are distinct.
+pub fn four_commands_have_distinct_names()
+    ensures plain { IsPlain (codes "old-disks") }
+    ensures rounds { IsPlain (codes "disks--2") → ⊥ }
+    ensures distinct { (plan : PlanLines) (names : InStore) → AreFour plan names
+        → AreDistinct plan names }
+{}
+
+/// A task of `e` is submitted, and then the tasks of `d` and `e` are started. `d` and `e` of the
+/// disks begin in this row of events, and no other command of the plan does.
+pub fn a_row_begins_two_commands()
+    ensures may { map (allowed two_nights) (event.Go 3 (codes "sh") (codes "e") ∷ event.Start 8
+        ∷ event.Start 9 ∷ []) ≡ true ∷ true ∷ false ∷ [] }
+    ensures begins { (plan : PlanLines) (names : InStore) → AreFour plan names
+        → AreBegins two_nights names plan.commands.items row_of_two }
+    ensures those { filter_map (λ part. part.1) row_of_two ≡ 1 ∷ 2 ∷ [] }
+    ensures begun { map (known_of (after_all (map (λ part. part.0) row_of_two)) moments second
+        (codes "disks")) (codes "d" ∷ codes "e" ∷ codes "b" ∷ [])
+        ≡ row phase.Busy 0 ∷ row phase.Busy 0 ∷ row phase.Interrupted 0 ∷ [] }
+    ensures elsewhere { known_of (after_all (map (λ part. part.0) row_of_two)) moments second
+        (codes "tapes") (codes "d") ≡ row phase.Fresh 0 }
 {}
