@@ -25,7 +25,7 @@ use Rattle.model_laws.proofs.Lines.{first_hit_up, value_up}
 use Rattle.night_drive.specs.Names.{belongs, is_same, night_of}
 use Rattle.night_drive.specs.Searches.{last_below}
 use Rattle.night_drive.specs.Seen.{is_over, is_scope}
-use Rattle.night_drive.specs.Turns.{DerivesStandLast, FinishesStop, GroupsLeaveGroups}
+use Rattle.night_drive.specs.Turns.{DerivesStandLast, FinishesStop, GroupsLeaveGroups, WaitsStop}
 use Rattle.night_drive.proofs.Hitting.{cancel_stops}
 use Rattle.night_drive.proofs.Leaving.{line_pushed, night_pushed}
 use Rattle.night_drive.proofs.Searching.{last_alike_below, last_within}
@@ -224,3 +224,12 @@ finishes_stop p n s (outcome.Failure text) night group own =
       tree = option_map_or (λ s. after_cancel (p.count + 1) s (Some text) p.tree) o p.tree;
     }) night group) own
     ∙ cancel_stops p s (Some text) night group
+
+-- ---- a wait
+
+pub waits_stop : WaitsStop
+waits_stop p g s night group own =
+    ap (λ o. is_over (record p {
+      tree = option_map_or (λ s. after_cancel (p.count + 1) s None p.tree) o p.tree;
+    }) night group) own
+    ∙ cancel_stops p s None night group

@@ -142,7 +142,8 @@ known_left p q numbered left ended night group key =
 
 -- ---- a row more
 
-pub line_pushed : (rows : List Scope) (new : Scope) → AreOrdered rows → (most s : ℕ) → s < length rows
+pub line_pushed : (rows : List Scope) (new : Scope) → AreOrdered rows → (most s : ℕ)
+    → s < length rows
     → line_within most (rows ++ new ∷ []) s ≡ line_within most rows s
 line_pushed rows new ordered zero s less = refl
 line_pushed rows new ordered (suc most) s less =

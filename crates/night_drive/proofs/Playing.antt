@@ -1,6 +1,7 @@
 -- The night that a store shows after an event is the one after turns.
-use Rattle.std.proofs.Common.{◌≡◌, ◌<◌, ◌∙◌, ◌==◌, ◌||◌, ℕ, zero, suc, ◌+◌, Bool, true}
-use Rattle.std.proofs.Common.{false, cond, List, [], ◌∷◌, ◌++◌, map, length, Option, Some, None, codes}
+use Rattle.std.proofs.Common.{◌≡◌, ◌<◌, ◌∙◌, ◌==◌, ◌&&◌, ◌||◌, ℕ, zero, suc, ◌+◌, Bool, true}
+use Rattle.std.proofs.Common.{false, cond, List, [], ◌∷◌, ◌++◌, map, length, Option, Some, None}
+use Rattle.std.proofs.Common.{codes}
 use Rattle.std.proofs.Common.{slice_get, set, fold, inl, inr, refl, sym, ap, arith}
 use Rattle.std.proofs.Math.Bool.{or-false, or-true}
 use Rattle.std.proofs.lemmas.Bool.{cases_eq, cases_lt, eq-eqb, ne_eqb}
@@ -11,10 +12,13 @@ use Rattle.std.proofs.lemmas.Option.{slice_get_within}
 use Rattle.std.specs.List.{filter_map}
 use Rattle.std.specs.Option.{option_map, option_map_or}
 use Rattle.std.specs.Prelude.{unwrap_or}
+use Rattle.run_model.specs.Allowed.{takes_cause}
 use Rattle.run_model.specs.declared.tasks.Outcome.{Outcome}
 use Rattle.run_model.specs.declared.tasks.Outcome.TheVariants as outcome
 use Rattle.run_model.specs.declared.tasks.Stage.TheVariants as stage
+use Rattle.run_model.specs.Event.{Event}
 use Rattle.run_model.specs.Event as event
+use Rattle.run_model.specs.Scopes.{is_done}
 use Rattle.run_model.specs.State.{State, TreeState, WorkState}
 use Rattle.run_model.specs.Step.{after_task_end, own_scope, step}
 use Rattle.run_model.specs.Tasks.{running_tasks}
@@ -34,15 +38,17 @@ use Rattle.night_plan.specs.Turns.{Turn, after as after_turn, Begin, Cut, Fail, 
 use Rattle.night_plan.specs.Turns.{done_after, is_among, turned}
 use Rattle.night_drive.specs.declared.ends.Ends.{Ends}
 use Rattle.night_drive.specs.declared.names.Names.{Names}
+use Rattle.night_drive.specs.Names.{belongs, is_same, night_of}
 use Rattle.night_drive.specs.Openings.{interrupted}
 use Rattle.night_drive.specs.PlanTurns.{AdvancesAreTurns, AreBare, CancelsAreTurns}
-use Rattle.night_drive.specs.PlanTurns.{OpeningsReopen}
+use Rattle.night_drive.specs.PlanTurns.{DerivesAreNoTurns, FailuresAreTurns, OpeningsReopen}
 use Rattle.night_drive.specs.PlanTurns.{FinishesAreTurns, OthersAreNoTurns}
 use Rattle.night_drive.specs.PlanTurns.{BeginsJoin, RowsAreOneTurn, SeenIsShown, StartsAreTurns}
 use Rattle.night_drive.specs.PlanTurns.{WithdrawalsAreNoTurns, known_in, night_in}
 use Rattle.night_drive.specs.Seen.{AreNames, IsCalled, is_over, known_of, moment_of}
 use Rattle.night_drive.specs.Tries.{is_cancel}
 use Rattle.night_drive.specs.Turns.{end_of}
+use Rattle.night_drive.proofs.Deriving.{derives_stand_last, finishes_stop}
 use Rattle.night_drive.proofs.Finishing.{finish_ends}
 use Rattle.night_drive.proofs.Hitting.{advance_stops, bare_finishes, cancel_stops}
 use Rattle.night_drive.proofs.Hitting.{others_leave_groups}
@@ -431,6 +437,48 @@ advances_are_turns p ends plan names moment stopped are numbered those =
     (λ g group is. advance_stops p moment names.night group
     ∙ ap (λ b. is_over p names.night group || b) (those g group is)))
     ∙ after_stops plan known done stopped
+
+pub failures_are_turns : FailuresAreTurns
+failures_are_turns p old new plan names n c s error stopped are runs counted own others of those =
+    let o : Outcome = outcome.Failure error in
+    let q : State = step p (event.Finish n o) in
+    let t : Turn = end_of c (moment_of new n) o in
+    let known : List Known = all_turned t 0 (night_in p old plan names).known in
+    let done : List Bool = map (is_over p names.night) names.groups.items in
+    facts_are plan known (night_in q new plan names).known (stopped_in stopped done)
+    (map (is_over q names.night) names.groups.items)
+    (known_turned p q old new plan names t are
+    (λ d command group key called.
+    finish_ends p (moment_of old) (moment_of new) names.night group key n d c o runs
+    (of.last d command group key called) counted others
+    (sym (of.only d command group key called))))
+    (done_stopped p q names stopped
+    (λ g group is. finishes_stop p n s o names.night group own
+    ∙ ap (λ b. is_over p names.night group || b) (those g group is)))
+    ∙ after_stops plan known done stopped
+    ∙ ap (λ (x : List Bool). after_all (with_facts plan known x) (map Stop stopped))
+    (end_leaves c (moment_of new n) o done)
+
+pub derives_are_no_turns : DerivesAreNoTurns
+derives_are_no_turns p ends plan names name parent k are numbered below alike =
+    let e : Event = event.Derive name parent k in
+    facts_are plan (night_in p ends plan names).known (night_in (step p e) ends plan names).known
+    (map (is_over p names.night) names.groups.items)
+    (map (is_over (step p e) names.night) names.groups.items)
+    (known_same p (step p e) ends plan names are
+    (λ group key. others_leave p e (moment_of ends) names.night group key numbered refl refl refl))
+    (done_stopped p (step p e) names []
+    (λ g group is. derives_stand_last p name parent k names.night group numbered below
+    ∙ by_last g group is
+    (takes_cause k && (belongs group name && is_same (night_of p parent) names.night)) refl
+    ∙ sym (or-false (is_over p names.night group))))
+  where
+    by_last : (g : ℕ) (group : List ℕ) → slice_get names.groups.items g ≡ Some group → (b : Bool)
+        → (takes_cause k && (belongs group name && is_same (night_of p parent) names.night)) ≡ b
+        → cond b (is_done p.tree.scopes parent) (is_over p names.night group)
+        ≡ is_over p names.night group
+    by_last g group is true its = sym (alike g group is its)
+    by_last g group is false its = refl
 
 pub others_are_no_turns : OthersAreNoTurns
 others_are_no_turns p e ends plan names are numbered same no_start no_finish no_restart =

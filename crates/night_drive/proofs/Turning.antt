@@ -1,6 +1,7 @@
 -- What is seen of commands once a task has come to another stage.
 use Rattle.std.proofs.Common.{◌≡◌, ◌≢◌, ◌<◌, ◌∙◌, ◌&&◌, ℕ, ◌+◌, Bool, true, false, cond, List}
-use Rattle.std.proofs.Common.{Option, Some, None, slice_get, length, inl, inr, refl, sym, ap, arith}
+use Rattle.std.proofs.Common.{Option, Some, None, slice_get, length, inl, inr, refl, sym, ap}
+use Rattle.std.proofs.Common.{arith}
 use Rattle.std.proofs.lemmas.Bool.{cases_eq, true≢false}
 use Rattle.std.proofs.lemmas.Option.{slice_get_within}
 use Rattle.std.specs.Option.{option_map, option_map_or}

@@ -1,14 +1,17 @@
 -- The effect of an event on the night that a store shows. It is the effect of turns of
 -- `night_plan`.
-use Rattle.std.specs.Prelude.{◌≡◌, ◌≢◌, ◌==◌, ℕ, Bool, true, false, List, [], ◌∷◌, ◌++◌, Option}
-use Rattle.std.specs.Prelude.{Some, None, codes, fold, map, slice_get, unwrap_or}
+use Rattle.std.specs.Prelude.{◌≡◌, ◌≢◌, ◌<◌, ◌==◌, ◌&&◌, ℕ, Bool, true, false, List, [], ◌∷◌, ◌++◌}
+use Rattle.std.specs.Prelude.{Option}
+use Rattle.std.specs.Prelude.{Some, None, codes, fold, length, map, slice_get, unwrap_or}
 use Rattle.std.specs.List.{filter_map}
+use Rattle.run_model.specs.Allowed.{takes_cause}
+use Rattle.run_model.specs.declared.scopes.Kind.{Kind}
 use Rattle.run_model.specs.declared.tasks.Outcome.{Outcome}
 use Rattle.run_model.specs.declared.tasks.Outcome.TheVariants as outcome
 use Rattle.run_model.specs.Event.{Event}
 use Rattle.run_model.specs.Event as event
 use Rattle.run_model.specs.Rules.{AreNumbered}
-use Rattle.run_model.specs.Scopes.{chain}
+use Rattle.run_model.specs.Scopes.{chain, is_done}
 use Rattle.run_model.specs.State.{State, WorkState}
 use Rattle.run_model.specs.Step.{own_scope, step}
 use Rattle.run_model.specs.Tasks.{has_stage, is_fresh, is_running}
@@ -25,6 +28,7 @@ use Rattle.night_plan.specs.Turns.{after as after_turn, Begin, Stop, is_among}
 use Rattle.night_drive.specs.declared.ends.Ends.{Ends}
 use Rattle.night_drive.specs.declared.names.Names.{Names}
 use Rattle.night_drive.specs.Distinct.{AreDistinct}
+use Rattle.night_drive.specs.Names.{belongs, is_same, night_of}
 use Rattle.night_drive.specs.Seen.{AreNames, IsCalled, IsSeen, is_over, known_of, moment_of}
 use Rattle.night_drive.specs.Tries.{counts}
 use Rattle.night_drive.specs.Turns.{IsLast, end_of, has_come, is_task, of_last}
@@ -162,6 +166,33 @@ AdvancesAreTurns =
     → AreNames plan names → AreNumbered p → AreThose p names (has_come p moment) stopped
     → night_in (step p (event.Advance moment)) ends plan names
     ≡ after_all (night_in p ends plan names) (map Stop stopped)
+
+-- A failure in a group with a scope of its own is the turn in which the command of the task ends,
+-- and then a turn for each group that it stops.
+abbrev pub FailuresAreTurns : Type 0
+FailuresAreTurns =
+    (p : State) (old new : Ends) (plan : Plan) (names : Names) (n c s : ℕ) (error : List ℕ)
+    (stopped : List ℕ)
+    → AreNames plan names → has_stage is_running p.work n ≡ true
+    → counts (stage_of (outcome.Failure error)) ≡ true
+    → own_scope p.work (group_of_task p.work n) ≡ Some s
+    → ((m : ℕ) → m ≢ n → moment_of new m ≡ moment_of old m)
+    → IsOfCommand p names plan.commands.items n c
+    → AreThose p names (λ last. is_on s (chain p.tree.scopes last)) stopped
+    → night_in (step p (event.Finish n (outcome.Failure error))) new plan names
+    ≡ after_all (after_turn (night_in p old plan names)
+    (end_of c (moment_of new n) (outcome.Failure error))) (map Stop stopped)
+
+-- A new scope is no turn, if the groups of the plan whose last one it becomes were as its parent
+-- is: done, or not done.
+abbrev pub DerivesAreNoTurns : Type 0
+DerivesAreNoTurns =
+    (p : State) (ends : Ends) (plan : Plan) (names : Names) (name : List ℕ) (parent : ℕ)
+    (kind : Kind) → AreNames plan names → AreNumbered p → parent < length p.tree.scopes
+    → ((g : ℕ) (group : List ℕ) → slice_get names.groups.items g ≡ Some group
+    → (takes_cause kind && (belongs group name && is_same (night_of p parent) names.night)) ≡ true
+    → is_over p names.night group ≡ is_done p.tree.scopes parent)
+    → night_in (step p (event.Derive name parent kind)) ends plan names ≡ night_in p ends plan names
 
 -- Each other event that doesn't change the tree is no turn. A restart isn't such an event.
 abbrev pub OthersAreNoTurns : Type 0

@@ -1,6 +1,7 @@
 -- The effect of an event on the facts about a plan. It is the effect of a turn of `night_plan`.
 use Rattle.std.specs.Prelude.{◌≡◌, ◌≢◌, ◌<◌, ◌==◌, ℕ, ◌&&◌, ◌||◌, nat_le, Bool, true, false}
-use Rattle.std.specs.Prelude.{if◌then◌else◌, List, codes, length, Option, Some, None, is_some, slice_get}
+use Rattle.std.specs.Prelude.{if◌then◌else◌, List, codes, length, Option, Some, None, is_some}
+use Rattle.std.specs.Prelude.{slice_get}
 use Rattle.std.specs.Option.{option_map_or}
 use Rattle.std.specs.Str.{bytes_eq}
 use Rattle.run_model.specs.Allowed.{takes_cause}
@@ -154,3 +155,12 @@ FinishesStop =
     → is_over (step p (event.Finish n outcome)) night group
     ≡ (is_over p night group || (is_some (error_of outcome)
     && of_last p night group (λ last. is_on s (chain p.tree.scopes last))))
+
+-- After a wait for a group with a scope of its own, the groups are done whose last scope has this
+-- scope on its chain. All other groups are done if they were before.
+abbrev pub WaitsStop : Type 0
+WaitsStop =
+    (p : State) (g s : ℕ) (night : Option (List ℕ)) (group : List ℕ)
+    → own_scope p.work g ≡ Some s
+    → is_over (step p (event.Wait g)) night group
+    ≡ (is_over p night group || of_last p night group (λ last. is_on s (chain p.tree.scopes last)))

@@ -4,7 +4,8 @@
 ghost use Rattle.night_drive.specs.PlanTurns.{AdvancesAreTurns, BeginsJoin, CancelsAreTurns};
 ghost use Rattle.night_drive.specs.PlanTurns.{FinishesAreTurns, OpeningsReopen, OthersAreNoTurns};
 ghost use Rattle.night_drive.specs.PlanTurns.{SeenIsShown, StartsAreTurns, TasksAreOfOneCommand};
-ghost use Rattle.night_drive.specs.PlanTurns.{RowsAreOneTurn, WithdrawalsAreNoTurns};
+ghost use Rattle.night_drive.specs.PlanTurns.{DerivesAreNoTurns, FailuresAreTurns, RowsAreOneTurn};
+ghost use Rattle.night_drive.specs.PlanTurns.{WithdrawalsAreNoTurns};
 
 /// The facts that are read from a store make up the night that it shows.
 pub fn the_facts_make_up_the_night()
@@ -47,6 +48,19 @@ pub fn a_withdrawal_is_no_turn()
 pub fn each_stop_is_a_turn()
     ensures cancels { CancelsAreTurns }
     ensures advances { AdvancesAreTurns }
+{}
+
+/// A failure in a group that isn't bare is the turn in which the command of its task ends, and then
+/// a turn for each group that the cancel of the group's scope stops.
+pub fn a_failure_is_an_end_and_stops()
+    ensures { FailuresAreTurns }
+{}
+
+/// A new scope is no turn, unless it changes whether a group of the plan is done. It changes that
+/// if it becomes the last one of the group, its parent is done and the group isn't, or the other
+/// way round.
+pub fn a_new_scope_is_no_turn()
+    ensures { DerivesAreNoTurns }
 {}
 
 /// Each other event that changes no scope is no turn. A restart isn't such an event.

@@ -2,8 +2,9 @@
 
 ghost use Rattle.night_drive.specs.Turns.{AdvancesStop, BareFinishesLeaveScopes, CancelsStop};
 ghost use Rattle.night_drive.specs.Turns.{DerivesStandLast, FinishesEnd, FinishesStop};
-ghost use Rattle.night_drive.specs.Turns.{GroupsLeaveGroups, OthersLeaveCommands, OthersLeaveGroups};
-ghost use Rattle.night_drive.specs.Turns.{StartsBegin, WithdrawalsLeaveCommands};
+ghost use Rattle.night_drive.specs.Turns.{GroupsLeaveGroups, OthersLeaveCommands};
+ghost use Rattle.night_drive.specs.Turns.{OthersLeaveGroups};
+ghost use Rattle.night_drive.specs.Turns.{StartsBegin, WaitsStop, WithdrawalsLeaveCommands};
 
 /// A start begins the command of its task, and changes no fact about any other command. The task
 /// wasn't started before, and no later task is a try of its command.
@@ -54,6 +55,12 @@ pub fn a_new_scope_stands_last()
 /// reaches are done. All other groups are done if they were before. A success changes no group.
 pub fn a_failure_stops_what_its_scope_reaches()
     ensures { FinishesStop }
+{}
+
+/// A wait for a group that isn't bare cancels the group's own scope, and the groups that this
+/// reaches are done. All other groups are done if they were before.
+pub fn a_wait_stops_what_its_scope_reaches()
+    ensures { WaitsStop }
 {}
 
 /// An event that changes no scope changes no fact about a group. A finish is such an event if the
