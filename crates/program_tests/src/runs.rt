@@ -1,5 +1,7 @@
 //! Runs of the program, and what each printed.
 
+ghost use Rattle.std.specs.Prelude.{⊤};
+
 use crate::asserts::{done, holds};
 use crate::shelves::{Shelf, said};
 use night_program::{CopyJob, Ended, FailJob, SpinJob, Streams, night};
@@ -84,6 +86,8 @@ fn list(rt: &impl Abort, alloc: Global) -> Vec<Box<dyn Job + Send>> {
 struct System(&'static str);
 
 impl FirstError for System {
+    ghost notes = { λ system error. ⊤ };
+
     fn first_error(&self) -> Option<FileError> {
         Some(said(self.0))
     }
