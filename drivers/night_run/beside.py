@@ -314,8 +314,7 @@ class Folder:
             if found and error.errno == errno.ELOOP:
                 raise NotOurs(shown, f"it is a link of {name_of(found.st_uid)}'s: no file beside"
                                      " a store may be a link; remove it") from None
-            is_odd = error.errno in (errno.ENXIO, errno.EISDIR)
-            if found and (is_odd or not is_trusted(found.st_uid)):
+            if found and (error.errno == errno.ENXIO or not is_trusted(found.st_uid)):
                 judge_file(found, shown, self.file)
             if found and error.errno in (errno.EACCES, errno.EPERM):
                 why += f"; it belongs to {name_of(found.st_uid)}, mode {mode_of(found)}"
