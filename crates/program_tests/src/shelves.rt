@@ -246,6 +246,7 @@ impl Shelf {
 fn bytes_of(alloc: Global, disk: &MemoryDisk) -> Result<Vec<u8>, FileError>
     ensures whole { IfOk result (λ bytes.
         bytes.items ≡ (⟦<MemoryDisk as RunDisk>⟧.state disk.now).now) }
+    ensures unused { IfErr result (λ error. error ≢ FileError.InUse) }
 {
     match disk.image(alloc, disk.calls(), Torn::Take) {
         Ok(bytes) => Ok(bytes),
@@ -257,6 +258,7 @@ fn bytes_of(alloc: Global, disk: &MemoryDisk) -> Result<Vec<u8>, FileError>
 fn copied(alloc: Global, disk: &MemoryDisk) -> Result<MemoryDisk, FileError>
     ensures same { IfOk result (λ copy. (⟦<MemoryDisk as RunDisk>⟧.state copy).now
         ≡ (⟦<MemoryDisk as RunDisk>⟧.state disk.now).now) }
+    ensures unused { IfErr result (λ error. error ≢ FileError.InUse) }
 {
     match MemoryDisk::from_bytes(alloc, bytes_of(alloc, disk)?) {
         Ok(copy) => Ok(copy),

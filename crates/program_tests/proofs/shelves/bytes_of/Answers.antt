@@ -12,4 +12,5 @@ returns-in-Ok c =
     record {
       whole = are_now h c.args.disk.now.tally.calls c.in-Ok.bytes.items torn.size
           (λ i below. torn.bytes i (omega (arith, below, torn.size)));
+      unused = tt;
     }
