@@ -432,15 +432,17 @@ def damaged(tries: Shared) -> None:
                   ((3, ""), "night-run: s.ended belongs to another store: move it away\n"))
     os.remove(f"{room.path}/s.ended")
     os.remove(f"{room.path}/s.log")
-    for make, what in (os.mkdir, "folder"), (os.mkfifo, "pipe"):
-        room = Room(tries, [job("g", "a", 1)])
-        make(f"{room.path}/s.log")
-        room.script([])
-        tries.is_same("a log that is no file", make.__name__,
-                      (room.run(seconds=40)[0], room.has("begun")), (3, False))
-        tries.holds("a log that is no file: it is named, and why", make.__name__,
-                    f"night-run: s.log: it is no regular file, but a {what} (" in room.errors,
-                    room.errors)
+    room = Room(tries, [job("g", "a", 1)])
+    os.mkdir(f"{room.path}/s.log")
+    room.script([])
+    tries.is_same("a log that can't be written", room.path, room.run(seconds=40)[0], 0)
+    room = Room(tries, [job("g", "a", 1)])
+    os.mkfifo(f"{room.path}/s.log")
+    room.script([])
+    tries.is_same("a pipe at the log's name", room.path,
+                  (room.run(seconds=40)[0], room.has("begun")), (3, False))
+    tries.holds("a pipe at the log's name: it is named, and why", room.path,
+                "night-run: s.log: it is no regular file, but a pipe (" in room.errors, room.errors)
     for name in ("s.ended", "s.pids", "s.lock"):
         room = Room(tries, [job("g", "a")])
         room.script([])

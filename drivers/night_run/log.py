@@ -161,7 +161,7 @@ class Log:
             size = os.fstat(self.file).st_size
             is_cut = size and os.pread(self.file, 1, size - 1) != b"\n"
             self.write("\n" if is_cut else "" if size else HEAD)
-        except (NotOurs, IsADirectoryError):
+        except NotOurs:
             raise
         except OSError as error:
             self.failed(error)
