@@ -129,8 +129,8 @@ def main() -> int:
     write_every_sign()
     signal.signal(signal.SIGTERM, end)  # (which ends rt ci, too)
     os.chdir(TOP)
-    # (without RT_JOBS `rt ci` plans with the memory that a check of so many lines may take, and
-    # none of ours does)
+    # (without RT_JOBS `rt ci` plans with the memory that a check of that many lines may take,
+    # and none of ours does)
     os.environ["RT_JOBS"] = os.environ.get("RT_JOBS") or str(machine.checks_at_once())
     print(f"run: {os.environ['RT_JOBS']} checks side by side (RT_JOBS)", flush=True)
     ran = prove()

@@ -21,7 +21,7 @@ from running import bytes_of
 
 IN_USE = re.compile(r"night-run: s: in use by another night-run.*\n")
 YEAR = 365 * 86_400
-# How far the clock is set amid a night, in seconds, and for each of the nights after it: then the
+# How far the clock is set during a night, in seconds, and for each of the nights after it: then the
 # store's own clock is ahead.
 CLOCKS, LATER = (0, -3600, 3600, -400 * 86_400, YEAR, 32 * YEAR), (0, 32 * YEAR, 0)
 
@@ -97,9 +97,9 @@ def two_nights_at_once(tries: Shared) -> None:
 # --- the clock
 
 def clock_is_set(tries: Shared) -> None:
-    """The clock is set ahead and back amid a night: no command is stopped by that, and a retry
+    """The clock is set ahead and back during a night: no command is stopped by that, and a retry
     waits for seconds. Nor does the next night end by it, whose store has a clock that was ahead."""
-    kind, library = "a clock that is set amid a night", tries.built("nights_clock.c")
+    kind, library = "a clock that is set during a night", tries.built("nights_clock.c")
     if not library:
         tries.skip(kind, "no cc")
         return

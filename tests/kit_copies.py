@@ -7,7 +7,7 @@ from collections.abc import Iterable
 LACKING = """
 if __name__ != "__main__":
     for _it in {names!r}:
-        if _it.startswith("rtlib."):
+        if _it.startswith("rtlib.") and "rtlib" in globals():
             rtlib.__dict__.pop(_it.removeprefix("rtlib."), None)
     for _it in {names!r}:
         globals().pop(_it, None)
@@ -38,8 +38,10 @@ def lay(kit: str, folder: str) -> str:
         for it in os.listdir(f"{kit}/{below}"):
             if it not in ("bin", "rt", "rtlib.py"):
                 os.symlink(f"{kit}/{below}{it}", f"{folder}/{below}{it}")
-    for it in ("rt", "rtlib.py"):  # (these go by the folder that they are in)
-        shutil.copy(f"{kit}/bin/{it}", f"{folder}/bin/{it}")
+    # (these go by the folder that they are in; a kit may lack the second)
+    for it in ("rt", "rtlib.py"):
+        if os.path.exists(f"{kit}/bin/{it}"):
+            shutil.copy(f"{kit}/bin/{it}", f"{folder}/bin/{it}")
     return f"{folder}/bin"
 
 

@@ -10,7 +10,7 @@ from dataclasses import dataclass, field
 from . import Fault
 from .settings import short
 
-# A line has so many bytes at most.
+# A line has at most this many bytes.
 LONGEST_LINE = 64
 LINE = re.compile("(begin|stop|later) (0|[1-9][0-9]{0,12})|stands (0|[1-9][0-9]{0,12})"
                   " (pending|ready|waiting|busy|ok|failed|canceled|given-up)(?: [0-9]{1,13})?")
@@ -27,7 +27,7 @@ class Answer:
     stands: list[str] = field(default_factory=list)
 
     def takes(self, line: str, count: int) -> bool:
-        """Takes in a line, of a plan of so many commands; whether it has the form of one."""
+        """Takes in a line of a plan of `count` commands; returns whether it has the form of one."""
         found = LINE.fullmatch(line)
         if not found:
             return False
@@ -45,7 +45,7 @@ class Answer:
 
 
 def longest(count: int) -> int:
-    """The most bytes of an answer, of a plan of so many commands."""
+    """The most bytes that an answer for a plan of `count` commands has."""
     return LONGEST_LINE * (3 * count + 2)
 
 

@@ -10,7 +10,7 @@ import resource
 
 from . import Fault
 
-# A night opens so many at a time, beside those of commands that an earlier driver left: folders and
+# A night opens this many at a time, beside those of commands that an earlier driver left: folders and
 # files beside its store, and pipes to a `night` that begins.
 NEEDED = 16
 

@@ -60,7 +60,7 @@ fn texts_of(alloc: Global, words: &[&str]) -> Result<Vec<String>, AllocError> {
     Ok(texts)
 }
 
-/// Says whether this word over this store is told, with its flag or without one.
+/// Whether the request is this word over this store, with its flag or without one.
 fn is_store(told: &Told, word: &str, store: &str, is_set: bool) -> bool {
     match told {
         Told::Store(its, name, flag) => *its == word && *name == store && *flag == is_set,
@@ -68,7 +68,7 @@ fn is_store(told: &Told, word: &str, store: &str, is_set: bool) -> bool {
     }
 }
 
-/// Says whether a run over this store is told, strict or not, and by the machine's time or not.
+/// Whether the request is a run over this store, strict or not, and by the machine's time or not.
 fn is_script(told: &Told, store: &str, strict: bool, is_timed: bool) -> bool {
     match told {
         Told::Script(name, s, t) => *name == store && *s == strict && *t == is_timed,

@@ -31,7 +31,7 @@ use Rattle.night_drive.proofs.Leaving.{line_pushed, night_pushed}
 use Rattle.night_drive.proofs.Searching.{last_alike_below, last_within}
 use Rattle.night_drive.proofs.Staying.{tick_unhit}
 
--- The rows of q are those of p, and this one behind them. Its parent was there before.
+-- The rows of q are those of p, and this one after them. Its parent was there before.
 record HasOneMore (p q : State) (new : Scope) : Type 0 where
   pub numbered : AreNumbered p
   pub pushed : q.tree.scopes ≡ p.tree.scopes ++ new ∷ []

@@ -34,7 +34,7 @@ use Rattle.night_drive.proofs.Staying.{group_end_keeps, owned_stays, row_by_row,
 use Rattle.night_drive.proofs.Staying.{same_scopes, unhit, unmarked}
 use Rattle.night_drive.proofs.Turning.{failing, known_is, try_is}
 
--- At most one task comes behind those that were there, and it doesn't count.
+-- At most one task comes after those that were there, and it doesn't count.
 abbrev pub OneMore : (p q : State) → Type 0
 OneMore p q =
     (length q.work.tasks ≡ length p.work.tasks)

@@ -4,7 +4,7 @@ use Rattle.night_plan.specs.declared.commands.Command.{Command}
 use Rattle.night_plan.specs.declared.commands.Plan.{Plan}
 use Rattle.night_drive.specs.declared.names.Names.{Names}
 
--- A name without two hyphens in a row. (45 is a hyphen, and behind the end each byte is 0.)
+-- A name without two hyphens in a row. (45 is a hyphen, and after the end each byte is 0.)
 abbrev pub IsPlain : List ℕ → Type 0
 IsPlain name = (i : ℕ) → slice_index name i ≡ 45 → slice_index name (i + 1) ≡ 45 → ⊥
 

@@ -14,7 +14,7 @@ use crate::links::{Links, last_unranked, link};
 use std::alloc::{AllocError, Global};
 
 /// A command without a rank that a need names, if there is one. The cursor of a group is where it
-/// is looked for; those behind it have ranks.
+/// is looked for; those after it have ranks.
 fn unranked_by(
     commands: &[Command],
     ranks: &[usize],

@@ -57,7 +57,7 @@ Refuses why ended e0 e1 =
 module _ {F D : Type 0} (state : D → DiskState) (seen : FilesView F D) where
   -- ---- crew
 
-  -- The file of this name was opened, and so many workers worked off its tasks. If their jobs had
+  -- The file of this name was opened, and this many workers worked off its tasks. If their jobs had
   -- to be known, the store was read first, and has no task of an unknown job that hasn't ended. The
   -- file is the disk that the night left.
   pub record Works (store : List ℕ) (workers : ℕ) (known : Bool) (answer : Result Done Failure)
@@ -104,8 +104,8 @@ module _ {F D : Type 0} (state : D → DiskState) (seen : FilesView F D) where
 
   -- ---- all subcommands
 
-  -- What was asked for was done, with so many lists of jobs and a clock that shows these moments. A
-  -- subcommand that needs no input, or no files, leaves them untouched.
+  -- What was asked for was done, with this many lists of jobs and a clock that shows these moments.
+  -- A subcommand that needs no input, or no files, leaves them untouched.
   abbrev pub Does : Request → (lists : ℕ) → (moments : Option (List ℕ)) → Result Done Failure
       → (f0 f1 : F) → (r0 r1 w0 w1 : Option (List ℕ)) → Type 0
   Does (Demo strict) lists moments answer f0 f1 r0 r1 w0 w1 =
@@ -143,7 +143,7 @@ IsRefused why ended f0 f1 r0 r1 w0 w1 e0 e1 =
 
 module _ {F D : Type 0} (state : D → DiskState) (seen : FilesView F D)
     (Stream : RunFault → Option FileFailure → Type 0) where
-  -- What the arguments ask for was done, with so many lists of jobs and a clock that shows these
+  -- What the arguments ask for was done, with this many lists of jobs and a clock that shows these
   -- moments, and how it ended was printed, with the stream that is to blame for a fault (Stream). A
   -- hint was printed before, if the input is a terminal.
   abbrev pub Obeys : Result Request WordsFault → (lists : ℕ) → (moments : Option (List ℕ))

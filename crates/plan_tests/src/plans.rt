@@ -427,8 +427,8 @@ static REFUSED: &[(Lines, Fault)] = &[
 ];
 
 /// Commands by which the plan of the tapes, which has four commands, two groups and a pool, can't
-/// grow: after a command behind it, after itself, of a group that there isn't, of a pool that there
-/// isn't, and with more tapes than there are.
+/// grow: after a command that comes later, after itself, of a group that there isn't, of a pool
+/// that there isn't, and with more tapes than there are.
 static NO_GROWTH: &[(Line, Fault)] = &[
     ((0, 0, &[(Well, One(5))], &[], 0), Fault::Unknown(4)),
     ((0, 0, &[(Well, One(4))], &[], 0), Fault::Unknown(4)),

@@ -89,12 +89,12 @@ IsRefused ToLook shelf name error = error ≡ InUse → spot_at shelf name ≡ H
 IsRefused ToMake shelf name error = ⊤
 IsRefused ToReplace shelf name error = (error ≡ InUse) × (shelf.is_kept ≡ true)
 
--- The first error of a disk that fails after so many calls; none, if it never fails.
+-- The first error of a disk that fails after this many calls. There is none if it never fails.
 abbrev pub IsBroken : (passes : ℕ) → Option FileError → Type 0
 IsBroken passes (Some error) = passes < 2 ^ 64 - 1
 IsBroken passes None = passes ≡ 2 ^ 64 - 1
 
--- The files of a shelf, over disks in these states, of which each passes so many calls.
+-- The files of a shelf, over disks in these states, each of which passes this many calls.
 abbrev pub shelf_view : {D : Type 0} → (D → DiskState) → (passes : D → ℕ) → FilesView Shelf D
 shelf_view state passes = record {
   opens = λ shelf name disk after. Takes shelf name (state disk) after;

@@ -1,4 +1,4 @@
--- Texts that are told after what was buffered, and how one line and a whole run end.
+-- Texts that are printed after what was buffered, and how one line and a whole run end.
 use Rattle.std.specs.Prelude.{◌≡◌, ◌≢◌, ◌⊎◌, ℕ, List, [], ◌∷◌, ◌++◌, Option, length}
 use Rattle.std.specs.Prelude.{Result, Ok, Err, OnOk, OnErr}
 use Rattle.std.specs.Io.KnownBytes.{Appends}

@@ -1,4 +1,4 @@
--- A box of a job does what the job behind its vtable does.
+-- A box of a job does what the job in it does.
 use Rattle.std.proofs.Common.{◌≡◌, refl, subst, sym}
 use Rattle.std.specs.declared.dyn_box.DynBox.{DynBox}
 

@@ -25,7 +25,7 @@ pub fn holds(rt: &impl Abort, it: bool, what: &str, row: u64) {
     assert!(rt; it, "{what}, {row}");
 }
 
-/// Asserts that something holds after so many calls, torn in this way.
+/// Asserts that something holds after this many calls, torn in this way.
 pub fn holds_after(rt: &impl Abort, it: bool, calls: u64, torn: Torn) {
     assert!(rt; it, "after call {calls}, {torn:?}");
 }

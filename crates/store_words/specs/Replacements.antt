@@ -32,16 +32,16 @@ module _ {F D : Type 0} (state : D → DiskState) (seen : FilesView F D) where
       (f1 ≡ f0) ⊎ ((rest : D) × (opened : F) × seen.opens f0 name rest opened
       × seen.removes opened name f1)
 
-  -- The file of this name was made anew, with the size of a store of this layout, and no other file
-  -- touched. What was there before was taken away.
+  -- The file of this name was replaced by a new one, with the size of a store of this layout, and
+  -- no other file was touched. What was there before was taken away.
   pub record MakesBeside (name : List ℕ) (layout : Layout) (given : D) (f0 f1 : F) : Type 0 where
     pub before : F
     pub cleared : Clears name f0 before
     pub makes : Makes state seen name layout true true given before f1
 
-  -- The file of this name couldn't be made anew, and no other file was touched. Either another
-  -- program has it open, and nothing was done; or the making returned this error. What was there
-  -- before may be gone then, and what was made of it may be there.
+  -- The file of this name couldn't be replaced by a new one, and no other file was touched. Either
+  -- another program has it open, and nothing was done; or the making returned this error. What was
+  -- there before may be gone then, and what was made of it may be there.
   pub record LacksBeside (name : List ℕ) (error : FileError) (f0 f1 : F) : Type 0 where
     pub before : F
     pub cleared : Clears name f0 before
