@@ -73,17 +73,17 @@ BODIES: dict[Place, str] = {
         }
         unreachable!()
         """,
-    ("bells.rt", "ring"): """
+    ("flush_signals.rt", "wake"): """
         let mut marks = self.marks.lock(rt);
         marks.event = marks.event.max(event);
         self.moved.notify_all();
         """,
-    ("bells.rt", "close"): """
+    ("flush_signals.rt", "close"): """
         let mut marks = self.marks.lock(rt);
         marks.closed = true;
         self.moved.notify_all();
         """,
-    ("bells.rt", "wait"): """
+    ("flush_signals.rt", "wait"): """
         let mut marks = self.marks.lock(rt);
         for _ in rt.forever() {
             if marks.closed {
@@ -99,7 +99,7 @@ BODIES: dict[Place, str] = {
     ("thread_calls.rt", "start"): """
         self.arrivals.come();
         let mut place = self.shared.lock(self.rt);
-        let started = place.start_as(seat);
+        let started = place.start_as(own);
         if started.is_err() {
             self.arrivals.go();
         }
@@ -112,22 +112,22 @@ BODIES: dict[Place, str] = {
     ("thread_calls.rt", "finish"): """
         self.arrivals.come();
         let mut place = self.shared.lock(self.rt);
-        let finished = place.finish_as(seat, task, outcome);
+        let finished = place.finish_as(own, task, outcome);
         self.arrivals.go();
         // place is dropped
         finished
         """,
-    ("thread_calls.rt", "ring"): """
-        self.bell.ring(self.rt, event);
+    ("thread_calls.rt", "wake"): """
+        self.signal.wake(self.rt, event);
         """,
     ("flusher_calls.rt", "wait"): """
-        self.bell.wait(self.rt, heard)
+        self.signal.wait(self.rt, heard)
         """,
     ("flusher_calls.rt", "save"): """
         self.arrivals.come();
         save(self.rt, self.shared, self.arrivals, event)
         """,
-    ("flusher_calls.rt", "save_rings"): """
+    ("flusher_calls.rt", "save_wakes"): """
         let mut heard = 0;
         for _ in rt.forever() {
             let Some(event) = flusher.wait(heard) else {
@@ -140,7 +140,7 @@ BODIES: dict[Place, str] = {
         """,
     ("courses.rt", "take_tasks"): """
         for _ in rt.forever() {
-            if !take_task(worker, seat, notes) {
+            if !take_task(worker, own, notes) {
                 return;
             }
         }
@@ -150,12 +150,12 @@ BODIES: dict[Place, str] = {
         if notes.is_full() {
             return false;
         }
-        let Some(started) = start(worker, seat) else {
+        let Some(started) = start(worker, own) else {
             return false;
         };
         let task = started.info.task;
         let outcome = run(worker, &started.info);
-        let Ok(event) = worker.finish(seat, task, &outcome) else {
+        let Ok(event) = worker.finish(own, task, &outcome) else {
             return false;
         };
         notes.note(Note {
@@ -163,12 +163,12 @@ BODIES: dict[Place, str] = {
             task,
             outcome,
         });
-        worker.tell(task);
-        worker.ring(event);
+        worker.report(task);
+        worker.wake(event);
         true
         """,
     ("courses.rt", "start"): """
-        let Ok(started) = worker.start(seat) else {
+        let Ok(started) = worker.start(own) else {
             return None;
         };
         match worker.save(started.event) {
@@ -179,54 +179,54 @@ BODIES: dict[Place, str] = {
     ("workers.rt", "work"): """
         let WorkerStart {
             jobs,
-            mut seat,
+            mut own,
             mut notes,
         } = self;
         let mut place = ThreadCalls {
             rt,
             shared,
             arrivals,
-            bell,
+            signal,
             gate,
             jobs,
         };
-        take_tasks(rt, &mut place, &mut seat, &mut notes);
-        WorkerEnd { seat, notes }
+        take_tasks(rt, &mut place, &mut own, &mut notes);
+        WorkerEnd { own, notes }
         """,
     ("nights.rt", "save_at"): """
         let mut flusher = ThreadFlusher {
             rt,
             shared,
             arrivals,
-            bell,
+            signal,
         };
-        save_rings(rt, &mut flusher);
+        save_wakes(rt, &mut flusher);
         """,
     ("nights.rt", "shifts_of"): """
         let count = workers.len();
         let mut handles = Vec::with_capacity(alloc, count)?;
         let shifts = Vec::with_capacity(alloc, count)?;
-        let bell = Bell::new();
-        let bell = &bell;
+        let signal = FlushSignal::new();
+        let signal = &signal;
         let arrivals = Arrivals::new();
         let arrivals = &arrivals;
         thread::scope(
             thread::scope_env(),
             rt,
             |scope| -> Result<Vec<WorkerEnd<S, F>>, AllocError> {
-                let flusher = scope.spawn(move || save_at(rt, shared, arrivals, bell))?;
+                let flusher = scope.spawn(move || save_at(rt, shared, arrivals, signal))?;
                 start_each(
                     scope,
                     rt,
                     shared,
                     arrivals,
-                    bell,
+                    signal,
                     gate,
                     workers,
                     &mut handles,
                 );
                 let left = joined(rt, gate, handles, shifts, count);
-                bell.close(rt);
+                signal.close(rt);
                 flusher.join(rt);
                 left
             },
@@ -241,7 +241,7 @@ BODIES: dict[Place, str] = {
             };
             match scope.spawn_with(
                 promise,
-                move || -> WorkerEnd<S, F> { worker.work(rt, shared, arrivals, bell, gate) },
+                move || -> WorkerEnd<S, F> { worker.work(rt, shared, arrivals, signal, gate) },
             ) {
                 Ok(handle) => handles.push_reserved(handle),
                 Err(_) => {}
@@ -258,21 +258,21 @@ BODIES: dict[Place, str] = {
         Ok(shifts)
         """,
     ("nights.rt", "run_night"): """
-        let lists = run_shifts(rt, alloc, shared, seat, jobs, gate);
-        let last = shared.lock(rt).flush_as(seat);
+        let lists = run_shifts(rt, alloc, shared, own, jobs, gate);
+        let last = shared.lock(rt).flush_as(own);
         Ok((lists?, last))
         """,
     ("nights.rt", "run_shifts"): """
         let Ok(mut notes) = Vec::with_capacity(alloc, jobs.len()) else {
             return Err(Fault::Memory);
         };
-        let Ok(workers) = workers_of(alloc, seat, jobs) else {
+        let Ok(workers) = workers_of(alloc, own, jobs) else {
             return Err(Fault::Memory);
         };
         let Ok(shifts) = shifts_of(rt, alloc, shared, workers, gate) else {
             return Err(Fault::Memory);
         };
-        gather(seat, shifts, &mut notes);
+        gather(own, shifts, &mut notes);
         Ok(notes)
         """,
 }
@@ -309,7 +309,7 @@ class Crew:
         return f"{self.workers} workers, {self.tasks} tasks{''.join(beside)}"
 
 
-# What lies under the lock, the arrivals and the bell, and then each thread.
+# What lies under the lock, the arrivals and the signal, and then each thread.
 State = tuple[tuple[int, ...], ...]
 
 
@@ -318,7 +318,7 @@ class Night:
     joins all others. Workers are alike: in a state their order is that of their numbers."""
 
     __slots__ = ("locked", "events", "durable", "ready", "broken", "awake", "asleep", "flushes",
-                 "rung", "closed", "dozes",
+                 "signaled", "closed", "dozes",
                  "at", "event", "test", "ok", "kept", "sleeps", "crew", "ends", "pick", "picks",
                  "is_idle")
 
@@ -328,8 +328,8 @@ class Night:
         self.ready = crew.tasks
         # the counters of the arrivals
         self.awake = self.asleep = self.flushes = 0
-        # the bell: its event, whether it is closed, and how the flusher dozes there
-        self.rung = self.closed = self.dozes = 0
+        # the signal: its event, whether it is closed, and how the flusher dozes there
+        self.signaled = self.closed = self.dozes = 0
         # of each thread its next statement, its event, the last test, what was answered, the number
         # that a statement keeps for another one, and how it sleeps at the arrivals
         self.at, self.event, self.test, self.ok, self.kept, self.sleeps = (
@@ -340,13 +340,13 @@ class Night:
 
     def state(self) -> State:
         shared = (self.locked, self.events, self.durable, self.ready, self.broken, self.awake,
-                  self.asleep, self.flushes, self.rung, self.closed, self.dozes)
+                  self.asleep, self.flushes, self.signaled, self.closed, self.dozes)
         threads = [*zip(self.at, self.event, self.test, self.ok, self.kept, self.sleeps)]
         return (shared, *sorted(threads[:-2]), *threads[-2:])
 
     def restore(self, state: State) -> None:
         (self.locked, self.events, self.durable, self.ready, self.broken, self.awake,
-         self.asleep, self.flushes, self.rung, self.closed, self.dozes) = state[0]
+         self.asleep, self.flushes, self.signaled, self.closed, self.dozes) = state[0]
         self.at, self.event, self.test, self.ok, self.kept, self.sleeps = (
             [*column] for column in zip(*state[1:]))
         self.pick, self.picks, self.is_idle = 0, 1, False
@@ -490,7 +490,7 @@ def unlock(it: Night, me: int) -> None:
     it.locked = 0
 
 
-@does("thread_calls.rt", "let started = place.start_as(seat)")
+@does("thread_calls.rt", "let started = place.start_as(own)")
 def start_as(it: Night, me: int) -> None:
     it.ok[me] = it.ready > 0 and not it.broken
     if it.ok[me]:
@@ -499,7 +499,7 @@ def start_as(it: Night, me: int) -> None:
         it.event[me] = it.events
 
 
-@does("thread_calls.rt", "let finished = place.finish_as(seat, task, outcome)")
+@does("thread_calls.rt", "let finished = place.finish_as(own, task, outcome)")
 def finish_as(it: Night, me: int) -> None:
     it.ok[me] = not it.broken
     if it.ok[me]:
@@ -536,7 +536,7 @@ def flush(it: Night, me: int) -> None:
         it.durable = it.events
 
 
-@does("nights.rt", "let last = shared.lock(rt).flush_as(seat)", is_step=True)
+@does("nights.rt", "let last = shared.lock(rt).flush_as(own)", is_step=True)
 def flush_last(it: Night, me: int) -> bool:
     if it.locked:
         return False
@@ -544,59 +544,59 @@ def flush_last(it: Night, me: int) -> bool:
     return True
 
 
-# The bell. A turn of its lock is one step.
+# The signal. A turn of its lock is one step.
 
-@does("bells.rt", "let mut marks = marks.lock(rt)", is_step=True)
+@does("flush_signals.rt", "let mut marks = marks.lock(rt)", is_step=True)
 def lock_marks(it: Night, me: int) -> None:
     pass
 
 
-@does("bells.rt", "marks.event = marks.event.max(event)")
-def ring(it: Night, me: int) -> None:
-    it.rung = max(it.rung, it.event[me])
+@does("flush_signals.rt", "marks.event = marks.event.max(event)")
+def wake(it: Night, me: int) -> None:
+    it.signaled = max(it.signaled, it.event[me])
 
 
-@does("bells.rt", "marks.event = event")
-def ring_last(it: Night, me: int) -> None:
-    it.rung = it.event[me]
+@does("flush_signals.rt", "marks.event = event")
+def signal_last(it: Night, me: int) -> None:
+    it.signaled = it.event[me]
 
 
-@does("bells.rt", "marks.event = marks.event.min(event)")
-def ring_first(it: Night, me: int) -> None:
-    it.rung = min(it.rung or it.event[me], it.event[me])
+@does("flush_signals.rt", "marks.event = marks.event.min(event)")
+def signal_first(it: Night, me: int) -> None:
+    it.signaled = min(it.signaled or it.event[me], it.event[me])
 
 
-@does("bells.rt", "marks.closed = true")
+@does("flush_signals.rt", "marks.closed = true")
 def close(it: Night, me: int) -> None:
     it.closed = 1
 
 
-@does("bells.rt", "moved.notify_all()")
+@does("flush_signals.rt", "moved.notify_all()")
 def call(it: Night, me: int) -> None:
     it.dozes = WOKEN if it.dozes == ASLEEP else it.dozes
 
 
-@does("bells.rt", "if marks.closed")
+@does("flush_signals.rt", "if marks.closed")
 def is_closed(it: Night, me: int) -> None:
     it.test[me] = it.closed
 
 
-@does("bells.rt", "if marks.event > heard")
+@does("flush_signals.rt", "if marks.event > heard")
 def is_later(it: Night, me: int) -> None:
-    it.test[me] = it.rung > it.event[me]
+    it.test[me] = it.signaled > it.event[me]
 
 
-@does("bells.rt", "return Some(marks.event)")
+@does("flush_signals.rt", "return Some(marks.event)")
 def hear(it: Night, me: int) -> None:
-    it.test[me], it.event[me] = True, it.rung
+    it.test[me], it.event[me] = True, it.signaled
 
 
-@does("bells.rt", "marks = moved.wait(rt, marks)")
+@does("flush_signals.rt", "marks = moved.wait(rt, marks)")
 def doze(it: Night, me: int) -> None:
     it.dozes = ASLEEP
 
 
-@does("bells.rt", "marks = moved.wait(rt, marks)", is_step=True)
+@does("flush_signals.rt", "marks = moved.wait(rt, marks)", is_step=True)
 def rise(it: Night, me: int) -> bool:
     it.is_idle = it.dozes == ASLEEP
     if it.is_idle and not it.crew.wakes:
@@ -636,13 +636,13 @@ def end(it: Night, me: int) -> None:
 @does("arrivals.rt", "if true")
 @does("thread_calls.rt", "if true")
 @does("nights.rt", "let Ok(mut notes) = Vec::with_capacity(alloc, jobs.len()) else",
-      "let Ok(workers) = workers_of(alloc, seat, jobs) else", "left")
+      "let Ok(workers) = workers_of(alloc, own, jobs) else", "left")
 def yes(it: Night, me: int) -> None:
     it.test[me] = True
 
 
 @does("saves.rt", "return Err(trouble)")
-@does("bells.rt", "return None")
+@does("flush_signals.rt", "return None")
 @does("courses.rt", "if notes.is_full()", "return None")
 @does("nights.rt", "if shifts.len() < count")
 def no(it: Night, me: int) -> None:
@@ -671,24 +671,24 @@ does("saves.rt", "if !arrivals.is_last()")(invert)
 calls("saves.rt", "place = arrivals.sleep(rt, place)", "arrivals.rt", "sleep")
 calls("saves.rt", "arrivals.wake(&place)", "arrivals.rt", "wake")
 calls("thread_calls.rt", "save(rt, shared, arrivals, event)", "saves.rt", "save")
-calls("thread_calls.rt", "bell.ring(rt, event)", "bells.rt", "ring")
-calls("flusher_calls.rt", "bell.wait(rt, heard)", "bells.rt", "wait")
+calls("thread_calls.rt", "signal.wake(rt, event)", "flush_signals.rt", "wake")
+calls("flusher_calls.rt", "signal.wait(rt, heard)", "flush_signals.rt", "wait")
 calls("flusher_calls.rt", "save(rt, shared, arrivals, event)", "saves.rt", "save")
 calls("flusher_calls.rt", "let Some(event) = flusher.wait(heard) else", "flusher_calls.rt", "wait")
 calls("flusher_calls.rt", "let _ = flusher.save(event)", "flusher_calls.rt", "save")
 does("flusher_calls.rt", "let _ = flusher.save(event)")(no)
-calls("courses.rt", "if !take_task(worker, seat, notes)", "courses.rt", "take_task")
-does("courses.rt", "if !take_task(worker, seat, notes)")(invert)
-calls("courses.rt", "let Some(started) = start(worker, seat) else", "courses.rt", "start")
-calls("courses.rt", "let Ok(started) = worker.start(seat) else", "thread_calls.rt", "start")
+calls("courses.rt", "if !take_task(worker, own, notes)", "courses.rt", "take_task")
+does("courses.rt", "if !take_task(worker, own, notes)")(invert)
+calls("courses.rt", "let Some(started) = start(worker, own) else", "courses.rt", "start")
+calls("courses.rt", "let Ok(started) = worker.start(own) else", "thread_calls.rt", "start")
 calls("courses.rt", "match worker.save(started.event)", "thread_calls.rt", "save")
-calls("courses.rt", "let Ok(event) = worker.finish(seat, task, &outcome) else", "thread_calls.rt",
+calls("courses.rt", "let Ok(event) = worker.finish(own, task, &outcome) else", "thread_calls.rt",
       "finish")
-calls("courses.rt", "worker.ring(event)", "thread_calls.rt", "ring")
-calls("workers.rt", "take_tasks(rt, &mut place, &mut seat, &mut notes)", "courses.rt", "take_tasks")
-calls("nights.rt", "save_rings(rt, &mut flusher)", "flusher_calls.rt", "save_rings")
-calls("nights.rt", "bell.close(rt)", "bells.rt", "close")
-calls("nights.rt", "let lists = run_shifts(rt, alloc, shared, seat, jobs, gate)", "nights.rt",
+calls("courses.rt", "worker.wake(event)", "thread_calls.rt", "wake")
+calls("workers.rt", "take_tasks(rt, &mut place, &mut own, &mut notes)", "courses.rt", "take_tasks")
+calls("nights.rt", "save_wakes(rt, &mut flusher)", "flusher_calls.rt", "save_wakes")
+calls("nights.rt", "signal.close(rt)", "flush_signals.rt", "close")
+calls("nights.rt", "let lists = run_shifts(rt, alloc, shared, own, jobs, gate)", "nights.rt",
       "run_shifts")
 calls("nights.rt", "let Ok(shifts) = shifts_of(rt, alloc, shared, workers, gate) else",
       "nights.rt", "shifts_of")
@@ -702,13 +702,13 @@ IDLE: dict[str, tuple[str, ...]] = {
     "saves.rt": ("let durable = place.durable()",),
     "flusher_calls.rt": ("return", "heard = event"),
     "courses.rt": ("return", "let task = started.info.task", "notes.note(Note)",
-                   "worker.tell(task)", "Ok(_) => Some(started), Err(_) => None,"),
+                   "worker.report(task)", "Ok(_) => Some(started), Err(_) => None,"),
     "workers.rt": ("let WorkerStart = self", "let mut place = ThreadCalls", "WorkerEnd"),
     "nights.rt": ("let mut flusher = ThreadFlusher",
                   *statements(BODIES["nights.rt", "shifts_of"])[:9],
                   *statements(BODIES["nights.rt", "start_each"]), "for handle in handles",
                   "return Err(AllocError)", "Ok(shifts)", "return Err(Fault::Memory)",
-                  "gather(seat, shifts, &mut notes)", "Ok(notes)", "Ok((lists?, last))"),
+                  "gather(own, shifts, &mut notes)", "Ok(notes)", "Ok((lists?, last))"),
 }
 for _file, _lines in IDLE.items():
     for _line in _lines:

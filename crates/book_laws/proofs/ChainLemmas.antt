@@ -24,7 +24,7 @@ use Rattle.run_journal.proofs.LayoutLemmas.{one_layout}
 use Rattle.model_laws.proofs.Interrupts.{restarted as interrupted}
 use Rattle.book_model.specs.Books.{CarriesOn, BookView, IsOpened, IsUnsaved, acked}
 use Rattle.book_model.specs.Nights.{opened_from}
-use Rattle.book_model.specs.Openings.{Formats, FormatsNot, HasFormatted, Opens, StopsFormat}
+use Rattle.book_model.specs.Openings.{Formats, FormatsNot, HasFormatted, Opens, CrashesInFormat}
 use Rattle.book_model.specs.Plays.{Playing, Plays, is_device_failure, next_session, sound, taken}
 use Rattle.book_model.specs.Steps.{PlaysInto, playing}
 use Rattle.book_model.specs.Stores.{Stores, StoresPrefix, StoresNothingOr, StoresOpened, restarted}
@@ -88,8 +88,8 @@ pub stops_later : (old mid new : DiskState) (why : Trouble) → old.failures ≤
     → StopsFor mid new why → StopsFor old new why
 stops_later old mid new why later (inl memory) = inl memory
 stops_later old mid new why later (inr (inl spent)) = inr (inl spent)
-stops_later old mid new why later (inr (inr (told, fails))) =
-    inr (inr (told, fails_later old mid new later fails))
+stops_later old mid new why later (inr (inr (reported, fails))) =
+    inr (inr (reported, fails_later old mid new later fails))
 
 pub stopped_later : {D X : Type 0} (state : D → DiskState) (old mid : DiskState)
     (result : Result X (Trouble × D)) → old.failures ≤ mid.failures
@@ -268,14 +268,14 @@ module _ {D : Type 0} (state : D → DiskState) (given : D) (p : State) (steps :
       → StopsFor (state given) (state new.journal.disk) why
   unsaved_why why new (inl refused) =
       inr (inr (
-        inr refused.told,
+        inr refused.reported,
         subst (λ (h : BookView D). DeviceFails (state given) (state h.journal.disk))
             (sym refused.same) (broken_why refused.was),
       ))
-  unsaved_why why new (inr (inl spent)) = inr (inl spent.told)
+  unsaved_why why new (inr (inl spent)) = inr (inl spent.reported)
   unsaved_why why new (inr (inr failed)) =
       inr (inr (
-        inl failed.told,
+        inl failed.reported,
         fails_later (state given) (state b.journal.disk) (state new.journal.disk)
             (omega (arith, is.opened.passed.failures_later, is.on.passed.failures_later))
             failed.cause,
@@ -341,7 +341,7 @@ module _ {D : Type 0} (state : D → DiskState) (given : D) (layout : Layout)
 
   stops : (new : D) (other : Layout) → (state given).honest → IsAtRest (state given)
       → AreZeros (state given).now → (state given).size ≡ store_len other
-      → StopsFormat other (state given) (state new)
+      → CrashesInFormat other (state given) (state new)
       → LeavesOnly (StoresNothingOr (formatted layout)) (state given) (state new)
   stops new other honest rest zeros sized run =
       subst (λ l. LeavesOnly (StoresNothingOr (formatted l)) (state given) (state new))
@@ -370,11 +370,11 @@ module _ {D : Type 0} (state : D → DiskState) (given : D) (layout : Layout)
       → (state given).honest → IsAtRest (state given) → AreZeros (state given).now
       → FormatsNot state given why new → (why ≡ WrongSize) ⊎ (why ≡ DiskFailed)
       → HasStayedNew (formatted layout) steps replies replies (state given) (state new)
-  not_formatted new why steps replies honest rest zeros not told =
+  not_formatted new why steps replies honest rest zeros not reported =
       let p = formatted layout in
       let events = accepted (opened_from p) (taken steps []) in
       let left : LeavesOnly (StoresNothingOr p) (state given) (state new) =
-      elim told [
+      elim reported [
         | inl wrong ↦
             let failed = subst (λ w. FormatsNot state given w new) wrong not in
             absurd (no_size layout (state given).size whole failed.0)

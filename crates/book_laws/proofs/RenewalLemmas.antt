@@ -128,41 +128,42 @@ module _ {D E : Type 0} (from : D → DiskState) (to : E → DiskState) (old rea
 
   unwritten_old : (w : MigrateFault) (new : E) (q : State) → w ≡ why.Old fault.DiskFailed
       → WritesNot to q given w new → ⊥
-  unwritten_old w new q told is = subst (λ v. WritesNot to q given v new) told is
+  unwritten_old w new q reported is = subst (λ v. WritesNot to q given v new) reported is
 
   pub renews_old_cause : (result : Result E (MigrateFault × E))
       → Renews from to old given result read
       → MatchResult result (λ new. Unit {0})
       (λ e. e.0 ≡ why.Old fault.DiskFailed → HasCause (from old) (from read))
   renews_old_cause (Ok new) is = tt
-  renews_old_cause (Err e) is = λ told.
+  renews_old_cause (Err e) is = λ reported.
       elim is.answer [
-        | inl wrong ↦ absurd (true≢false (ap is_size (sym wrong.0 ∙ told)))
-        | inr (inl wrong) ↦ absurd (true≢false (ap is_size (sym wrong.0 ∙ told)))
-        | inr (inr (inl unread)) ↦ unread_cause from old read e.0 told unread.1
+        | inl wrong ↦ absurd (true≢false (ap is_size (sym wrong.0 ∙ reported)))
+        | inr (inl wrong) ↦ absurd (true≢false (ap is_size (sym wrong.0 ∙ reported)))
+        | inr (inr (inl unread)) ↦ unread_cause from old read e.0 reported unread.1
         | inr (inr (inr unwritten)) ↦
-            absurd (unwritten_old e.0 e.1 unwritten.1.state told unwritten.1.none)
+            absurd (unwritten_old e.0 e.1 unwritten.1.state reported unwritten.1.none)
       ]
 
   new_write_cause : (w : MigrateFault) (new : E) (q : State) → w ≡ why.New fault.DiskFailed
       → WritesNot to q given w new → HasCause (to given) (to new)
-  new_write_cause w new q told is = (subst (λ v. WritesNot to q given v new) told is).failed.cause
+  new_write_cause w new q reported is =
+      (subst (λ v. WritesNot to q given v new) reported is).failed.cause
 
   unread_new : (w : MigrateFault) → w ≡ why.New fault.DiskFailed → ReadsNot from old w read → ⊥
-  unread_new w told is = subst (λ v. ReadsNot from old v read) told is
+  unread_new w reported is = subst (λ v. ReadsNot from old v read) reported is
 
   pub renews_new_cause : (result : Result E (MigrateFault × E))
       → Renews from to old given result read
       → MatchResult result (λ new. Unit {0})
       (λ e. e.0 ≡ why.New fault.DiskFailed → HasCause (to given) (to e.1))
   renews_new_cause (Ok new) is = tt
-  renews_new_cause (Err e) is = λ told.
+  renews_new_cause (Err e) is = λ reported.
       elim is.answer [
-        | inl wrong ↦ absurd (true≢false (ap is_size (sym wrong.0 ∙ told)))
-        | inr (inl wrong) ↦ absurd (true≢false (ap is_size (sym wrong.0 ∙ told)))
-        | inr (inr (inl unread)) ↦ absurd (unread_new e.0 told unread.1)
+        | inl wrong ↦ absurd (true≢false (ap is_size (sym wrong.0 ∙ reported)))
+        | inr (inl wrong) ↦ absurd (true≢false (ap is_size (sym wrong.0 ∙ reported)))
+        | inr (inr (inl unread)) ↦ absurd (unread_new e.0 reported unread.1)
         | inr (inr (inr unwritten)) ↦
-            new_write_cause e.0 e.1 unwritten.1.state told unwritten.1.none
+            new_write_cause e.0 e.1 unwritten.1.state reported unwritten.1.none
       ]
 
   -- ---- no state

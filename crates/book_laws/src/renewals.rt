@@ -56,7 +56,7 @@ pub fn a_renewal_leaves_the_old_store_as_it_was<D: RunDisk, E: RunDisk>()
 
 /// A renewal reports the failure of a device only if a call of that disk failed, or if that disk is
 /// spent.
-pub fn a_renewal_tells_which_disk_failed<D: RunDisk, E: RunDisk>()
+pub fn a_renewal_reports_which_disk_failed<D: RunDisk, E: RunDisk>()
     ensures old { (old read : D) (given : E) (result : Result E (WhyNot × E))
         → Renews D.state E.state old given result read
         → MatchResult result (λ new. Unit {0}) (λ e. e.0 ≡ why.Old DiskFailed

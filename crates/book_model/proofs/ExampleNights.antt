@@ -6,7 +6,7 @@ use Rattle.run_model.specs.declared.answers.Reply.{Reply}
 use Rattle.run_model.specs.declared.commands.Step.{Step}
 use Rattle.run_model.specs.declared.commands.Wish.TheVariants.{Cancel}
 use Rattle.book_model.specs.Examples.Calls.{acked, derive, flush, scope_made}
-use Rattle.book_model.specs.Machines.{GoesOn, Running, StopsAt, Stored, TakesAll, opened_at, took}
+use Rattle.book_model.specs.Machines.{GoesOn, Running, CrashesAt, Stored, TakesAll, opened_at, took}
 use Rattle.book_model.specs.ManyNights.{moves_of}
 use Rattle.book_model.specs.Stores.{restarted}
 use Rattle.book_model.proofs.ManyNightsLemmas.{joined_moves, same_stored, spends, was_spent}
@@ -25,12 +25,12 @@ abbrev after_answered : Running
 after_answered = after (opened_at store) answered
 
 -- The fifth is taken, whatever it would be answered.
-last_history : (last : Running) (untold : List Reply)
-    → TakesAll after_answered (derive "d" "root" Cancel ∷ []) untold last
+last_history : (last : Running) (unreported : List Reply)
+    → TakesAll after_answered (derive "d" "root" Cancel ∷ []) unreported last
     → last.book.session.history ≡ first_events ++ two_events
 last_history last [] p = absurd p
-last_history last (r ∷ []) (told, is) = ap (λ (m : Running). m.book.session.history) is
-last_history last (r ∷ s ∷ answers) (told, p) = absurd p
+last_history last (r ∷ []) (reported, is) = ap (λ (m : Running). m.book.session.history) is
+last_history last (r ∷ s ∷ answers) (reported, p) = absurd p
 
 -- Three events or more of the five lead to one of three states.
 one_of : (many : ℕ) (q : State) → 3 ≤ many → many ≤ 5
@@ -48,22 +48,22 @@ pub three_states : (q : State) → GoesOn (Stored store) (moves_of first_night) 
     → (q ≡ after_first 3) ⊎ (q ≡ after_first 4) ⊎ (q ≡ after_first 5)
 three_states q goes =
     let spent = was_spent store (Stored q) answered (derive "d" "root" Cancel ∷ []) goes in
-    let stops = subst (λ m. StopsAt m (derive "d" "root" Cancel ∷ []) spent.state)
-    spent.takes.1.1.1.1.1 spent.stops in
-    let same = last_history stops.last stops.untold stops.takes in
-    let five : length stops.last.book.session.history ≡ 5 =
+    let crashes = subst (λ m. CrashesAt m (derive "d" "root" Cancel ∷ []) spent.state)
+    spent.takes.1.1.1.1.1 spent.crashes in
+    let same = last_history crashes.last crashes.unreported crashes.takes in
+    let five : length crashes.last.book.session.history ≡ 5 =
     ap (λ (l : List Event). length l) same in
-    let many = stops.prefix.many in
+    let many = crashes.prefix.many in
     rw (same_stored q spent.state spent.is)
-    (one_of many spent.state stops.prefix.enough (omega (arith, stops.prefix.within, five))
+    (one_of many spent.state crashes.prefix.enough (omega (arith, crashes.prefix.within, five))
     (subst (λ l. run (restarted store) (take many l) ≡ Some spent.state) same
-    stops.prefix.reached))
+    crashes.prefix.reached))
 
 -- ---- both nights
 
-stops_first : StopsAt after_answered (derive "d" "root" Cancel ∷ []) (after_first 4)
+stops_first : CrashesAt after_answered (derive "d" "root" Cancel ∷ []) (after_first 4)
 stops_first = record {
-  untold = scope_made 4 ∷ [];
+  unreported = scope_made 4 ∷ [];
   last = took after_answered (derive "d" "root" Cancel) (scope_made 4);
   takes = (inl refl, refl);
   prefix = record { many = 4; enough = omega arith; within = omega arith; reached = refl };
@@ -76,9 +76,9 @@ answered_next = (flush, acked 6) ∷ (derive "e" "root" Cancel, scope_made 4) �
 abbrev after_second : Running
 after_second = after (opened_at (after_first 4)) answered_next
 
-stops_second : StopsAt after_second [] (restarted (after_first 4))
+stops_second : CrashesAt after_second [] (restarted (after_first 4))
 stops_second = record {
-  untold = [];
+  unreported = [];
   last = after_second;
   takes = refl;
   prefix = record { many = 0; enough = omega arith; within = omega arith; reached = refl };

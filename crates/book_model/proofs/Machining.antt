@@ -8,7 +8,7 @@ use Rattle.run_model.specs.Session.{is_ack}
 use Rattle.run_disk.specs.Disk.{DiskState, IsAtRest, IsDisk}
 use Rattle.model_laws.proofs.RunLemmas.{run_counts}
 use Rattle.book_model.specs.Books.{BookView, CarriesOn, IsOpened, IsReached, acked}
-use Rattle.book_model.specs.Machines.{Goes, Machine, Move, Open, OpenInVain, Running, Runs, Stop}
+use Rattle.book_model.specs.Machines.{Goes, Machine, Move, Open, OpenInVain, Running, Runs, Crash}
 use Rattle.book_model.specs.Machines.{Stored, Take, TakesAll, opened_at, took}
 use Rattle.book_model.specs.Openings.{Opens}
 use Rattle.book_model.specs.Plays.{IsReply, IsReplyWhere, Playing, acked_of, after_answer}
@@ -28,15 +28,16 @@ use Rattle.book_model.proofs.Storing.{stores_one}
 -- The count of the session is acknowledged after an Acked, which a broken book never answers.
 pub acked_count : (b : Bool) (s : Session) (x : Step) (r : Reply) (n : ℕ)
     → IsReplyWhere b s x r → acked_of r ≡ Some n → n ≡ s.state.count
-acked_count true s x r n told some = absurd (some_none (acked_of r) n some (ap acked_of told))
-acked_count false s x r n told some = (sound_acked s x r n told some).0
+acked_count true s x r n reported some = absurd
+    (some_none (acked_of r) n some (ap acked_of reported))
+acked_count false s x r n reported some = (sound_acked s x r n reported some).0
 
 -- As many events are acknowledged after a step as the machine says.
 acked_after : {D : Type 0} (old new : BookView D) (x : Step) (r : Reply) (n : ℕ) → IsReached old
     → IsReply (playing old) x r → new.session.start ≡ old.session.start
     → new.durable ≡ unwrap_or (acked_of r) old.durable → n ≡ acked old
     → (if is_ack r then length old.session.history else n) ≡ acked new
-acked_after old new x r n is told start durable was = go (acked_of r) refl
+acked_after old new x r n is reported start durable was = go (acked_of r) refl
   where
     count : new.session.start.count ≡ old.session.start.count
     count = ap (λ (q : State). q.count) start
@@ -50,7 +51,7 @@ acked_after old new x r n is told start durable was = go (acked_of r) refl
         ap (λ k. if k then length old.session.history else n) (acked_is r none) ∙ stays
     go (Some k) some =
         let last : new.durable ≡ k = durable ∙ ap (λ o. unwrap_or o old.durable) some in
-        let all = acked_count old.journal.broken old.session x r k told some in
+        let all = acked_count old.journal.broken old.session x r k reported some in
         let counts = run_counts old.session.start old.session.state old.session.history is in
         let whole : length old.session.history ≡ acked new =
         omega (arith, last, all, counts, count) in
@@ -80,17 +81,17 @@ module _ {D : Type 0} (state : D → DiskState) where
       → AnswersStep state h x r new → CarriesOn state h new → TookAs state m x r new
   took_as h new m x r is answers on =
       let left = step_left state h x r new answers in
-      let told = steps_play state h new (x ∷ []) (r ∷ []) is.reached (new, answers, refl) in
+      let reported = steps_play state h new (x ∷ []) (r ∷ []) is.reached (new, answers, refl) in
       record {
-        reply = subst (λ b. IsReply b x r) (sym is.book) told.plays.0;
+        reply = subst (λ b. IsReply b x r) (sym is.book) reported.plays.0;
         holds = record {
           safe = safe_on state h new on is.safe;
           durable = on.images;
-          reached = told.reached;
-          book = ap (λ b. after_answer b x r) is.book ∙ sym told.plays.1;
+          reached = reported.reached;
+          book = ap (λ b. after_answer b x r) is.book ∙ sym reported.plays.1;
           acked = ap (λ (b : Playing). if is_ack r then length b.session.history else m.acked)
               is.book
-              ∙ acked_after h new x r m.acked is.reached told.plays.0 left.start left.durable
+              ∙ acked_after h new x r m.acked is.reached reported.plays.0 left.start left.durable
               is.acked;
         };
       }
@@ -164,10 +165,10 @@ module _ {D : Type 0} (state : D → DiskState) where
 
   stop_as : (h : BookView D) (next : D) (m : Running) (more : List Step)
       → ((d : D) → IsDisk (state d)) → HoldsAs state h m → CutsSteps state h more next
-      → MovesAs state (Runs m) (Stop more) (Closed next)
+      → MovesAs state (Runs m) (Crash more) (Closed next)
   stop_as h next m more disk is cut =
-      let row = row_as h cut.last m more cut.untold is cut.takes in
-      let on = row_carries state h cut.last more cut.untold disk is.durable cut.takes in
+      let row = row_as h cut.last m more cut.unreported is cut.takes in
+      let on = row_carries state h cut.last more cut.unreported disk is.durable cut.takes in
       let left = left_any_moment state h cut.last (state next).now on is.safe
       cut.finds.content in
       let q = left.state in
@@ -181,7 +182,7 @@ module _ {D : Type 0} (state : D → DiskState) where
       record {
         next = Stored q;
         goes = record {
-          untold = cut.untold;
+          unreported = cut.unreported;
           last = row.end;
           takes = row.takes;
           prefix = subst (λ n. IsPrefix m.book.session.start end.history n q) (sym is.acked)
@@ -208,8 +209,8 @@ module _ {D : Type 0} (state : D → DiskState) where
   closed_as given (Opened h) OpenInVain p is does = absurd does
   closed_as given (Closed next) (Take x r) p is does = absurd does
   closed_as given (Opened h) (Take x r) p is does = absurd does
-  closed_as given (Closed next) (Stop more) p is does = absurd does
-  closed_as given (Opened h) (Stop more) p is does = absurd does
+  closed_as given (Closed next) (Crash more) p is does = absurd does
+  closed_as given (Opened h) (Crash more) p is does = absurd does
 
   open_as : (h : BookView D) (new : Standing D) (move : Move) (m : Running)
       → ((d : D) → IsDisk (state d)) → HoldsAs state h m → Does state (Opened h) move new
@@ -218,8 +219,8 @@ module _ {D : Type 0} (state : D → DiskState) where
       let one = took_as h new m x r is answers on in
       record { next = Runs (took m x r); goes = (one.reply, refl); stands = one.holds }
   open_as h (Closed next) (Take x r) m disk is does = absurd does
-  open_as h (Closed next) (Stop more) m disk is does = stop_as h next m more disk is does
-  open_as h (Opened new) (Stop more) m disk is does = absurd does
+  open_as h (Closed next) (Crash more) m disk is does = stop_as h next m more disk is does
+  open_as h (Opened new) (Crash more) m disk is does = absurd does
   open_as h (Closed next) Open m disk is does = absurd does
   open_as h (Opened new) Open m disk is does = absurd does
   open_as h (Closed next) OpenInVain m disk is does = absurd does

@@ -10,7 +10,16 @@ use Rattle.run_model.specs.declared.commands.Step.{Step}
 use Rattle.run_model.specs.Session.{is_ack}
 use Rattle.run_disk.specs.Disk.{DiskState, IsDisk}
 use Rattle.model_laws.proofs.Stepping.{accepted_history, accepted_start}
-use Rattle.book_model.specs.Machines.{GoesOn, Machine, Move, Running, Runs, Stop, StopsAt, Stored}
+use Rattle.book_model.specs.Machines.{
+  GoesOn,
+  Machine,
+  Move,
+  Running,
+  Runs,
+  Crash,
+  CrashesAt,
+  Stored,
+}
 use Rattle.book_model.specs.Machines.{Take, TakesAll, opened_at, took}
 use Rattle.book_model.specs.ManyNights.{LeadOver, Leads, LeadsOver, Night, InVain, Spent}
 use Rattle.book_model.specs.ManyNights.{StoresAfterNights, answers_of, moves_of, steps_of}
@@ -20,10 +29,10 @@ use Rattle.book_model.specs.Standing.{Closed, DoesAll, LiesWith, StandsAs}
 use Rattle.book_model.specs.Stores.{restarted}
 use Rattle.book_model.proofs.PrefixLemmas.{take_after}
 use Rattle.book_model.proofs.Machining.{acked_count, all_as}
-use Rattle.book_model.proofs.NightLemmas.{told_enough}
+use Rattle.book_model.proofs.NightLemmas.{reported_enough}
 use Rattle.book_model.proofs.Playing.{accepted_left, ack_is, acked_is, acknowledged_first}
-use Rattle.book_model.proofs.Playing.{acknowledged_told}
-use Rattle.book_model.proofs.Stepping.{reached_after, told_last}
+use Rattle.book_model.proofs.Playing.{acknowledged_reported}
+use Rattle.book_model.proofs.Stepping.{reached_after, reported_last}
 
 -- ---- what steps leave of the machine
 
@@ -77,7 +86,7 @@ after_counts n false s x counts = by (event_of_step s x)
 acked_once : (n : ℕ) (m : Running) (x : Step) (r : Reply) → Counts n m.book.session
     → IsReply m.book x r
     → n + (took m x r).acked ≡ unwrap_or (acked_of r) (n + m.acked)
-acked_once n m x r counts told = go (acked_of r) refl
+acked_once n m x r counts reported = go (acked_of r) refl
   where
     go : (o : Option ℕ) → acked_of r ≡ o
         → n + (if is_ack r then length m.book.session.history else m.acked)
@@ -87,7 +96,7 @@ acked_once n m x r counts told = go (acked_of r) refl
         ∙ sym (ap (λ o. unwrap_or o (n + m.acked)) none)
     go (Some k) some =
         let all : k ≡ m.book.session.state.count =
-        acked_count m.book.broken m.book.session x r k told some in
+        acked_count m.book.broken m.book.session x r k reported some in
         let whole : n + length m.book.session.history ≡ k = omega (arith, counts, all) in
         ap (λ k. n + (if k then length m.book.session.history else m.acked)) (ack_is r k some)
         ∙ whole ∙ sym (ap (λ o. unwrap_or o (n + m.acked)) some)
@@ -102,7 +111,7 @@ takes_acked n m end (x ∷ steps) (r ∷ answers) counts (reply, rest) =
     takes_acked n (took m x r) end steps answers
     (after_counts n m.book.broken m.book.session x counts) rest
     ∙ ap (λ k. unwrap_or (last_acked answers) k) (acked_once n m x r counts reply)
-    ∙ told_last answers r (n + m.acked)
+    ∙ reported_last answers r (n + m.acked)
 
 -- ---- from the opening on
 
@@ -121,8 +130,8 @@ taken_acked p m steps answers takes = go (last_acked answers) refl
     none : (restarted p).count + 0 ≡ (restarted p).count
     none = omega arith
 
-    told : (restarted p).count + m.acked ≡ unwrap_or (last_acked answers) (restarted p).count
-    told = takes_acked (restarted p).count (opened_at p) m steps answers none takes
+    reported : (restarted p).count + m.acked ≡ unwrap_or (last_acked answers) (restarted p).count
+    reported = takes_acked (restarted p).count (opened_at p) m steps answers none takes
         ∙ ap (λ n. unwrap_or (last_acked answers) n) none
 
     plays : Plays (opened_at p).book steps answers m.book
@@ -131,12 +140,12 @@ taken_acked p m steps answers takes = go (last_acked answers) refl
     go : (o : Option ℕ) → last_acked answers ≡ o → m.acked ≤ length m.book.session.history
     go None is =
         let first : (restarted p).count + m.acked ≡ (restarted p).count =
-        told ∙ ap (λ o. unwrap_or o (restarted p).count) is in
+        reported ∙ ap (λ o. unwrap_or o (restarted p).count) is in
         omega (arith, first)
     go (Some n) is =
         let last : (restarted p).count + m.acked ≡ n =
-        told ∙ ap (λ o. unwrap_or o (restarted p).count) is in
-        let counted = acknowledged_told (opened_at p).book m.book steps answers n plays is in
+        reported ∙ ap (λ o. unwrap_or o (restarted p).count) is in
+        let counted = acknowledged_reported (opened_at p).book m.book steps answers n plays is in
         let order = acknowledged_first (opened_at p).book m.book steps answers plays in
         let sum = length-append (acknowledged (opened_from p) steps answers) order.0 in
         let whole : length m.book.session.history
@@ -164,12 +173,12 @@ spent p end steps answers takes =
     let plays = takes_plays m end steps answers takes in
     let order = acknowledged_first m.book end.book steps answers plays in
     let none : (restarted p).count + 0 ≡ (restarted p).count = omega arith in
-    let told : (restarted p).count + end.acked
+    let reported : (restarted p).count + end.acked
     ≡ unwrap_or (last_acked answers) (restarted p).count =
     takes_acked (restarted p).count m end steps answers none takes
     ∙ ap (λ n. unwrap_or (last_acked answers) n) none in
-    let enough = told_enough m.book end.book steps answers (restarted p).count
-    ((restarted p).count + end.acked) plays refl told in
+    let enough = reported_enough m.book end.book steps answers (restarted p).count
+    ((restarted p).count + end.acked) plays refl reported in
     record {
       start = ap (λ (s : Session). s.start) (takes_session m end steps answers takes)
           ∙ accepted_start (opened_from p) (taken steps answers);
@@ -180,35 +189,36 @@ spent p end steps answers takes =
     }
 
 led_over : (p q : State) (m : Running) (calls : List (Step × Reply)) (more : List Step)
-    → TakesAll (opened_at p) (steps_of calls) (answers_of calls) m → StopsAt m more q
+    → TakesAll (opened_at p) (steps_of calls) (answers_of calls) m → CrashesAt m more q
     → LeadsOver p calls more q
-led_over p q m calls more takes stops =
+led_over p q m calls more takes crashes =
     let s = opened_from p in
     let steps = steps_of calls in
     let answers = answers_of calls in
     let acks = acknowledged s steps answers in
     let one = spent p m steps answers takes in
-    let all = spent p stops.last (steps ++ more) (answers ++ stops.untold)
-    (takes_join (opened_at p) m stops.last steps more answers stops.untold takes stops.takes) in
-    let later = accepted m.book.session (taken more stops.untold) in
+    let all = spent p crashes.last (steps ++ more) (answers ++ crashes.unreported)
+    (takes_join
+    (opened_at p) m crashes.last steps more answers crashes.unreported takes crashes.takes) in
+    let later = accepted m.book.session (taken more crashes.unreported) in
     let rest = one.first ++ later in
-    let order : stops.last.book.session.history ≡ acks ++ rest =
-    takes_history m stops.last more stops.untold stops.takes
+    let order : crashes.last.book.session.history ≡ acks ++ rest =
+    takes_history m crashes.last more crashes.unreported crashes.takes
     ∙ ap (λ l. l ++ later) (one.history ∙ one.in_order)
     ∙ append_assoc acks one.first later in
-    let many = stops.prefix.many in
-    let enough : length acks ≤ many = omega (arith, one.enough, stops.prefix.enough) in
+    let many = crashes.prefix.many in
+    let enough : length acks ≤ many = omega (arith, one.enough, crashes.prefix.enough) in
     let k = many - length acks in
     record {
-      untold = stops.untold;
+      unreported = crashes.unreported;
       further = take k rest;
       lost = drop k rest;
       in_order = sym all.history ∙ order
           ∙ ap (λ l. acks ++ l) (sym (take-append-drop k rest));
       reached = ap (λ l. run (restarted p) l)
-          (sym (take_after many stops.last.book.session.history acks rest order enough))
-          ∙ subst (λ b. run b (take many stops.last.book.session.history) ≡ Some q) one.start
-          stops.prefix.reached;
+          (sym (take_after many crashes.last.book.session.history acks rest order enough))
+          ∙ subst (λ b. run b (take many crashes.last.book.session.history) ≡ Some q) one.start
+          crashes.prefix.reached;
     }
 
 -- ---- the moves of nights
@@ -247,28 +257,28 @@ pub record WasSpent (p : State) (calls : List (Step × Reply)) (more : List Step
   pub end : Running
   pub takes : TakesAll (opened_at p) (steps_of calls) (answers_of calls) end
   pub state : State
-  pub stops : StopsAt end more state
+  pub crashes : CrashesAt end more state
   pub is : n ≡ Stored state
 
 stopped : (p : State) (n : Machine) (calls : List (Step × Reply)) (more : List Step)
     (end : Running) → TakesAll (opened_at p) (steps_of calls) (answers_of calls) end
-    → GoesOn (Runs end) (Stop more ∷ []) n → WasSpent p calls more n
-stopped p n calls more end takes (Stored q, stops, last) =
-    record { end = end; takes = takes; state = q; stops = stops; is = last }
-stopped p n calls more end takes (Runs k, stops, last) = absurd stops
+    → GoesOn (Runs end) (Crash more ∷ []) n → WasSpent p calls more n
+stopped p n calls more end takes (Stored q, crashes, last) =
+    record { end = end; takes = takes; state = q; crashes = crashes; is = last }
+stopped p n calls more end takes (Runs k, crashes, last) = absurd crashes
 
 pub was_spent : (p : State) (n : Machine) (calls : List (Step × Reply)) (more : List Step)
     → GoesOn (Stored p) (moves_of (Spent calls more)) n → WasSpent p calls more n
 was_spent p n calls more (Stored q, one, rest) = absurd one
 was_spent p n calls more (Runs m, one, rest) =
     let begun = subst
-    (λ k. GoesOn (Runs k) (map (λ call. Take call.0 call.1) calls ++ Stop more ∷ []) n) one
+    (λ k. GoesOn (Runs k) (map (λ call. Take call.0 call.1) calls ++ Crash more ∷ []) n) one
     rest in
     let two = parts (Runs (opened_at p)) n (map (λ call. Take call.0 call.1) calls)
-    (Stop more ∷ []) begun in
+    (Crash more ∷ []) begun in
     let row = called (opened_at p) two.middle calls two.before in
     stopped p n calls more row.end row.takes
-    (subst (λ k. GoesOn k (Stop more ∷ []) n) row.is two.behind)
+    (subst (λ k. GoesOn k (Crash more ∷ []) n) row.is two.behind)
 
 -- And the other way round.
 moves_called : (m end : Running) (n : Machine) (calls : List (Step × Reply)) (moves : List Move)
@@ -279,13 +289,13 @@ moves_called m end n ((x, r) ∷ calls) moves (reply, takes) rest =
     (Runs (took m x r), (reply, refl), moves_called (took m x r) end n calls moves takes rest)
 
 pub spends : (p q : State) (end : Running) (calls : List (Step × Reply)) (more : List Step)
-    → TakesAll (opened_at p) (steps_of calls) (answers_of calls) end → StopsAt end more q
+    → TakesAll (opened_at p) (steps_of calls) (answers_of calls) end → CrashesAt end more q
     → GoesOn (Stored p) (moves_of (Spent calls more)) (Stored q)
-spends p q end calls more takes stops = (
+spends p q end calls more takes crashes = (
   Runs (opened_at p),
   refl,
-  moves_called (opened_at p) end (Stored q) calls (Stop more ∷ []) takes
-      (Stored q, stops, refl),
+  moves_called (opened_at p) end (Stored q) calls (Crash more ∷ []) takes
+      (Stored q, crashes, refl),
 )
 
 pub joined_moves : (m middle n : Machine) (first second : List Move) → GoesOn m first middle
@@ -308,7 +318,7 @@ night_leads p n (Spent calls more) goes =
     let spent = was_spent p n calls more goes in
     record {
       state = spent.state;
-      leads = led_over p spent.state spent.end calls more spent.takes spent.stops;
+      leads = led_over p spent.state spent.end calls more spent.takes spent.crashes;
       is = spent.is;
     }
 

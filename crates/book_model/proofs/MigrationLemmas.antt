@@ -8,7 +8,13 @@ use Rattle.run_disk.specs.Runs.{OnlyReads}
 use Rattle.run_disk.proofs.RunLemmas.{reads_none}
 use Rattle.book_model.specs.declared.migrations.MigrateFault.{MigrateFault}
 use Rattle.book_model.specs.declared.migrations.MigrateFault.TheVariants as why
-use Rattle.book_model.specs.Migrations.{AreSized, HasMigrated, Migrates, MigratesNot, StopsWriting}
+use Rattle.book_model.specs.Migrations.{
+  AreSized,
+  HasMigrated,
+  Migrates,
+  MigratesNot,
+  CrashesWriting,
+}
 use Rattle.book_model.specs.Migrations.{widened}
 use Rattle.book_model.specs.Stores.{Stores, StoresNone}
 use Rattle.book_model.proofs.CopyLemmas.{uncalled_stops, unread_cause, unread_none, unread_reads}
@@ -17,9 +23,10 @@ use Rattle.book_model.proofs.OpeningLemmas.{HasCause}
 use Rattle.book_model.proofs.Storing.{stores_not_both, stores_one}
 
 -- What a store means, it means once.
-other_stops : (p q : State) (given new : DiskState) → q ≡ p → StopsWriting (widened q) given new
-    → StopsWriting (widened p) given new
-other_stops p q given new same stops = subst (λ r. StopsWriting (widened r) given new) same stops
+other_stops : (p q : State) (given new : DiskState) → q ≡ p → CrashesWriting (widened q) given new
+    → CrashesWriting (widened p) given new
+other_stops p q given new same crashes = subst
+    (λ r. CrashesWriting (widened r) given new) same crashes
 
 module _ {D E : Type 0} (from : D → DiskState) (to : E → DiskState) (old read : D) (given : E)
     (disk : IsDisk (from old)) where
@@ -36,14 +43,14 @@ module _ {D E : Type 0} (from : D → DiskState) (to : E → DiskState) (old rea
   not_only w new honest is = unread_reads from old read disk w honest is.1
 
   same_stops : (p : State) (new : E) → IsDisk (to given) → new ≡ given
-      → StopsWriting (widened p) (to given) (to new)
+      → CrashesWriting (widened p) (to given) (to new)
   same_stops p new new_disk same =
-      subst (λ e. StopsWriting (widened p) (to given) (to e)) (sym same)
+      subst (λ e. CrashesWriting (widened p) (to given) (to e)) (sym same)
       (uncalled_stops (widened p) (to given) new_disk)
 
   not_stops : (w : MigrateFault) (new : E) → IsDisk (to given) → (from old).honest → (p : State)
       → Stores (from old).now p → MigratesNot from to old given w read new
-      → StopsWriting (widened p) (to given) (to new)
+      → CrashesWriting (widened p) (to given) (to new)
   not_stops (why.Old fault.WrongSize) new new_disk honest p stores is =
       same_stops p new new_disk is.1.1
   not_stops (why.New fault.WrongSize) new new_disk honest p stores is =
@@ -51,7 +58,7 @@ module _ {D E : Type 0} (from : D → DiskState) (to : E → DiskState) (old rea
   not_stops (why.New fault.DiskFailed) new new_disk honest p stores is =
       other_stops p is.state (to given) (to new)
       (stores_one (from old).now is.state p (is.found.recovered.holds honest) stores)
-      is.failed.stops
+      is.failed.crashes
   not_stops (why.New f) new new_disk honest p stores is = absurd is
   not_stops w new new_disk honest p stores is = same_stops p new new_disk is.2
 
@@ -81,22 +88,22 @@ module _ {D E : Type 0} (from : D → DiskState) (to : E → DiskState) (old rea
     any_moment = λ honest p stores.
         other_stops p is.state (to given) (to new)
         (stores_one (from old).now is.state p (is.found.recovered.holds honest) stores)
-        is.written.stops;
+        is.written.crashes;
   }
 
   -- ---- what is told
 
-  told_state : (w : MigrateFault) (new : E) (p : State) → (from old).honest
+  reported_state : (w : MigrateFault) (new : E) (p : State) → (from old).honest
       → AreSized (from old) (to given) → Stores (from old).now p → p.count < 2 ^ 62
       → MigratesNot from to old given w read new
       → (w ≡ why.Memory) ⊎ (w ≡ why.Old fault.DiskFailed) ⊎ (w ≡ why.New fault.DiskFailed)
-  told_state (why.Old fault.WrongSize) new p honest sized stores few is =
+  reported_state (why.Old fault.WrongSize) new p honest sized stores few is =
       absurd (is.0 sized.small)
-  told_state (why.New fault.WrongSize) new p honest sized stores few is =
+  reported_state (why.New fault.WrongSize) new p honest sized stores few is =
       absurd (is.1 sized.large)
-  told_state (why.New fault.DiskFailed) new p honest sized stores few is = inr (inr refl)
-  told_state (why.New f) new p honest sized stores few is = absurd is
-  told_state w new p honest sized stores few is =
+  reported_state (why.New fault.DiskFailed) new p honest sized stores few is = inr (inr refl)
+  reported_state (why.New f) new p honest sized stores few is = absurd is
+  reported_state w new p honest sized stores few is =
       elim (unread_state from old read disk w p honest stores few is.1)
       [ inl memory ↦ inl memory | inr failed ↦ inr (inl failed) ]
 
@@ -107,58 +114,58 @@ module _ {D E : Type 0} (from : D → DiskState) (to : E → DiskState) (old rea
       ⊎ (e.0 ≡ why.Old fault.DiskFailed) ⊎ (e.0 ≡ why.New fault.DiskFailed))
   migrates_state (Ok new) p honest sized is stores few = tt
   migrates_state (Err e) p honest sized is stores few =
-      told_state e.0 e.1 p honest sized stores few is.answer
+      reported_state e.0 e.1 p honest sized stores few is.answer
 
-  abbrev IsToldOf : MigrateFault → Fault → Type 0
-  IsToldOf w f = (w ≡ why.Old f) ⊎ (w ≡ why.Memory) ⊎ (w ≡ why.Old fault.DiskFailed)
+  abbrev IsReportedOf : MigrateFault → Fault → Type 0
+  IsReportedOf w f = (w ≡ why.Old f) ⊎ (w ≡ why.Memory) ⊎ (w ≡ why.Old fault.DiskFailed)
 
-  told_none : (w : MigrateFault) (new : E) (other : Fault) → (from old).honest
+  reported_none : (w : MigrateFault) (new : E) (other : Fault) → (from old).honest
       → AreSized (from old) (to given) → StoresNone (from old).now other
-      → MigratesNot from to old given w read new → IsToldOf w other
-  told_none (why.Old fault.WrongSize) new other honest sized none is =
+      → MigratesNot from to old given w read new → IsReportedOf w other
+  reported_none (why.Old fault.WrongSize) new other honest sized none is =
       absurd (is.0 sized.small)
-  told_none (why.New fault.WrongSize) new other honest sized none is =
+  reported_none (why.New fault.WrongSize) new other honest sized none is =
       absurd (is.1 sized.large)
-  told_none (why.New fault.DiskFailed) new other honest sized none is =
+  reported_none (why.New fault.DiskFailed) new other honest sized none is =
       absurd (stores_not_both (from old).now is.state other
       (is.found.recovered.holds honest) none)
-  told_none (why.New f) new other honest sized none is = absurd is
-  told_none w new other honest sized none is =
+  reported_none (why.New f) new other honest sized none is = absurd is
+  reported_none w new other honest sized none is =
       unread_none from old read disk w other honest none is.1
 
   pub migrates_none : (result : Result E (MigrateFault × E)) (other : Fault) → (from old).honest
       → AreSized (from old) (to given) → Migrates from to old given result read
       → StoresNone (from old).now other
-      → MatchResult result (λ new. ⊥) (λ e. IsToldOf e.0 other)
+      → MatchResult result (λ new. ⊥) (λ e. IsReportedOf e.0 other)
   migrates_none (Ok new) other honest sized is none =
       stores_not_both (from old).now is.answer.state other
       (is.answer.found.recovered.holds honest) none
   migrates_none (Err e) other honest sized is none =
-      told_none e.0 e.1 other honest sized none is.answer
+      reported_none e.0 e.1 other honest sized none is.answer
 
   -- ---- causes
 
   old_cause : (w : MigrateFault) (new : E) → w ≡ why.Old fault.DiskFailed
       → MigratesNot from to old given w read new → HasCause (from old) (from read)
-  old_cause w new told is =
+  old_cause w new reported is =
       unread_cause from old read (why.Old fault.DiskFailed) refl
-      (subst (λ v. MigratesNot from to old given v read new) told is).1
+      (subst (λ v. MigratesNot from to old given v read new) reported is).1
 
   pub migrates_old_cause : (result : Result E (MigrateFault × E))
       → Migrates from to old given result read
       → MatchResult result (λ new. Unit {0})
       (λ e. e.0 ≡ why.Old fault.DiskFailed → HasCause (from old) (from read))
   migrates_old_cause (Ok new) is = tt
-  migrates_old_cause (Err e) is = λ told. old_cause e.0 e.1 told is.answer
+  migrates_old_cause (Err e) is = λ reported. old_cause e.0 e.1 reported is.answer
 
   new_cause : (w : MigrateFault) (new : E) → w ≡ why.New fault.DiskFailed
       → MigratesNot from to old given w read new → HasCause (to given) (to new)
-  new_cause w new told is =
-      (subst (λ v. MigratesNot from to old given v read new) told is).failed.cause
+  new_cause w new reported is =
+      (subst (λ v. MigratesNot from to old given v read new) reported is).failed.cause
 
   pub migrates_new_cause : (result : Result E (MigrateFault × E))
       → Migrates from to old given result read
       → MatchResult result (λ new. Unit {0})
       (λ e. e.0 ≡ why.New fault.DiskFailed → HasCause (to given) (to e.1))
   migrates_new_cause (Ok new) is = tt
-  migrates_new_cause (Err e) is = λ told. new_cause e.0 e.1 told is.answer
+  migrates_new_cause (Err e) is = λ reported. new_cause e.0 e.1 reported is.answer

@@ -59,10 +59,10 @@ module _ {D : Type 0} (state : D → DiskState) where
   rests_sound old step.Start r new sound takes is = rests_taken old step.Start r new takes is
   rests_sound old (step.Finish n outcome) r new sound takes is =
       rests_taken old (step.Finish n outcome) r new takes is
-  rests_sound old step.Flush r new sound tells is =
-      rests_save old new tells.result tells.saves.saves sound is
-  rests_sound old step.Checkpoint r new sound tells is =
-      rests_save old new tells.result tells.saves.saves sound is
+  rests_sound old step.Flush r new sound reports is =
+      rests_save old new reports.result reports.saves.saves sound is
+  rests_sound old step.Checkpoint r new sound reports is =
+      rests_save old new reports.result reports.saves.saves sound is
 
   -- A step after which the book isn't broken.
   rests_step : (old : BookView D) (x : Step) (r : Reply) (new : BookView D)

@@ -71,7 +71,7 @@ module _ (p : State) where
   errors_there : AreErrors p → AreErrors (widened p)
   errors_there e = record {
     exact = e.exact;
-    ended = λ g s row owner told. e.ended g s row (owns g s row owner) told;
+    ended = λ g s row owner reported. e.ended g s row (owns g s row owner) reported;
   }
 
   links_there : AreLinked p.work → AreLinked (widened p).work

@@ -2,7 +2,7 @@
 -- leaves of it, and what the next opening finds. The machine doesn't show why an opening fails, or
 -- how many calls of the disk are made.
 --
--- Three machines are excluded. One that forgets an acknowledged event: `StopsAt` requires that at
+-- Three machines are excluded. One that forgets an acknowledged event: `CrashesAt` requires that at
 -- least `acked` events are left. One that adds a command of its own, or takes one twice: only
 -- `took` makes the history longer, by the event of the step that was taken. One that changes the
 -- order of events: a crash leaves a prefix of the history.
@@ -36,7 +36,7 @@ pub data Move : Type 0 where
   -- a step is taken, and this is the reply to it
   Take : Step → Reply → Move
   -- a crash comes during these steps, before anybody has seen the replies to them
-  Stop : List Step → Move
+  Crash : List Step → Move
 
 -- The machine after an opening: in the restart of the stored state, with no event since then.
 abbrev pub opened_at : State → Running
@@ -61,10 +61,10 @@ TakesAll m (x ∷ steps) [] end = ⊥
 
 -- A crash in the middle of these steps, whose replies nobody has seen, leaves the state to which a
 -- prefix of the events leads. The prefix contains every acknowledged event.
-pub record StopsAt (m : Running) (more : List Step) (q : State) : Type 0 where
-  pub untold : List Reply
+pub record CrashesAt (m : Running) (more : List Step) (q : State) : Type 0 where
+  pub unreported : List Reply
   pub last : Running
-  pub takes : TakesAll m more untold last
+  pub takes : TakesAll m more unreported last
   pub prefix : IsPrefix m.book.session.start last.book.session.history m.acked q
 
 -- This move leads from the one machine to the other. An opening that fails leaves the state or its
@@ -73,7 +73,7 @@ abbrev pub Goes : Machine → Move → Machine → Type 0
 Goes (Stored p) Open (Runs m) = m ≡ opened_at p
 Goes (Stored p) OpenInVain (Stored q) = (q ≡ p) ⊎ (q ≡ restarted p)
 Goes (Runs m) (Take x r) (Runs n) = IsReply m.book x r × (n ≡ took m x r)
-Goes (Runs m) (Stop more) (Stored q) = StopsAt m more q
+Goes (Runs m) (Crash more) (Stored q) = CrashesAt m more q
 Goes _ _ _ = ⊥
 
 -- These moves, one after another, lead from the one machine to the other.

@@ -8,7 +8,7 @@ use Rattle.run_model.specs.Event.{Event}
 use Rattle.run_model.specs.Event as event
 use Rattle.run_model.specs.Session.{accepted, acknowledged}
 use Rattle.run_model.specs.State.{State}
-use Rattle.book_model.specs.Machines.{Move, Open, OpenInVain, Stop, Take}
+use Rattle.book_model.specs.Machines.{Move, Open, OpenInVain, Crash, Take}
 use Rattle.book_model.specs.Nights.{opened_from}
 use Rattle.book_model.specs.Plays.{taken}
 use Rattle.book_model.specs.Stores.{Stores, restarted}
@@ -23,7 +23,7 @@ pub data Night : Type 0 where
 abbrev pub moves_of : Night → List Move
 moves_of InVain = OpenInVain ∷ []
 moves_of (Spent calls more) =
-    Open ∷ (map (λ call. Take call.0 call.1) calls ++ Stop more ∷ [])
+    Open ∷ (map (λ call. Take call.0 call.1) calls ++ Crash more ∷ [])
 
 -- The steps that were answered, and the replies.
 abbrev pub steps_of : List (Step × Reply) → List Step
@@ -36,11 +36,11 @@ answers_of calls = map (λ call. call.1) calls
 -- acknowledged, and perhaps by some more of the accepted events, in order and without a gap.
 pub record LeadsOver (p : State) (calls : List (Step × Reply)) (more : List Step) (q : State)
     : Type 0 where
-  pub untold : List Reply
+  pub unreported : List Reply
   pub further : List Event
   pub lost : List Event
   pub in_order : accepted (opened_from p)
-      (taken (steps_of calls ++ more) (answers_of calls ++ untold))
+      (taken (steps_of calls ++ more) (answers_of calls ++ unreported))
       ≡ acknowledged (opened_from p) (steps_of calls) (answers_of calls) ++ (further ++ lost)
   pub reached : run p (event.Restart
       ∷ (acknowledged (opened_from p) (steps_of calls) (answers_of calls) ++ further)) ≡ Some q

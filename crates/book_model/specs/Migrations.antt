@@ -66,8 +66,8 @@ ReadsNot from old (why.New fault) read = ⊥
 
 -- Suppose that the new disk held zeros, and that a crash could have left nothing else. Then a crash
 -- at any moment since leaves a disk that stores nothing, or this state.
-abbrev pub StopsWriting : State → DiskState → DiskState → Type 0
-StopsWriting p given new =
+abbrev pub CrashesWriting : State → DiskState → DiskState → Type 0
+CrashesWriting p given new =
     given.honest → ((x : List ℕ) → given.images x → AreZeros x)
     → LeavesOnly (StoresNothingOr p) given new
 
@@ -79,14 +79,14 @@ pub record HasWritten (layout : Layout) (p : State) (given new : DiskState) : Ty
   pub stores : given.honest → (x : List ℕ) → new.images x → Stores x p
   pub fresh : given.honest → (x : List ℕ) → new.images x → StoresFresh layout 0 p x
   pub rest : given.honest → IsAtRest given → IsAtRest new
-  pub stops : StopsWriting p given new
+  pub crashes : CrashesWriting p given new
 
 -- A call failed, or the disk is spent. The disk may hold no store.
 pub record HasFailedWrite (p : State) (given new : DiskState) : Type 0 where
   pub most : new.clock ≤ given.clock + 8
   pub cause : (given.failures < new.failures) ⊎ (new.clock ≡ last_moment)
   pub passed : Passed given new
-  pub stops : StopsWriting p given new
+  pub crashes : CrashesWriting p given new
 
 -- The store was made, if there was no fault.
 abbrev pub Writes : {F : Type 0} → Layout → State → DiskState → Result (Unit {0}) F → DiskState
@@ -151,4 +151,4 @@ pub record Migrates {D E : Type 0} (from : D → DiskState) (to : E → DiskStat
   pub now : (from old).honest → (to given).honest → (p : State) → Stores (from old).now p
       → IfOk result (λ new. (x : List ℕ) → (to new).images x → Stores x (widened p))
   pub any_moment : (from old).honest → (p : State) → Stores (from old).now p
-      → StopsWriting (widened p) (to given) (to (new_disk result))
+      → CrashesWriting (widened p) (to given) (to (new_disk result))

@@ -7,7 +7,7 @@ use Rattle.run_model.specs.State.{State}
 use Rattle.run_disk.specs.Disk.{DiskState, IsAtRest}
 use Rattle.book_model.specs.Books.{BookView, CarriesOn, IsDurable, IsReached, IsSafe, acked}
 use Rattle.book_model.specs.Machines.{GoesOn, Machine, Move, Open, OpenInVain, Running, Runs}
-use Rattle.book_model.specs.Machines.{Stop, Stored, Take}
+use Rattle.book_model.specs.Machines.{Crash, Stored, Take}
 use Rattle.book_model.specs.Openings.{Opens, disk_after}
 use Rattle.book_model.specs.Steps.{AnswersStep, StepsOn, playing}
 use Rattle.book_model.specs.Stores.{Stores}
@@ -37,9 +37,9 @@ pub record CutsOpening {D : Type 0} (state : D → DiskState) (given next : D) :
 -- opening finds what that crash left.
 pub record CutsSteps {D : Type 0} (state : D → DiskState) (h : BookView D) (more : List Step)
     (next : D) : Type 0 where
-  pub untold : List Reply
+  pub unreported : List Reply
   pub last : BookView D
-  pub takes : StepsOn state h more untold last
+  pub takes : StepsOn state h more unreported last
   pub finds : Finds state ((state last.journal.disk).since (state h.journal.disk).clock) next
 
 -- A book makes this move.
@@ -48,7 +48,7 @@ abbrev pub Does :
 Does state (Closed given) Open (Opened h) = Opens state given (Ok h)
 Does state (Closed given) OpenInVain (Closed next) = CutsOpening state given next
 Does state (Opened h) (Take x r) (Opened new) = AnswersStep state h x r new × CarriesOn state h new
-Does state (Opened h) (Stop more) (Closed next) = CutsSteps state h more next
+Does state (Opened h) (Crash more) (Closed next) = CutsSteps state h more next
 Does state _ _ _ = ⊥
 
 -- A book makes these moves, one after another.

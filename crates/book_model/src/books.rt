@@ -41,7 +41,7 @@ pub fn a_book_carries_on<D: RunDisk>()
 /// Whatever calls were made, a crash at any moment since the first of them left the state after a
 /// prefix of the history, and the prefix contains every event that was acknowledged before. A crash
 /// now leaves every event that is acknowledged now.
-pub fn a_stop_loses_nothing_acknowledged<D: RunDisk>()
+pub fn a_crash_loses_nothing_acknowledged<D: RunDisk>()
     ensures any_moment { (old new : BookView D) (x : List ℕ) → CarriesOn D.state old new
         → IsSafe D.state old
         → (D.state new.journal.disk).since (D.state old.journal.disk).clock x
@@ -139,7 +139,7 @@ pub fn a_book_keeps_its_layout<D: RunDisk>()
 /// count, and what an interruption does to a group and to the scope of the group. If the crash
 /// comes earlier, at any moment since the opening began, the disk stores state p, or the state to
 /// which a restart of p and perhaps some of the accepted events lead.
-pub fn a_night_is_kept<D: RunDisk>()
+pub fn a_session_survives_a_crash<D: RunDisk>()
     ensures any_moment { (given : D) (p : State) (old middle new : BookView D)
         (steps more : List Step) (answers others : List Reply) (x : List ℕ)
         → (D.state given).honest → IsAtRest (D.state given) → Stores (D.state given).now p

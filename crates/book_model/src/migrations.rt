@@ -68,7 +68,7 @@ pub fn a_migration_leaves_the_old_store_as_it_was<D: RunDisk, E: RunDisk>()
 
 /// A migration reports the failure of a device only if a call of that disk failed, or if that disk
 /// is spent.
-pub fn a_migration_tells_which_disk_failed<D: RunDisk, E: RunDisk>()
+pub fn a_migration_reports_which_disk_failed<D: RunDisk, E: RunDisk>()
     ensures old { (old read : D) (given : E) (result : Result E (WhyNot × E))
         → Migrates D.state E.state old given result read
         → MatchResult result (λ new. Unit {0}) (λ e. e.0 ≡ why.Old DiskFailed

@@ -31,7 +31,7 @@ pub fn a_recovery_answers_what_is_stored<D: RunDisk>()
         → (D.state old).honest → Recovers D.state old result new
         → StoresNone (D.state old).now why
         → MatchResult result (λ q. ⊥)
-        (λ told. (told ≡ why) ⊎ (told ≡ Memory) ⊎ (told ≡ DiskFailed)) }
+        (λ reported. (reported ≡ why) ⊎ (reported ≡ Memory) ⊎ (reported ≡ DiskFailed)) }
     ensures reads { (old new : D) (result : Result State Fault) → (D.state old).honest
         → Recovers D.state old result new → OnlyReads (D.state old) (D.state new) }
 {}
@@ -81,7 +81,7 @@ pub fn an_opening_writes_in_its_checkpoint_alone<D: RunDisk>()
 /// A crash during a format of a disk of zeros leaves no state but that of the new store. If the
 /// bytes have a pair, it has no batch, and its image is empty or that of the state with no row but
 /// root. So they store that state, or nothing. A fresh store of a state stores that state.
-pub fn a_stopped_format_leaves_no_other_state()
+pub fn a_crashed_format_leaves_no_other_state()
     ensures only { (layout : Layout) (x : List ℕ) (p : State) → length x ≡ store_len layout
         → HasNoPairBut (image (formatted layout)) x → Stores x p → p ≡ formatted layout }
     ensures nothing_or { (layout : Layout) (x : List ℕ) → length x ≡ store_len layout

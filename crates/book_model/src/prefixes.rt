@@ -38,7 +38,7 @@ pub fn a_prefix_counts_its_events()
 /// A store of state p was opened, and steps were played over it. If a crash left the state after a
 /// prefix of the accepted events, which has at least as many events as are acknowledged, then the
 /// night is kept.
-pub fn a_stop_leaves_a_kept_night()
+pub fn a_crash_leaves_a_kept_session()
     ensures { (before bytes : List ℕ) (p : State) (end : Playing) (steps : List Step)
         (answers : List Reply) → Stores before p → Plays (sound (opened_from p)) steps answers end
         → StoresPart (opened_from p) steps answers bytes

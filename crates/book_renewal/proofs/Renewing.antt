@@ -17,12 +17,12 @@ use Rattle.state_renewal.specs.Renewed.{renewed, renewed_in}
 use Rattle.book_model.specs.declared.migrations.MigrateFault.{MigrateFault}
 use Rattle.book_model.specs.declared.migrations.MigrateFault.TheVariants as why
 use Rattle.book_model.specs.Meanings.{MeansIn}
-use Rattle.book_model.specs.Migrations.{HasReadStore, ReadsNot, StopsWriting}
+use Rattle.book_model.specs.Migrations.{HasReadStore, ReadsNot, CrashesWriting}
 use Rattle.book_model.specs.Stores.{Stores}
 use Rattle.book_model.proofs.CopyLemmas.{uncalled_stops, unread_reads}
 use Rattle.book_model.proofs.Meaning.{fresh_means}
 use Rattle.book_model.proofs.Storing.{stores_one}
-use Rattle.book_renewal.specs.Renewals.{AreStores, HasRenewed, Renews, RenewsNot, StopsRenewal}
+use Rattle.book_renewal.specs.Renewals.{AreStores, HasRenewed, Renews, RenewsNot, CrashesInRenewal}
 use Rattle.book_renewal.specs.Renewals.{WritesNot}
 
 -- ---- the new disk
@@ -48,10 +48,10 @@ renewed_means layout p is =
 
 -- The size of the new disk determines the layout of what it stores.
 sized_stops : (layout : Layout) (p : State) (given new : DiskState) → given.size ≡ store_len layout
-    → StopsWriting (renewed_in layout p) given new → StopsRenewal p given new
-sized_stops layout p given new size stops other sized =
-    subst (λ l. StopsWriting (renewed_in l p) given new)
-    (one_layout layout other (sym size ∙ sized)) stops
+    → CrashesWriting (renewed_in layout p) given new → CrashesInRenewal p given new
+sized_stops layout p given new size crashes other sized =
+    subst (λ l. CrashesWriting (renewed_in l p) given new)
+    (one_layout layout other (sym size ∙ sized)) crashes
 
 -- ---- both
 
@@ -78,9 +78,9 @@ written_not from to old read given new (Err w) p sized found none =
 
 -- ---- the answers
 
-other_stops : (p q : State) (given new : DiskState) → q ≡ p → StopsRenewal q given new
-    → StopsRenewal p given new
-other_stops p q given new same stops = subst (λ r. StopsRenewal r given new) same stops
+other_stops : (p q : State) (given new : DiskState) → q ≡ p → CrashesInRenewal q given new
+    → CrashesInRenewal p given new
+other_stops p q given new same crashes = subst (λ r. CrashesInRenewal r given new) same crashes
 
 module _ {D E : Type 0} (from : D → DiskState) (to : E → DiskState) (old read : D) (given : E)
     (disk : IsDisk (from old)) where
@@ -94,24 +94,24 @@ module _ {D E : Type 0} (from : D → DiskState) (to : E → DiskState) (old rea
   not_only w new honest (inr (inr (inr is))) = is.1.found.recovered.read.only honest
 
   same_stops : (p : State) (new : E) → IsDisk (to given) → new ≡ given
-      → StopsRenewal p (to given) (to new)
+      → CrashesInRenewal p (to given) (to new)
   same_stops p new new_disk same =
-      subst (λ e. StopsRenewal p (to given) (to e)) (sym same)
+      subst (λ e. CrashesInRenewal p (to given) (to e)) (sym same)
       (λ layout sized. uncalled_stops (renewed_in layout p) (to given) new_disk)
 
   write_stops : (w : MigrateFault) (new : E) → IsDisk (to given) → (p q : State) → q ≡ p
-      → WritesNot to q given w new → StopsRenewal p (to given) (to new)
+      → WritesNot to q given w new → CrashesInRenewal p (to given) (to new)
   write_stops why.Memory new new_disk p q same is = same_stops p new new_disk is
   write_stops (why.New fault.WrongSize) new new_disk p q same is =
       same_stops p new new_disk is.1
   write_stops (why.New fault.DiskFailed) new new_disk p q same is =
       other_stops p q (to given) (to new) same
-      (sized_stops is.layout q (to given) (to new) is.size is.failed.stops)
+      (sized_stops is.layout q (to given) (to new) is.size is.failed.crashes)
   write_stops w new new_disk p q same is = absurd is
 
   not_stops : (w : MigrateFault) (new : E) → IsDisk (to given) → (from old).honest → (p : State)
       → Stores (from old).now p → RenewsNot from to old given w read new
-      → StopsRenewal p (to given) (to new)
+      → CrashesInRenewal p (to given) (to new)
   not_stops w new new_disk honest p stores (inl is) = same_stops p new new_disk is.2.1
   not_stops w new new_disk honest p stores (inr (inl is)) = same_stops p new new_disk is.3.1
   not_stops w new new_disk honest p stores (inr (inr (inl is))) = same_stops p new new_disk is.2
@@ -143,5 +143,5 @@ module _ {D E : Type 0} (from : D → DiskState) (to : E → DiskState) (old rea
     any_moment = λ honest p stores.
         other_stops p is.state (to given) (to new)
         (stores_one (from old).now is.state p (is.found.recovered.holds honest) stores)
-        (sized_stops is.layout is.state (to given) (to new) is.size is.written.stops);
+        (sized_stops is.layout is.state (to given) (to new) is.size is.written.crashes);
   }

@@ -17,7 +17,7 @@ use Rattle.state_renewal.specs.Renewed.{fits_in, renewed, renewed_in}
 use Rattle.book_model.specs.declared.migrations.MigrateFault.{MigrateFault}
 use Rattle.book_model.specs.declared.migrations.MigrateFault.TheVariants as why
 use Rattle.book_model.specs.Migrations.{AreUncalled, HasFailedWrite, HasReadStore, HasWritten}
-use Rattle.book_model.specs.Migrations.{ReadsNot, StopsWriting, new_disk}
+use Rattle.book_model.specs.Migrations.{ReadsNot, CrashesWriting, new_disk}
 use Rattle.book_model.specs.Openings.{HasStoreSize}
 use Rattle.book_model.specs.Stores.{Stores}
 
@@ -33,10 +33,10 @@ pub record AreStores (old given : DiskState) : Type 0 where
 -- Suppose that the new disk held zeros, and that a crash could have left nothing else. Then a crash
 -- at any moment since leaves a disk that stores nothing, or the renewed state in the layout of its
 -- size.
-abbrev pub StopsRenewal : State → DiskState → DiskState → Type 0
-StopsRenewal p given new =
+abbrev pub CrashesInRenewal : State → DiskState → DiskState → Type 0
+CrashesInRenewal p given new =
     (layout : Layout) → given.size ≡ store_len layout
-    → StopsWriting (renewed_in layout p) given new
+    → CrashesWriting (renewed_in layout p) given new
 
 -- A call failed, or the disk is spent. The disk may hold no store.
 pub record HasFailedRenewed (p : State) (given new : DiskState) : Type 0 where
@@ -108,4 +108,4 @@ pub record Renews {D E : Type 0} (from : D → DiskState) (to : E → DiskState)
       → IfOk result (λ new. (layout : Layout) → (to given).size ≡ store_len layout
       → (x : List ℕ) → (to new).images x → Stores x (renewed_in layout p))
   pub any_moment : (from old).honest → (p : State) → Stores (from old).now p
-      → StopsRenewal p (to given) (to (new_disk result))
+      → CrashesInRenewal p (to given) (to (new_disk result))

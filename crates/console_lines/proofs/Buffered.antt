@@ -3,7 +3,7 @@ use Rattle.std.specs.Prelude.{◌≡◌, ℕ, List, [], ◌++◌, Option}
 use Rattle.std.specs.Io.KnownBytes.{Appends}
 use Rattle.std.proofs.Common.{sym, ap, ◌∙◌, subst, append_assoc, append-nil}
 use Rattle.console_lines.specs.Progress.{WritesPart}
-use Rattle.console_lines.proofs.Written.{appends_nothing, appends_then, front_after, front_more}
+use Rattle.console_lines.proofs.Written.{appends_nothing, appends_then, prefix_after, prefix_more}
 use Rattle.console_lines.specs.Buffered.{Buffered}
 
 -- ---- a part
@@ -15,12 +15,12 @@ pub part_after :
     → WritesPart w1 w2 g
     → WritesPart w0 w2 (x ++ g)
 part_after x g w0 w1 w2 h k =
-    (x ++ k.0, front_after k.0 x g k.1, appends_then w0 w1 w2 x k.0 h k.2)
+    (x ++ k.0, prefix_after k.0 x g k.1, appends_then w0 w1 w2 x k.0 h k.2)
 
 -- A prefix of the first of two texts is a prefix of both joined.
 pub part_more : (x y : List ℕ) (w0 w1 : Option (List ℕ))
     → WritesPart w0 w1 x → WritesPart w0 w1 (x ++ y)
-part_more x y w0 w1 k = (k.0, front_more k.0 x y k.1, k.2)
+part_more x y w0 w1 k = (k.0, prefix_more k.0 x y k.1, k.2)
 
 -- ---- texts
 

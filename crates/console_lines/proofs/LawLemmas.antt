@@ -17,7 +17,7 @@ use Rattle.console_lines.specs.Words.{words_of, rest_of}
 use Rattle.console_lines.specs.LineRequests.{request_of}
 use Rattle.console_lines.specs.Script.{after_line, replies, after_lines, closing, script}
 use Rattle.console_lines.specs.Script.{step_of, steps_of}
-use Rattle.console_lines.specs.Progress.{IsFront}
+use Rattle.console_lines.specs.Progress.{IsPrefix}
 use Rattle.console_lines.proofs.Splits.{whole_lines-append}
 use Rattle.console_lines.proofs.Steps.{replies-append}
 use Rattle.console_lines.proofs.WordLemmas.{rest_is}
@@ -76,7 +76,7 @@ lines_are_parts bytes =
 -- The replies to the lines of a first part come first in the output.
 pub replies_stay :
     (s : Session) (first more : List ℕ)
-    → IsFront (replies s (whole_lines [] first)) (script s (first ++ more))
+    → IsPrefix (replies s (whole_lines [] first)) (script s (first ++ more))
 replies_stay s first more =
     let a = whole_lines [] first in
     let b = whole_lines (open_line [] first) more in

@@ -102,26 +102,26 @@ tallies_stay (tally ∷ tallies) = tallies_stay tallies
 -- ---- an input
 
 -- Every LF ends a line.
-pub lines_around : (front behind : List ℕ)
-    → lines_of (front ++ 10 ∷ behind) ≡ lines_of front ++ lines_of behind
-lines_around front behind =
-    let first = whole_lines [] front in
-    let line = open_line [] front in
-    ap (λ l. l ++ open_line [] (front ++ 10 ∷ behind) ∷ [])
-    (whole_lines-append [] front (10 ∷ behind))
+pub lines_around : (prefix behind : List ℕ)
+    → lines_of (prefix ++ 10 ∷ behind) ≡ lines_of prefix ++ lines_of behind
+lines_around prefix behind =
+    let first = whole_lines [] prefix in
+    let line = open_line [] prefix in
+    ap (λ l. l ++ open_line [] (prefix ++ 10 ∷ behind) ∷ [])
+    (whole_lines-append [] prefix (10 ∷ behind))
     ∙ ap (λ l. (first ++ line ∷ whole_lines [] behind) ++ l ∷ [])
-    (open_line-append [] front (10 ∷ behind))
+    (open_line-append [] prefix (10 ∷ behind))
     ∙ append_assoc first (line ∷ whole_lines [] behind) (open_line [] behind ∷ [])
     ∙ sym (append_assoc first (line ∷ []) (lines_of behind))
 
 -- What comes after the rejected line doesn't matter.
-pub rejected_before : (s : Session) (front behind : List ℕ) (rejection : RejectedLine)
-    → rejection_in s front ≡ Some rejection
-    → (rejection_in s (front ++ 10 ∷ behind) ≡ Some rejection)
-    × (strict_lines_of s (front ++ 10 ∷ behind) ≡ strict_lines_of s front)
-rejected_before s front behind rejection h =
-    let lines = lines_around front behind in
-    let more = some_more 1 s (lines_of front) (lines_of behind) rejection h in
+pub rejected_before : (s : Session) (prefix behind : List ℕ) (rejection : RejectedLine)
+    → rejection_in s prefix ≡ Some rejection
+    → (rejection_in s (prefix ++ 10 ∷ behind) ≡ Some rejection)
+    × (strict_lines_of s (prefix ++ 10 ∷ behind) ≡ strict_lines_of s prefix)
+rejected_before s prefix behind rejection h =
+    let lines = lines_around prefix behind in
+    let more = some_more 1 s (lines_of prefix) (lines_of behind) rejection h in
     (ap (rejection_from 1 s) lines ∙ more.0, ap (strict_lines s) lines ∙ more.1)
 
 -- If no line is rejected, all lines are run.

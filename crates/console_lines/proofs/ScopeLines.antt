@@ -55,9 +55,9 @@ asks name h =
 
 begins : (line name : List ℕ) → scope_word line ≡ Some name → line ≡ codes "scope " ++ name
 begins line name e =
-    let front : bytes_eq (take 6 line) (codes "scope ") ≡ true = grind (arith, common_steps) in
+    let prefix : bytes_eq (take 6 line) (codes "scope ") ≡ true = grind (arith, common_steps) in
     let rest : drop 6 line ≡ name = grind (arith, common_steps) in
-    let same = (bytes_eq-Decides (take 6 line) (codes "scope ")).0 front in
+    let same = (bytes_eq-Decides (take 6 line) (codes "scope ")).0 prefix in
     sym (take-append-drop 6 line) ∙ ap (λ xs. xs ++ drop 6 line) same
     ∙ ap (λ xs. codes "scope " ++ xs) rest
 

@@ -199,24 +199,24 @@ counted_by c job j jobs false t h e rest =
     ap (λ b. cond b (Some (c j)) (counted_at job (tallied c jobs))) h ∙ rest
 
 -- What is counted of a job among them.
-counted_told : (c : List ℕ → TaskCounts) (job : List ℕ) (jobs : List (List ℕ)) (t : Bool)
+counted_reported : (c : List ℕ → TaskCounts) (job : List ℕ) (jobs : List (List ℕ)) (t : Bool)
     → is_among job jobs ≡ t
     → counted_at job (tallied c jobs) ≡ cond t (Some (c job)) None
-counted_told c job [] t h = ap (λ b. cond b (Some (c job)) None) h
-counted_told c job (j ∷ jobs) t h =
+counted_reported c job [] t h = ap (λ b. cond b (Some (c job)) None) h
+counted_reported c job (j ∷ jobs) t h =
     counted_by c job j jobs (bytes_eq job j) (is_among job jobs) refl refl
-    (counted_told c job jobs (is_among job jobs) refl)
+    (counted_reported c job jobs (is_among job jobs) refl)
     ∙ ap (λ b. cond b (Some (c job)) None) h
 
-told_alike : (c d : List ℕ → TaskCounts) (job : List ℕ) (jobs : List (List ℕ))
+reported_alike : (c d : List ℕ → TaskCounts) (job : List ℕ) (jobs : List (List ℕ))
     → ((j : List ℕ) → bytes_eq job j ≡ false → d j ≡ c j)
     → is_among job jobs ≡ false
     → tallied c jobs ≡ tallied d jobs
-told_alike c d job [] other h = refl
-told_alike c d job (j ∷ jobs) other h =
+reported_alike c d job [] other h = refl
+reported_alike c d job (j ∷ jobs) other h =
     let apart = not_first (bytes_eq job j) (is_among job jobs) h in
     ap (λ n. record { job = j; counts = n } ∷ tallied c jobs) (sym (other j apart.0))
-    ∙ ap (λ x. tally d j ∷ x) (told_alike c d job jobs other apart.1)
+    ∙ ap (λ x. tally d j ∷ x) (reported_alike c d job jobs other apart.1)
 
 either_after : (t : Bool) (j : List ℕ) (xs ys : List (List ℕ))
     → cond t (j ∷ xs) (j ∷ ys) ≡ j ∷ cond t xs ys
@@ -242,7 +242,7 @@ with_by c d job j jobs true h other new rest =
     ap (λ b. cond b (record { job = j; counts = d job } ∷ tallied c jobs)
     (tally c j ∷ with_tally job (d job) (tallied c jobs))) h
     ∙ ap (λ x. record { job = j; counts = d x } ∷ tallied c jobs) here
-    ∙ ap (λ x. tally d j ∷ x) (told_alike c d job jobs other absent)
+    ∙ ap (λ x. tally d j ∷ x) (reported_alike c d job jobs other absent)
     ∙ sym (ap (λ b. tallied d (cond (b || is_among job jobs) (j ∷ jobs)
     (j ∷ (jobs ++ job ∷ [])))) h)
 with_by c d job j jobs false h other new rest =
@@ -253,13 +253,13 @@ with_by c d job j jobs false h other new rest =
     ∙ sym (ap (tallied d) (behind job j jobs h))
 
 -- What is counted of one job changes, or goes last.
-with_told : (c d : List ℕ → TaskCounts) (job : List ℕ) (jobs : List (List ℕ))
+with_reported : (c d : List ℕ → TaskCounts) (job : List ℕ) (jobs : List (List ℕ))
     → ((j : List ℕ) → bytes_eq job j ≡ false → d j ≡ c j)
     → AreDistinct jobs
     → with_tally job (d job) (tallied c jobs) ≡ tallied d (with_job jobs job)
-with_told c d job [] other h = refl
-with_told c d job (j ∷ jobs) other h =
-    with_by c d job j jobs (bytes_eq job j) refl other h.0 (with_told c d job jobs other h.1)
+with_reported c d job [] other h = refl
+with_reported c d job (j ∷ jobs) other h =
+    with_by c d job j jobs (bytes_eq job j) refl other h.0 (with_reported c d job jobs other h.1)
 
 -- ---- one task more
 
@@ -268,9 +268,9 @@ pub so_far : (xs : List Task) (job : List ℕ) (t : Bool)
     → is_among job (jobs_of xs) ≡ t
     → unwrap_or (counted_at job (tallies_of xs)) no_tasks ≡ counts_of xs job
 so_far xs job true h =
-    ap (λ o. unwrap_or o no_tasks) (counted_told (counts_of xs) job (jobs_of xs) true h)
+    ap (λ o. unwrap_or o no_tasks) (counted_reported (counts_of xs) job (jobs_of xs) true h)
 so_far xs job false h =
-    ap (λ o. unwrap_or o no_tasks) (counted_told (counts_of xs) job (jobs_of xs) false h)
+    ap (λ o. unwrap_or o no_tasks) (counted_reported (counts_of xs) job (jobs_of xs) false h)
     ∙ sym (none_of job xs h)
 
 -- The tallies with one more task.
@@ -289,7 +289,7 @@ tallies_more xs task admitted =
     ap (plus_one (phase_by admitted task.stage)) (so_far xs job (is_among job (jobs_of xs)) refl)
     ∙ sym (counts_by xs task job admitted task.stage (self_same job) refl) in
     ap (λ n. with_tally job n (tallies_of xs)) counted
-    ∙ with_told c d job (jobs_of xs) (λ j h. counts_other xs task j (turned job j false h))
+    ∙ with_reported c d job (jobs_of xs) (λ j h. counts_other xs task j (turned job j false h))
     (distinct xs)
     ∙ ap (tallied d) (sym (jobs_more xs task))
 

@@ -47,14 +47,14 @@ more_than_none [] ys h = absurd (h refl)
 more_than_none (x ∷ xs) ys h = λ e. omega (arith, ap length e)
 
 -- The first text with a prefix of the second one is a prefix of both joined.
-pub front_after : (front xs ys : List ℕ) → IsCut front ys → IsCut (xs ++ front) (xs ++ ys)
-front_after front xs ys k =
-    (k.0, ap (λ t. xs ++ t) k.1 ∙ sym (append_assoc xs front k.0), k.2)
+pub prefix_after : (prefix xs ys : List ℕ) → IsCut prefix ys → IsCut (xs ++ prefix) (xs ++ ys)
+prefix_after prefix xs ys k =
+    (k.0, ap (λ t. xs ++ t) k.1 ∙ sym (append_assoc xs prefix k.0), k.2)
 
 -- A prefix of the first of two texts is a prefix of both joined.
-pub front_more : (front xs ys : List ℕ) → IsCut front xs → IsCut front (xs ++ ys)
-front_more front xs ys k = (
+pub prefix_more : (prefix xs ys : List ℕ) → IsCut prefix xs → IsCut prefix (xs ++ ys)
+prefix_more prefix xs ys k = (
   k.0 ++ ys,
-  ap (λ t. t ++ ys) k.1 ∙ append_assoc front k.0 ys,
+  ap (λ t. t ++ ys) k.1 ∙ append_assoc prefix k.0 ys,
   more_than_none k.0 ys k.2,
 )

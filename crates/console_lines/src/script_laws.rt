@@ -13,7 +13,7 @@ ghost use Rattle.console_lines.specs.Numbers.{number_of};
 ghost use Rattle.console_lines.specs.LineRequests.{wish_of, wished, refused_after, asks_derive};
 ghost use Rattle.console_lines.specs.Lines.{whole_lines, lines_of};
 ghost use Rattle.console_lines.specs.Words.{words_of, rest_of};
-ghost use Rattle.console_lines.specs.Progress.{IsFront, kept};
+ghost use Rattle.console_lines.specs.Progress.{IsPrefix, kept};
 ghost use Rattle.console_lines.specs.Script.{after_line, after_lines, replies, reply, script};
 ghost use Rattle.console_lines.specs.Script.{steps_of};
 ghost use Rattle.console_lines.specs.Strict.{rejection_in, strict_script};
@@ -63,7 +63,7 @@ pub fn a_moment_out_of_range_is_refused_after_names_and_texts()
 /// The replies to the first part of an input are printed first, whatever comes after that part.
 pub fn replies_dont_wait_for_what_follows()
     ensures { (s : Session) (first more : List ℕ)
-        → IsFront (replies s (whole_lines [] first)) (script s (first ++ more)) }
+        → IsPrefix (replies s (whole_lines [] first)) (script s (first ++ more)) }
 {}
 
 /// Lines leave the same session as the steps in them, one after another.
@@ -81,12 +81,12 @@ pub fn a_long_line_may_be_cut()
 
 /// Whatever comes after the first rejected line changes nothing about a strict run.
 pub fn a_strict_run_ends_at_its_rejected_line()
-    ensures rejection { (s : Session) (front behind : List ℕ) (rejection : RejectedLine)
-        → rejection_in s front ≡ Some rejection
-        → rejection_in s (front ++ 10 ∷ behind) ≡ Some rejection }
-    ensures script { (s : Session) (front behind : List ℕ) (rejection : RejectedLine)
-        → rejection_in s front ≡ Some rejection
-        → strict_script s (front ++ 10 ∷ behind) ≡ strict_script s front }
+    ensures rejection { (s : Session) (prefix behind : List ℕ) (rejection : RejectedLine)
+        → rejection_in s prefix ≡ Some rejection
+        → rejection_in s (prefix ++ 10 ∷ behind) ≡ Some rejection }
+    ensures script { (s : Session) (prefix behind : List ℕ) (rejection : RejectedLine)
+        → rejection_in s prefix ≡ Some rejection
+        → strict_script s (prefix ++ 10 ∷ behind) ≡ strict_script s prefix }
 {}
 
 /// If no line is rejected, a strict run prints the script.

@@ -56,7 +56,7 @@ pub fn ran_strictly<R: Read, W: Write, D: RunDisk>(
 }
 
 /// Runs a line over a book.
-pub fn said<A: Allocator + Copy, W: Write, D: RunDisk, B: Allocator>(
+pub fn as_printed<A: Allocator + Copy, W: Write, D: RunDisk, B: Allocator>(
     alloc: A,
     typed: &[u8],
     output: &mut W,

@@ -199,8 +199,8 @@ fn is_worked<R: fs::Files<File = File> + Threads + Wait + Sync + Abort>(
     let answer = worked_at(rt, alloc, disk, row.workers, &gate, &mut output);
     let (replied, disk) = night_on(rt, alloc, file_disk(rt, path), row.asked);
     drop(disk);
-    let is_told = output.as_slice() == row.printed && answer == row.answer;
-    is_told && replied.as_slice() == row.replied
+    let is_reported = output.as_slice() == row.printed && answer == row.answer;
+    is_reported && replied.as_slice() == row.replied
 }
 
 #[test]
@@ -248,8 +248,8 @@ fn a_night_whose_device_fails_acknowledges_nothing(rt: HostRuntime) {
         let disk = FailOnce::new(disk, call);
         let answer = worked(&rt, rt.alloc(), disk, 1, &mut output);
         holds(&rt, answer == Err(DEVICE), "fault at call", call as usize);
-        let is_told = output.as_slice() == printed;
-        holds(&rt, is_told, "text at call", call as usize);
+        let is_reported = output.as_slice() == printed;
+        holds(&rt, is_reported, "text at call", call as usize);
     }
 }
 
@@ -262,8 +262,8 @@ fn what_is_no_store_has_no_night(rt: HostRuntime) {
         let disk = done(&rt, MemoryDisk::new(rt.alloc(), size), "disk");
         let mut output = Vec::new(rt.alloc());
         let answer = worked(&rt, rt.alloc(), disk, 1, &mut output);
-        let told = Err(RunFault::Store(Trouble::Faulty(fault)));
-        holds(&rt, answer == told, "fault at size", size);
+        let reported = Err(RunFault::Store(Trouble::Faulty(fault)));
+        holds(&rt, answer == reported, "fault at size", size);
         holds(&rt, output.is_empty(), "nothing at size", size);
     }
 }
@@ -276,7 +276,7 @@ static CUT: [(usize, End, &[u8]); 3] = [
 ];
 
 #[test]
-fn a_night_that_can_not_be_told_has_a_front_out(rt: HostRuntime) {
+fn a_night_that_can_not_be_reported_has_a_prefix_out(rt: HostRuntime) {
     for (n, (left, end, printed)) in CUT.iter().enumerate() {
         let disk = stored_disk(&rt, rt.alloc(), b"bare g root\ngo g spin 3\n");
         let mut output = EndingWriter::new(Vec::new(rt.alloc()), 10, *left, *end);

@@ -1,7 +1,7 @@
 //! Nights that come to their end: what a person types, and what is printed.
 
 use crate::asserts::holds;
-use crate::runs::{Night, assert_goes_on, assert_printed, joined, run_lines, said_so};
+use crate::runs::{Night, assert_goes_on, assert_printed, joined, printed_so, run_lines};
 
 /// Without lines only the count is printed.
 const NO_INPUT: Night = (b"", b"acked 1\n");
@@ -129,7 +129,7 @@ fn a_line_is_any_bytes_but_the_line_feed(rt: HostRuntime) {
             (b"derive a root cause".as_slice(), b"scope 1\n".as_slice()),
             *odd,
         ];
-        let left = said_so(&rt, rt.alloc(), &lines, n);
+        let left = printed_so(&rt, rt.alloc(), &lines, n);
         holds(&rt, left.counts == (2, 1), "nothing is changed by line", n);
         drop(left);
     }
@@ -153,7 +153,7 @@ const RECORDS: &[u8] = b"\x01\0\x05\x01a\0\0\x02\x01\0\x05\x01b\0\x01\x01\x02\0\
 
 #[test]
 fn lines_change_the_session(rt: HostRuntime) {
-    let left = said_so(&rt, rt.alloc(), &LINES, 0);
+    let left = printed_so(&rt, rt.alloc(), &LINES, 0);
     holds(&rt, left.counts == (4, 1), "events", 0);
     holds(&rt, left.records.as_slice() == RECORDS, "records", 0);
     drop(left);
@@ -199,9 +199,9 @@ fn each_event_has_its_record(rt: HostRuntime) {
     let mut printed = Vec::new(rt.alloc());
     for (n, events) in [EVENTS.as_slice(), &CANCEL].iter().enumerate() {
         let left = run_lines(&rt, rt.alloc(), events, &mut printed);
-        let is_told = left.records == joined(&rt, rt.alloc(), events);
+        let is_reported = left.records == joined(&rt, rt.alloc(), events);
         drop(left);
-        holds(&rt, is_told, "records of events", n);
+        holds(&rt, is_reported, "records of events", n);
     }
 }
 

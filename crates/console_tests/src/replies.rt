@@ -37,7 +37,7 @@ enum Going {
 }
 
 /// A reply, as the table writes it.
-enum Told {
+enum Reported {
     BadLine,
     Acked(u64),
     Finished(u64),
@@ -60,36 +60,36 @@ enum Told {
     Result(u16, Option<u8>, bool, Option<&'static [u8]>),
 }
 
-fn reply_of(rt: &impl Abort, told: &Told) -> LineReply {
-    match told {
-        Told::BadLine => LineReply::BadLine,
-        Told::Acked(events) => LineReply::Step(run_model::Reply::Acked(*events)),
-        Told::Finished(event) => LineReply::Step(run_model::Reply::Finished(*event)),
-        Told::Value(value) => LineReply::Value(text(rt, value)),
-        Told::Task(task, going) => LineReply::Task(*task, phase_of(rt, going)),
-        Told::Failed(trouble) => LineReply::Failed(*trouble),
-        Told::Start => LineReply::Step(run_model::Reply::Started(start(rt))),
-        Told::Tally => LineReply::Tally(tally(rt)),
-        Told::Look(end, deadline) => LineReply::Scope(look(rt, end, *deadline)),
-        Told::Result(unfinished, limit, waited, error) => {
+fn reply_of(rt: &impl Abort, reported: &Reported) -> LineReply {
+    match reported {
+        Reported::BadLine => LineReply::BadLine,
+        Reported::Acked(events) => LineReply::Step(run_model::Reply::Acked(*events)),
+        Reported::Finished(event) => LineReply::Step(run_model::Reply::Finished(*event)),
+        Reported::Value(value) => LineReply::Value(text(rt, value)),
+        Reported::Task(task, going) => LineReply::Task(*task, phase_of(rt, going)),
+        Reported::Failed(trouble) => LineReply::Failed(*trouble),
+        Reported::Start => LineReply::Step(run_model::Reply::Started(start(rt))),
+        Reported::Tally => LineReply::Tally(tally(rt)),
+        Reported::Look(end, deadline) => LineReply::Scope(look(rt, end, *deadline)),
+        Reported::Result(unfinished, limit, waited, error) => {
             LineReply::Group(group(rt, *unfinished, *limit, *waited, *error))
         }
-        _ => LineReply::Step(run_model::Reply::Answer(answer_of(rt, told))),
+        _ => LineReply::Step(run_model::Reply::Answer(answer_of(rt, reported))),
     }
 }
 
 /// Says whether the reply of a row is buffered as this text and an LF.
-fn is_told(rt: &impl Abort, told: &Told, wanted: &str) -> bool {
-    is_appended(&reply_of(rt, told), wanted)
+fn is_reported(rt: &impl Abort, reported: &Reported, wanted: &str) -> bool {
+    is_appended(&reply_of(rt, reported), wanted)
 }
 
-fn answer_of(rt: &impl Abort, told: &Told) -> Answer {
-    match told {
-        Told::Scope(scope) => Answer::Scope(*scope),
-        Told::Group(group, scope) => Answer::Group(*group, *scope),
-        Told::Submitted(task, going) => Answer::Task(*task, phase_of(rt, going)),
-        Told::Waited => Answer::Waited(None),
-        Told::WaitedError(error) => Answer::Waited(Some(text(rt, error))),
+fn answer_of(rt: &impl Abort, reported: &Reported) -> Answer {
+    match reported {
+        Reported::Scope(scope) => Answer::Scope(*scope),
+        Reported::Group(group, scope) => Answer::Group(*group, *scope),
+        Reported::Submitted(task, going) => Answer::Task(*task, phase_of(rt, going)),
+        Reported::Waited => Answer::Waited(None),
+        Reported::WaitedError(error) => Answer::Waited(Some(text(rt, error))),
         _ => Answer::Done,
     }
 }
@@ -178,58 +178,58 @@ fn limit(rt: &impl Abort, most: Option<u8>) -> Limit {
 const LONGEST: &str = "done; deadline 253000000000; err context deadline exceeded; \
     cause ~~~~~~~~~~~~~~~~~~~~~~~~~~~~~~~~~~~~~~~~~~~~~~~~~~~~~~~~~~~~~~~~";
 
-static REPLIES: [(Told, &str); 33] = [
-    (Told::BadLine, "bad line"),
-    (Told::Value(b"eu west"), "value eu west"),
-    (Told::Acked(1), "acked 1"),
+static REPLIES: [(Reported, &str); 33] = [
+    (Reported::BadLine, "bad line"),
+    (Reported::Value(b"eu west"), "value eu west"),
+    (Reported::Acked(1), "acked 1"),
     (
-        Told::Acked(9_223_372_036_854_775_807),
+        Reported::Acked(9_223_372_036_854_775_807),
         "acked 9223372036854775807",
     ),
-    (Told::Scope(1_023), "scope 1023"),
-    (Told::Done, "ok"),
-    (Told::Group(0, Some(1)), "group 0 scope 1"),
-    (Told::Group(1, None), "group 1"),
-    (Told::Submitted(2, Going::Held), "task 2 held"),
-    (Told::Submitted(0, Going::Ready), "task 0 ready"),
-    (Told::Waited, "wait ok"),
-    (Told::WaitedError(b"disk"), "wait error disk"),
-    (Told::Finished(9), "ok"),
-    (Told::Task(7, Going::Held), "task 7 held"),
-    (Told::Task(7, Going::Ready), "task 7 ready"),
-    (Told::Task(7, Going::Running), "task 7 running"),
-    (Told::Task(7, Going::Success), "task 7 success"),
+    (Reported::Scope(1_023), "scope 1023"),
+    (Reported::Done, "ok"),
+    (Reported::Group(0, Some(1)), "group 0 scope 1"),
+    (Reported::Group(1, None), "group 1"),
+    (Reported::Submitted(2, Going::Held), "task 2 held"),
+    (Reported::Submitted(0, Going::Ready), "task 0 ready"),
+    (Reported::Waited, "wait ok"),
+    (Reported::WaitedError(b"disk"), "wait error disk"),
+    (Reported::Finished(9), "ok"),
+    (Reported::Task(7, Going::Held), "task 7 held"),
+    (Reported::Task(7, Going::Ready), "task 7 ready"),
+    (Reported::Task(7, Going::Running), "task 7 running"),
+    (Reported::Task(7, Going::Success), "task 7 success"),
     (
-        Told::Task(7, Going::Failure(b"no  room ")),
+        Reported::Task(7, Going::Failure(b"no  room ")),
         "task 7 error no  room ",
     ),
-    (Told::Task(7, Going::Interrupted), "task 7 interrupted"),
-    (Told::Task(8_191, Going::Ready), "task 8191 ready"),
+    (Reported::Task(7, Going::Interrupted), "task 7 interrupted"),
+    (Reported::Task(8_191, Going::Ready), "task 8191 ready"),
     (
-        Told::Failed(Trouble::Faulty(Fault::DiskFailed)),
+        Reported::Failed(Trouble::Faulty(Fault::DiskFailed)),
         "fault 2 DiskFailed",
     ),
     (
-        Told::Failed(Trouble::Faulty(Fault::NumbersSpent)),
+        Reported::Failed(Trouble::Faulty(Fault::NumbersSpent)),
         "fault 10 NumbersSpent",
     ),
     (
-        Told::Failed(Trouble::Refused(Refusal::Broken)),
+        Reported::Failed(Trouble::Refused(Refusal::Broken)),
         "refused 22 Broken",
     ),
-    (Told::Acked(4), "acked 4"),
-    (Told::Start, "start 8191 copy a-1_b"),
+    (Reported::Acked(4), "acked 4"),
+    (Reported::Start, "start 8191 copy a-1_b"),
     (
-        Told::Tally,
+        Reported::Tally,
         "tally spin total 8192; success 30; failure 200; interrupted 1000",
     ),
-    (Told::Look(None, None), "live; deadline none"),
+    (Reported::Look(None, None), "live; deadline none"),
     (
-        Told::Look(Some((Reason::Canceled, b"disk")), None),
+        Reported::Look(Some((Reason::Canceled, b"disk")), None),
         "done; deadline none; err context canceled; cause disk",
     ),
     (
-        Told::Look(
+        Reported::Look(
             Some((Reason::DeadlineExceeded, b"context deadline exceeded")),
             Some(1_704_074_400),
         ),
@@ -237,22 +237,22 @@ static REPLIES: [(Told, &str); 33] = [
          cause context deadline exceeded",
     ),
     (
-        Told::Look(
+        Reported::Look(
             Some((Reason::DeadlineExceeded, &[b'~'; 64])),
             Some(253_000_000_000),
         ),
         LONGEST,
     ),
     (
-        Told::Result(2, Some(1), false, None),
+        Reported::Result(2, Some(1), false, None),
         "unfinished 2; limit 1; waited no; error none",
     ),
     (
-        Told::Result(0, None, true, Some(b"no  room ")),
+        Reported::Result(0, None, true, Some(b"no  room ")),
         "unfinished 0; limit none; waited yes; error no  room ",
     ),
     (
-        Told::Result(8_192, Some(0), false, Some(b"none")),
+        Reported::Result(8_192, Some(0), false, Some(b"none")),
         "unfinished 8192; limit 0; waited no; error none",
     ),
 ];
@@ -260,7 +260,7 @@ static REPLIES: [(Told, &str); 33] = [
 #[test]
 fn replies_are_appended_as_their_texts(rt: HostRuntime) {
     for (n, row) in REPLIES.iter().enumerate() {
-        holds(&rt, is_told(&rt, &row.0, row.1), "reply", n);
+        holds(&rt, is_reported(&rt, &row.0, row.1), "reply", n);
     }
     holds(&rt, LONGEST.len() + 1 == LONGEST_REPLY, "longest reply", 0);
 }

@@ -51,7 +51,7 @@ static RETRIED: [Night; 2] = [
 ];
 
 #[test]
-fn an_interrupted_task_is_submitted_anew_by_a_line(rt: HostRuntime) {
+fn an_interrupted_task_is_submitted_again_by_a_line(rt: HostRuntime) {
     assert_opened_again(&rt, rt.alloc(), &OPENED_TWICE);
     assert_opened_again(&rt, rt.alloc(), &RETRIED);
 }

@@ -1,7 +1,7 @@
 //! Runs over books that the tests compare with tables.
 
 use crate::asserts::{done, holds};
-use crate::books::{counts, formatted, fresh, opened, ran, records, said};
+use crate::books::{as_printed, counts, formatted, fresh, opened, ran, records};
 use run_book::Book;
 use run_console::RunFault;
 use run_disk::{MemoryDisk, RunDisk};
@@ -88,7 +88,7 @@ pub fn night_on<D: RunDisk + Drop>(
 }
 
 /// What is printed for an input over a new book, which it makes durable.
-pub fn told(rt: &impl Abort, alloc: Global, typed: &[u8]) -> Vec<u8> {
+pub fn reported(rt: &impl Abort, alloc: Global, typed: &[u8]) -> Vec<u8> {
     let (printed, disk) = night_on(rt, alloc, formatted(rt, alloc, Layout::Small), typed);
     drop(disk);
     printed
@@ -97,7 +97,7 @@ pub fn told(rt: &impl Abort, alloc: Global, typed: &[u8]) -> Vec<u8> {
 /// Asserts what is printed for each of these nights, over a new book each.
 pub fn assert_printed(rt: &impl Abort, alloc: Global, nights: &[Night]) {
     for (n, night) in nights.iter().enumerate() {
-        let printed = told(rt, alloc, night.0);
+        let printed = reported(rt, alloc, night.0);
         holds(rt, printed.as_slice() == night.1, "night", n);
     }
 }
@@ -156,7 +156,7 @@ fn lines_over<W: Write, D: RunDisk>(
     book: &mut Book<D>,
 ) -> Result<(), RunFault> {
     for row in rows.iter() {
-        said(alloc, row.0, output, book)?;
+        as_printed(alloc, row.0, output, book)?;
     }
     Ok(())
 }
@@ -171,7 +171,7 @@ pub fn joined(rt: &impl Abort, alloc: Global, rows: &[Night]) -> Vec<u8> {
 }
 
 /// Asserts the reply of each line, run by itself over a new book. Gives what they left.
-pub fn said_so(rt: &impl Abort, alloc: Global, lines: &[Night], row: usize) -> Left {
+pub fn printed_so(rt: &impl Abort, alloc: Global, lines: &[Night], row: usize) -> Left {
     let mut printed = Vec::new(alloc);
     let left = run_lines(rt, alloc, lines, &mut printed);
     holds(rt, left.result.is_ok(), "lines", row);

@@ -51,7 +51,7 @@ fn after(given: usize) -> (usize, &'static [u8]) {
 }
 
 /// Says whether a text is the first this many bytes of another.
-fn is_front(text: &[u8], whole: &[u8], count: usize) -> bool {
+fn is_prefix(text: &[u8], whole: &[u8], count: usize) -> bool {
     text.len() == count && whole.starts_with(text)
 }
 
@@ -63,7 +63,7 @@ fn assert_unread(rt: &impl Abort, alloc: Global, part: usize, given: usize) {
     let mut printed = Vec::new(alloc);
     let ended = run_new(rt, alloc, alloc, &mut input, &mut printed);
     holds(rt, ended.result == Err(RunFault::Input), "fault", given);
-    holds(rt, is_front(&printed, PRINTED, replied), "replies", given);
+    holds(rt, is_prefix(&printed, PRINTED, replied), "replies", given);
     holds(rt, ended.shown.as_slice() == shown, "book", given);
 }
 
@@ -108,8 +108,8 @@ fn assert_written(rt: &impl Abort, alloc: Global, part: usize, writing: Writing,
         _ => Err(RunFault::Output),
     };
     holds(rt, ended.result == wanted, "fault", written);
-    let is_told = is_front(&output.into_written(), PRINTED, written);
-    holds(rt, is_told, "replies", written);
+    let is_reported = is_prefix(&output.into_written(), PRINTED, written);
+    holds(rt, is_reported, "replies", written);
     let shown = match part {
         1 => cut_at(written),
         _ => DONE,
@@ -120,7 +120,7 @@ fn assert_written(rt: &impl Abort, alloc: Global, part: usize, writing: Writing,
 }
 
 #[test]
-fn a_failed_write_leaves_a_front(rt: HostRuntime) {
+fn a_failed_write_leaves_a_prefix(rt: HostRuntime) {
     for end in [End::Fails, End::TakesNothing] {
         for writes in 0..=PRINTED.len() {
             assert_written(&rt, rt.alloc(), 1, (1, writes, end), writes);
@@ -156,9 +156,9 @@ fn a_line_is_run_whose_reply_cant_be_written(rt: HostRuntime) {
         for (n, (lines, (most, writes), written, counts)) in CUT.iter().enumerate() {
             let mut output = EndingWriter::new(Vec::new(rt.alloc()), *most, *writes, end);
             let left = run_lines(&rt, rt.alloc(), lines, &mut output);
-            let is_told = left.result == Err(RunFault::Output) && left.counts == *counts;
+            let is_reported = left.result == Err(RunFault::Output) && left.counts == *counts;
             drop(left);
-            holds(&rt, is_told, "line", n);
+            holds(&rt, is_reported, "line", n);
             holds(&rt, output.into_written().as_slice() == *written, "text", n);
         }
     }
@@ -192,11 +192,11 @@ fn hoarded(rt: &impl Abort, alloc: Global, typed: &[u8], spared: usize) -> (Ende
 fn a_tally_without_memory_has_no_line(rt: HostRuntime) {
     for spared in 0..600 {
         let (ended, printed) = hoarded(&rt, rt.alloc(), TALLY, spared);
-        let told = match ended.result {
+        let reported = match ended.result {
             Ok(()) => spared > 0 && printed.as_slice() == TALLIED,
             Err(fault) => fault == RunFault::Memory && printed.as_slice() == BEFORE,
         };
-        holds(&rt, told, "bytes spared", spared);
+        holds(&rt, reported, "bytes spared", spared);
         holds(
             &rt,
             ended.counts.0 == 5,
@@ -209,8 +209,8 @@ fn a_tally_without_memory_has_no_line(rt: HostRuntime) {
 #[test]
 fn other_replies_take_no_memory(rt: HostRuntime) {
     let (ended, printed) = hoarded(&rt, rt.alloc(), TYPED, 0);
-    let is_told = ended.result.is_ok() && printed.as_slice() == PRINTED;
-    holds(&rt, is_told, "bytes spared", 0);
+    let is_reported = ended.result.is_ok() && printed.as_slice() == PRINTED;
+    holds(&rt, is_reported, "bytes spared", 0);
 }
 
 #[test]
@@ -219,8 +219,8 @@ fn memory_is_given_back(rt: HostRuntime) {
         let heap = heap(&rt, rt.alloc(), 4_000);
         let mut printed = Vec::new(rt.alloc());
         let ended = run_new(&rt, rt.alloc(), &heap, &mut typed, &mut printed);
-        let is_told = ended.result.is_ok() && printed.as_slice() == wanted;
-        holds(&rt, is_told && heap.used() == 0, "night", n);
+        let is_reported = ended.result.is_ok() && printed.as_slice() == wanted;
+        holds(&rt, is_reported && heap.used() == 0, "night", n);
     }
 }
 

@@ -2,10 +2,10 @@
 //! are spent, put an end to.
 
 use crate::asserts::{done, holds};
-use crate::books::{counts, formatted, image, opened, ran, said, stored};
+use crate::books::{as_printed, counts, formatted, image, opened, ran, stored};
 use crate::parts::Part::{self, Times, Typed};
 use crate::parts::whole;
-use crate::runs::{Ended, Night, night_on, run_on, run_over, said_so};
+use crate::runs::{Ended, Night, night_on, printed_so, run_on, run_over};
 use crate::writers::{End, EndingWriter};
 use run_book::Book;
 use run_console::RunFault;
@@ -19,7 +19,7 @@ use std::process::Abort;
 static TEARS: [(Torn, Torn); 3] = [
     (Torn::Keep, Torn::Take),
     (Torn::Fill(0), Torn::Fill(0xA7)),
-    (Torn::Front(0), Torn::Front(1)),
+    (Torn::Prefix(0), Torn::Prefix(1)),
 ];
 
 /// Asserts how many events are stored in what a stop after this many calls leaves, torn so that all
@@ -74,7 +74,7 @@ fn a_stop_leaves_what_was_acknowledged(rt: HostRuntime) {
         let [one, two, three, four, five, six] = LINES;
         let last = (*last, b"acked 6\n".as_slice());
         let lines = [one, two, three, four, five, six, last];
-        let left = said_so(&rt, rt.alloc(), &lines, n);
+        let left = printed_so(&rt, rt.alloc(), &lines, n);
         let all = calls.saturating_add(BEFORE);
         let is_saved = left.counts == (6, 6) && left.disk.calls() == all;
         holds(&rt, is_saved, "save", n);
@@ -135,8 +135,8 @@ static STORED: [(u64, u64, u64, u64); 11] = [
 fn a_stop_at_each_call_of_a_run_leaves_what_was_acknowledged(rt: HostRuntime) {
     let disk = formatted(&rt, rt.alloc(), Layout::Small);
     let (printed, disk) = night_on(&rt, rt.alloc(), disk, SAVING.0);
-    let is_told = printed.as_slice() == SAVING.1 && disk.calls() == 43;
-    holds(&rt, is_told, "calls", 43);
+    let is_reported = printed.as_slice() == SAVING.1 && disk.calls() == 43;
+    holds(&rt, is_reported, "calls", 43);
     for (from, to, closed, open) in STORED.iter() {
         for calls in *from..=*to {
             let made = calls.saturating_add(8);
@@ -180,7 +180,7 @@ fn assert_broken<D: RunDisk>(rt: &impl Abort, alloc: Global, book: &mut Book<D>,
     let mut output = Vec::new(alloc);
     let run = ran(alloc, &mut input, &mut output, book);
     holds(rt, run == Err(BROKEN), "a run after fault", row);
-    let line = said(alloc, b"scope a", &mut output, book);
+    let line = as_printed(alloc, b"scope a", &mut output, book);
     holds(rt, line == Err(BROKEN), "a line after fault", row);
     let is_same = input.len() == TYPED.len() && counts(book) == before;
     let is_still = is_same && output.is_empty();
@@ -200,8 +200,8 @@ fn assert_fails<D: RunDisk + Drop>(
     let mut printed = Vec::new(alloc);
     let ended = run_over(alloc, alloc, &mut &TYPED[..], &mut printed, &mut book);
     holds(rt, ended.result == Err(FAILED), "fault", row);
-    let is_told = printed.as_slice() == wanted;
-    holds(rt, is_told, "replies before fault", row);
+    let is_reported = printed.as_slice() == wanted;
+    holds(rt, is_reported, "replies before fault", row);
     holds(rt, ended.counts == events, "events before fault", row);
     assert_broken(rt, alloc, &mut book, row);
     drop(book);
@@ -268,10 +268,10 @@ fn a_fault_is_printed_as_far_as_it_goes(rt: HostRuntime) {
             let ended = fused(&rt, rt.alloc(), 0, typed, &mut output);
             let wanted = if writes < 8 { RunFault::Output } else { FAILED };
             let printed = output.into_written();
-            let is_front = printed.len() == writes && CUT.starts_with(&printed);
+            let is_prefix = printed.len() == writes && CUT.starts_with(&printed);
             let is_left = ended.counts == (2, 1) && ended.shown.is_empty();
             holds(&rt, ended.result == Err(wanted), "fault at write", writes);
-            holds(&rt, is_front, "text at write", writes);
+            holds(&rt, is_prefix, "text at write", writes);
             holds(&rt, is_left, "book at write", writes);
         }
     }
@@ -330,9 +330,9 @@ fn spent_numbers_end_a_run_and_break_no_book(rt: HostRuntime) {
         let (typed, wanted) = whole(&rt, rt.alloc(), parts);
         let mut printed = Vec::new(rt.alloc());
         let ended = run_spent(&rt, rt.alloc(), &typed, &mut printed);
-        let is_told = ended.result == Err(spent) && printed == wanted;
+        let is_reported = ended.result == Err(spent) && printed == wanted;
         let is_left = ended.counts == (*events, 1) && ended.shown.as_slice() == *shown;
-        holds(&rt, is_told, "night", n);
+        holds(&rt, is_reported, "night", n);
         holds(&rt, is_left, "book after night", n);
     }
 }

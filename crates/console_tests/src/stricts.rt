@@ -155,8 +155,8 @@ fn no_more_is_read_after_the_part_of_the_rejected_line(rt: HostRuntime) {
     let mut printed = Vec::new(rt.alloc());
     let disk = formatted(&rt, rt.alloc(), Layout::Small);
     let ended = run_strictly(&rt, rt.alloc(), disk, &mut input, &mut printed);
-    let is_told = ended.0 == refused(1_201, Refusal::NotCancellable);
-    holds(&rt, is_told, "the line that strays", 1_201);
+    let is_reported = ended.0 == refused(1_201, Refusal::NotCancellable);
+    holds(&rt, is_reported, "the line that strays", 1_201);
     holds(&rt, printed == wanted, "what is printed", 0);
     holds(&rt, ended.1 == (1, 1), "the lines after it", 0);
     // Of 18,212 bytes four parts were read.
@@ -188,7 +188,7 @@ fn a_failed_read_before_the_rejected_line_is_a_fault(rt: HostRuntime) {
         let (result, counts) = run_strictly(&rt, rt.alloc(), disk, &mut input, &mut printed);
         let (replied, events) = after(given);
         // The third line ends with the 39th byte. Where that is there, nothing is read after it.
-        let told = match given {
+        let reported = match given {
             0..=38 => {
                 result == Err(RunFault::Input)
                     && printed.len() == replied
@@ -201,7 +201,7 @@ fn a_failed_read_before_the_rejected_line_is_a_fault(rt: HostRuntime) {
                     && counts == (3, 3)
             }
         };
-        holds(&rt, told, "a read fails after byte", given);
+        holds(&rt, reported, "a read fails after byte", given);
     }
 }
 
@@ -225,14 +225,14 @@ fn a_failed_write_is_a_fault_and_runs_no_line_after_the_rejected_one(rt: HostRun
                 let mut output = EndingWriter::new(Vec::new(rt.alloc()), 1, written, end);
                 let ended = run_strictly(&rt, rt.alloc(), disk, &mut input, &mut output);
                 let printed = output.into_written();
-                let is_front = printed.len() == written && PRINTED.starts_with(&printed);
+                let is_prefix = printed.len() == written && PRINTED.starts_with(&printed);
                 holds(
                     &rt,
                     ended.0 == Err(RunFault::Output),
                     "bytes, fault",
                     written,
                 );
-                holds(&rt, is_front, "bytes written", written);
+                holds(&rt, is_prefix, "bytes written", written);
                 holds(
                     &rt,
                     ended.1 == cut_at(written, part),
@@ -275,6 +275,6 @@ fn a_rejected_line_is_printed_by_its_number_and_its_reply(rt: HostRuntime) {
         number: 16_777_217,
         why: Rejection::Refused(Refusal::Unfinished(2)),
     };
-    let told = done(&rt, format!(in rt.alloc(); "{bad}, {refused}"), "memory");
-    assert!(rt; told.as_str() == "line 7: bad line, line 16777217: refused 16 Unfinished 2");
+    let reported = done(&rt, format!(in rt.alloc(); "{bad}, {refused}"), "memory");
+    assert!(rt; reported.as_str() == "line 7: bad line, line 16777217: refused 16 Unfinished 2");
 }

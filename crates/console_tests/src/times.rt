@@ -154,7 +154,7 @@ fn a_strict_run_counts_the_advances(rt: HostRuntime) {
 }
 
 #[test]
-fn a_read_that_fails_is_told(rt: HostRuntime) {
+fn a_read_that_fails_is_reported(rt: HostRuntime) {
     let times = [100, 101, 102];
     let fails = Then::Fails;
     let (end, output, _) = timed(&rt, rt.alloc(), &times, b"scope root\n", 4096, fails);

@@ -7,7 +7,7 @@ mod own;
 use crate::asserts::{done, given, holds};
 use crate::words::cases::{
     CREWS, Case, DEMO, FLAGS, HELP, JSON_TASKS, MIGRATIONS, PLAN, RENEWALS, RENEWALS_IN_PLACE,
-    RUNS, SOME_TASKS, STORES, TWO_VIEWS, Told, VERSION, VIEWS,
+    RUNS, Reported, SOME_TASKS, STORES, TWO_VIEWS, VERSION, VIEWS,
 };
 use crate::words::mistakes::{MISTAKES, STRAY_FLAGS};
 use night_words::{Request, WordsFault, read_words};
@@ -61,17 +61,17 @@ fn texts_of(alloc: Global, words: &[&str]) -> Result<Vec<String>, AllocError> {
 }
 
 /// Whether the request is this word over this store, with its flag or without one.
-fn is_store(told: &Told, word: &str, store: &str, is_set: bool) -> bool {
-    match told {
-        Told::Store(its, name, flag) => *its == word && *name == store && *flag == is_set,
+fn is_store(reported: &Reported, word: &str, store: &str, is_set: bool) -> bool {
+    match reported {
+        Reported::Store(its, name, flag) => *its == word && *name == store && *flag == is_set,
         _ => false,
     }
 }
 
 /// Whether the request is a run over this store, strict or not, and by the machine's time or not.
-fn is_script(told: &Told, store: &str, strict: bool, is_timed: bool) -> bool {
-    match told {
-        Told::Script(name, s, t) => *name == store && *s == strict && *t == is_timed,
+fn is_script(reported: &Reported, store: &str, strict: bool, is_timed: bool) -> bool {
+    match reported {
+        Reported::Script(name, s, t) => *name == store && *s == strict && *t == is_timed,
         _ => false,
     }
 }
@@ -93,17 +93,17 @@ fn is_view(view: View, other: View) -> bool {
 }
 
 /// Says whether this view of this store is told.
-fn is_inspect(told: &Told, store: &str, view: View) -> bool {
-    match told {
-        Told::Inspect(name, its) => *name == store && is_view(*its, view),
-        Told::Tasks(name, phase, group) => {
+fn is_inspect(reported: &Reported, store: &str, view: View) -> bool {
+    match reported {
+        Reported::Inspect(name, its) => *name == store && is_view(*its, view),
+        Reported::Tasks(name, phase, group) => {
             let its = View::Tasks {
                 phase: *phase,
                 group: *group,
             };
             *name == store && is_view(its, view)
         }
-        Told::Json(name, phase, group) => {
+        Reported::Json(name, phase, group) => {
             let its = View::Json {
                 phase: *phase,
                 group: *group,
@@ -115,75 +115,77 @@ fn is_inspect(told: &Told, store: &str, view: View) -> bool {
 }
 
 /// Says whether a demo is told, strict or not.
-fn is_demo(told: &Told, strict: bool) -> bool {
-    match told {
-        Told::Demo(flag) => *flag == strict,
+fn is_demo(reported: &Reported, strict: bool) -> bool {
+    match reported {
+        Reported::Demo(flag) => *flag == strict,
         _ => false,
     }
 }
 
 /// Says whether a crew of this many workers over this store is told, of known jobs or not.
-fn is_crew(told: &Told, store: &str, workers: u8, known: bool) -> bool {
-    match told {
-        Told::Crew(name, number, flag) => { *name == store && *number == workers && *flag == known }
+fn is_crew(reported: &Reported, store: &str, workers: u8, known: bool) -> bool {
+    match reported {
+        Reported::Crew(name, number, flag) => {
+            *name == store && *number == workers && *flag == known
+        }
         _ => false,
     }
 }
 
 /// Says whether a migration from this store to that one is told, in a new file alone or in any.
-fn is_migration(told: &Told, old: &str, new: &str, is_new: bool) -> bool {
-    match told {
-        Told::Migration(from, to, flag) => *from == old && *to == new && *flag == is_new,
+fn is_migration(reported: &Reported, old: &str, new: &str, is_new: bool) -> bool {
+    match reported {
+        Reported::Migration(from, to, flag) => *from == old && *to == new && *flag == is_new,
         _ => false,
     }
 }
 
 /// Says whether a renewal of this store to that one is told, in the same way.
-fn is_renewal(told: &Told, old: &str, new: &str, is_new: bool) -> bool {
-    match told {
-        Told::Renewal(from, to, flag) => *from == old && *to == new && *flag == is_new,
+fn is_renewal(reported: &Reported, old: &str, new: &str, is_new: bool) -> bool {
+    match reported {
+        Reported::Renewal(from, to, flag) => *from == old && *to == new && *flag == is_new,
         _ => false,
     }
 }
 
 /// Says whether a renewal of this store in its place is told.
-fn is_in_place(told: &Told, store: &str) -> bool {
-    match told {
-        Told::InPlace(name) => *name == store,
+fn is_in_place(reported: &Reported, store: &str) -> bool {
+    match reported {
+        Reported::InPlace(name) => *name == store,
         _ => false,
     }
 }
 
 /// Says whether this text for help is told, or a part of it.
-fn is_help(told: &Told, text: &str) -> bool {
-    match told {
-        Told::Help(part) => text.contains(*part),
-        Told::Text(whole) => text == *whole,
+fn is_help(reported: &Reported, text: &str) -> bool {
+    match reported {
+        Reported::Help(part) => text.contains(*part),
+        Reported::Text(whole) => text == *whole,
         _ => false,
     }
 }
 
 /// Says whether the words ask for what they should.
-fn is_asked(asked: &Request, told: &Told) -> bool {
+fn is_asked(asked: &Request, reported: &Reported) -> bool {
     match asked {
-        Request::Demo { strict } => is_demo(told, *strict),
-        Request::Format { store, is_new } => is_store(told, "format", store, *is_new),
+        Request::Demo { strict } => is_demo(reported, *strict),
+        Request::Format { store, is_new } => is_store(reported, "format", store, *is_new),
         Request::Script {
             store,
             strict,
             is_timed,
-        } => is_script(told, store, *strict, *is_timed),
-        Request::Inspect { store, view } => is_inspect(told, store, *view),
+        } => is_script(reported, store, *strict, *is_timed),
+        Request::Inspect { store, view } => is_inspect(reported, store, *view),
         Request::Crew {
             store,
             workers,
             known,
-        } => is_crew(told, store, *workers, *known),
-        Request::Migrate { old, new, is_new } => is_migration(told, old, new, *is_new),
-        Request::Renew { old, new, is_new } => is_renewal(told, old, new, *is_new),
-        Request::RenewInPlace(store) => is_in_place(told, store),
-        Request::Plan => matches!(told, Told::Plan),
-        Request::Help(text) => is_help(told, text),
+        } => is_crew(reported, store, *workers, *known),
+        Request::Migrate { old, new, is_new } => is_migration(reported, old, new, *is_new),
+        Request::Renew { old, new, is_new } => is_renewal(reported, old, new, *is_new),
+        Request::RenewInPlace(store) => is_in_place(reported, store),
+        Request::Plan => matches!(reported, Reported::Plan),
+        Request::Help(text) => is_help(reported, text),
     }
 }
 
@@ -193,15 +195,15 @@ fn has_part(text: &str, part: &str) -> bool {
 }
 
 /// Says whether the words are the mistake that they should be.
-fn is_mistake(alloc: Global, fault: &WordsFault, told: &Told) -> Result<bool, AllocError> {
-    match (fault, told) {
-        (WordsFault::SameStores, Told::SameStores) => Ok(true),
-        (WordsFault::Workers, Told::Workers) => Ok(true),
-        (WordsFault::Views, Told::Views) => Ok(true),
-        (WordsFault::NoTree, Told::NoTree) => Ok(true),
-        (WordsFault::Phase, Told::Phase) => Ok(true),
-        (WordsFault::Place, Told::Place) => Ok(true),
-        (WordsFault::Mistake(_), Told::Mistake(part)) => {
+fn is_mistake(alloc: Global, fault: &WordsFault, reported: &Reported) -> Result<bool, AllocError> {
+    match (fault, reported) {
+        (WordsFault::SameStores, Reported::SameStores) => Ok(true),
+        (WordsFault::Workers, Reported::Workers) => Ok(true),
+        (WordsFault::Views, Reported::Views) => Ok(true),
+        (WordsFault::NoTree, Reported::NoTree) => Ok(true),
+        (WordsFault::Phase, Reported::Phase) => Ok(true),
+        (WordsFault::Place, Reported::Place) => Ok(true),
+        (WordsFault::Mistake(_), Reported::Mistake(part)) => {
             Ok(has_part(&fault.to_string(alloc)?, part))
         }
         _ => Ok(false),
@@ -209,55 +211,55 @@ fn is_mistake(alloc: Global, fault: &WordsFault, told: &Told) -> Result<bool, Al
 }
 
 /// Says whether the words are answered so.
-fn is_told(alloc: Global, words: &[&str], told: &Told) -> Result<bool, AllocError> {
+fn is_reported(alloc: Global, words: &[&str], reported: &Reported) -> Result<bool, AllocError> {
     let texts = texts_of(alloc, words)?;
     match read_words(alloc, texts.as_slice()) {
-        Ok(asked) => Ok(is_asked(&asked, told)),
-        Err(fault) => is_mistake(alloc, &fault, told),
+        Ok(asked) => Ok(is_asked(&asked, reported)),
+        Err(fault) => is_mistake(alloc, &fault, reported),
     }
 }
 
 /// Asserts that the words of each row are answered so.
-fn assert_told(rt: &impl Abort, alloc: Global, cases: &[Case]) {
+fn assert_reported(rt: &impl Abort, alloc: Global, cases: &[Case]) {
     for (n, case) in cases.iter().enumerate() {
-        let is_so = done(rt, is_told(alloc, case.0, &case.1), "memory");
+        let is_so = done(rt, is_reported(alloc, case.0, &case.1), "memory");
         holds(rt, is_so, "row", n);
     }
 }
 
 #[test]
 fn a_command_without_a_store_is_asked_for(rt: HostRuntime) {
-    assert_told(&rt, rt.alloc(), &DEMO);
-    assert_told(&rt, rt.alloc(), &PLAN);
+    assert_reported(&rt, rt.alloc(), &DEMO);
+    assert_reported(&rt, rt.alloc(), &PLAN);
 }
 
 #[test]
 fn a_store_is_named(rt: HostRuntime) {
-    assert_told(&rt, rt.alloc(), &STORES);
+    assert_reported(&rt, rt.alloc(), &STORES);
 }
 
 #[test]
 fn a_flag_may_stand_there(rt: HostRuntime) {
-    assert_told(&rt, rt.alloc(), &FLAGS);
-    assert_told(&rt, rt.alloc(), &RUNS);
+    assert_reported(&rt, rt.alloc(), &FLAGS);
+    assert_reported(&rt, rt.alloc(), &RUNS);
 }
 
 #[test]
 fn a_view_may_be_asked_for(rt: HostRuntime) {
-    assert_told(&rt, rt.alloc(), &VIEWS);
-    assert_told(&rt, rt.alloc(), &TWO_VIEWS);
+    assert_reported(&rt, rt.alloc(), &VIEWS);
+    assert_reported(&rt, rt.alloc(), &TWO_VIEWS);
 }
 
 #[test]
 fn some_tasks_may_be_asked_for(rt: HostRuntime) {
-    assert_told(&rt, rt.alloc(), &SOME_TASKS);
-    assert_told(&rt, rt.alloc(), &JSON_TASKS);
+    assert_reported(&rt, rt.alloc(), &SOME_TASKS);
+    assert_reported(&rt, rt.alloc(), &JSON_TASKS);
 }
 
 #[test]
 fn two_stores_are_named(rt: HostRuntime) {
-    assert_told(&rt, rt.alloc(), &MIGRATIONS);
-    assert_told(&rt, rt.alloc(), &RENEWALS);
+    assert_reported(&rt, rt.alloc(), &MIGRATIONS);
+    assert_reported(&rt, rt.alloc(), &RENEWALS);
 }
 
 /// The words of the phases.
@@ -314,17 +316,17 @@ fn each_phase_has_its_word(rt: HostRuntime) {
 
 #[test]
 fn a_store_may_be_renewed_in_place(rt: HostRuntime) {
-    assert_told(&rt, rt.alloc(), &RENEWALS_IN_PLACE);
+    assert_reported(&rt, rt.alloc(), &RENEWALS_IN_PLACE);
 }
 
 #[test]
 fn a_crew_is_named(rt: HostRuntime) {
-    assert_told(&rt, rt.alloc(), &CREWS);
+    assert_reported(&rt, rt.alloc(), &CREWS);
 }
 
 #[test]
 fn help_is_shown(rt: HostRuntime) {
-    assert_told(&rt, rt.alloc(), &HELP);
+    assert_reported(&rt, rt.alloc(), &HELP);
 }
 
 /// How many of all lines the help of this word has, in their order, up to the first that it leaves
@@ -356,15 +358,15 @@ fn all_lines_are_listed(rt: HostRuntime) {
 
 #[test]
 fn the_version_is_shown(rt: HostRuntime) {
-    assert_told(&rt, rt.alloc(), &VERSION);
+    assert_reported(&rt, rt.alloc(), &VERSION);
 }
 
 #[test]
 fn mistakes_say_what_is_wrong(rt: HostRuntime) {
-    assert_told(&rt, rt.alloc(), &MISTAKES);
+    assert_reported(&rt, rt.alloc(), &MISTAKES);
 }
 
 #[test]
 fn other_flags_are_mistakes(rt: HostRuntime) {
-    assert_told(&rt, rt.alloc(), &STRAY_FLAGS);
+    assert_reported(&rt, rt.alloc(), &STRAY_FLAGS);
 }

@@ -56,16 +56,16 @@ submission_given : (g : ℕ) (group job argument : List ℕ) → is_name group �
     → (is_name group && is_name job && is_name argument) ≡ true
 submission_given g group job argument named e =
     let all = and_parts _ _ e in
-    let front = and_parts _ _ all.0 in
-    and_from _ _ (and_from _ _ named front.1) all.1
+    let prefix = and_parts _ _ all.0 in
+    and_from _ _ (and_from _ _ named prefix.1) all.1
 
 unrefused_given : (p : State) (call : Command) → AreNamed p
     → list_all (λ t. not t.0) (refusals p (event_of p call)) ≡ true
     → is_recorded (event_of p call) ≡ true → is_command call ≡ true
 unrefused_given p (command.Derive name parent w) named may e =
     let all = and_parts _ _ e in
-    let front = and_parts _ _ all.0 in
-    and_from _ _ (and_from _ _ front.0 (found_scope_name p parent _ named may))
+    let prefix = and_parts _ _ all.0 in
+    and_from _ _ (and_from _ _ prefix.0 (found_scope_name p parent _ named may))
     (made_wish p.tree.clock w all.1)
 unrefused_given p (command.Cancel scope cause) named may e =
     let all = and_parts _ _ e in

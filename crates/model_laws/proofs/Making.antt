@@ -116,34 +116,35 @@ same_task : (n m : ℕ) (a b : Phase) → answer.Task n a ≡ answer.Task m b �
 same_task n m a b e = (cc, cc)
 
 -- A new row at the end is shown in the phase of the answer.
-pub record Submitted (p : State) (row : Task) (n : ℕ) (told : Phase) (q : State) : Type 0 where
+pub record Submitted (p : State) (row : Task) (n : ℕ) (reported : Phase) (q : State) : Type 0 where
   pub seen : task_look_of q n
-      ≡ Some (task_seen row.group row.job row.argument told row.retry_of)
-  pub phase : told ≡ phase_by (is_admitted q.work (length p.work.tasks) row) row.stage
+      ≡ Some (task_seen row.group row.job row.argument reported row.retry_of)
+  pub phase : reported ≡ phase_by (is_admitted q.work (length p.work.tasks) row) row.stage
 
-submitted : (p : State) (row : Task) (n : ℕ) (told : Phase) (q : State)
-    → q.work.tasks ≡ p.work.tasks ++ row ∷ [] → submission p q ≡ answer.Task n told
-    → Submitted p row n told q
-submitted p row n told q pushed e =
+submitted : (p : State) (row : Task) (n : ℕ) (reported : Phase) (q : State)
+    → q.work.tasks ≡ p.work.tasks ++ row ∷ [] → submission p q ≡ answer.Task n reported
+    → Submitted p row n reported q
+submitted p row n reported q pushed e =
     let len : ℕ = length p.work.tasks in
     let found = pushed_row p.work.tasks q.work.tasks row pushed in
-    let same = same_task len n (unwrap_or (phase_of q.work len) phase.Held) told e in
+    let same = same_task len n (unwrap_or (phase_of q.work len) phase.Held) reported e in
     let fresh = sym same.1 ∙ phase_of_fresh q.work len row found in
     let look = λ (ph : Phase). Some (task_seen row.group row.job row.argument ph row.retry_of) in
     let here = task_found q len row found ∙ ap look (sym fresh) in
     record {
-      seen = subst (λ (m : ℕ). task_look_of q m ≡ look told) same.0 here;
+      seen = subst (λ (m : ℕ). task_look_of q m ≡ look reported) same.0 here;
       phase = fresh;
     }
 
-pub go_seen : (s : Session) (group job argument : List ℕ) (n : ℕ) (told : Phase) (q : State)
-    → Answered s (command.Go group job argument) (answer.Task n told) q
-    → task_look_of q n ≡ Some (task_seen (group_of s.state group) job argument told None)
-go_seen s group job argument n told q answered =
+pub go_seen : (s : Session) (group job argument : List ℕ) (n : ℕ) (reported : Phase) (q : State)
+    → Answered s (command.Go group job argument) (answer.Task n reported) q
+    → task_look_of q n ≡ Some (task_seen (group_of s.state group) job argument reported None)
+go_seen s group job argument n reported q answered =
     let row : Task = new_task (group_of s.state group) job argument None in
-    let done = carried_out s (command.Go group job argument) (answer.Task n told) q refl answered in
+    let done = carried_out s (command.Go group job argument)
+    (answer.Task n reported) q refl answered in
     let pushed = ap (λ (t : State). t.work.tasks) done.leaves in
-    (submitted s.state row n told q pushed done.answer).seen
+    (submitted s.state row n reported q pushed done.answer).seen
 
 -- A group that admits one more admits the new task.
 new_admitted : (w : WorkState) (g : ℕ) (job argument : List ℕ)
@@ -156,18 +157,18 @@ new_admitted w g job argument room =
     (take-append_seam w.tasks (new_task g job argument None ∷ []))
     ∙ room
 
-pub tried_seen : (s : Session) (group job argument : List ℕ) (n : ℕ) (told : Phase) (q : State)
-    → Answered s (command.TryGo group job argument) (answer.Task n told) q
-    → (told ≡ phase.Ready)
-    × (task_look_of q n ≡ Some (task_seen (group_of s.state group) job argument told None))
-tried_seen s group job argument n told q answered =
+pub tried_seen : (s : Session) (group job argument : List ℕ) (n : ℕ) (reported : Phase) (q : State)
+    → Answered s (command.TryGo group job argument) (answer.Task n reported) q
+    → (reported ≡ phase.Ready)
+    × (task_look_of q n ≡ Some (task_seen (group_of s.state group) job argument reported None))
+tried_seen s group job argument n reported q answered =
     let w : WorkState = s.state.work in
     let g : ℕ = group_of s.state group in
     let row : Task = new_task g job argument None in
-    let a = answer.Task n told in
+    let a = answer.Task n reported in
     let done = carried_out s (command.TryGo group job argument) a q refl answered in
     let pushed = ap (λ (t : State). t.work.tasks) done.leaves in
-    let new = submitted s.state row n told q pushed done.answer in
+    let new = submitted s.state row n reported q pushed done.answer in
     let parts = each_fails (refusals s.state (event.TryGo g job argument)) done.may in
     let room = not-false (admits (limit_of w g) (unfinished_in g w.tasks)) parts.1.1.1.0 in
     let admitted =
@@ -175,17 +176,17 @@ tried_seen s group job argument n told q answered =
     ∙ new_admitted w g job argument room in
     (new.phase ∙ ap (λ (b : Bool). phase_by b stage.Fresh) admitted, new.seen)
 
-pub retried_seen : (s : Session) (n m : ℕ) (old : Task) (told : Phase) (q : State)
-    → HasRow s.state.work.tasks n old → Answered s (command.Retry n) (answer.Task m told) q
-    → task_look_of q m ≡ Some (task_seen old.group old.job old.argument told (Some n))
-retried_seen s n m old told q found answered =
+pub retried_seen : (s : Session) (n m : ℕ) (old : Task) (reported : Phase) (q : State)
+    → HasRow s.state.work.tasks n old → Answered s (command.Retry n) (answer.Task m reported) q
+    → task_look_of q m ≡ Some (task_seen old.group old.job old.argument reported (Some n))
+retried_seen s n m old reported q found answered =
     let w : WorkState = s.state.work in
     let row : Task = retried_row n old in
-    let done = carried_out s (command.Retry n) (answer.Task m told) q refl answered in
+    let done = carried_out s (command.Retry n) (answer.Task m reported) q refl answered in
     let pushed =
     ap (λ (t : State). t.work.tasks) done.leaves
     ∙ ap
     (λ o.
     (option_map_or (λ row. record w { tasks = w.tasks ++ retried_row n row ∷ [] }) o w).tasks)
     found in
-    (submitted s.state row m told q pushed done.answer).seen
+    (submitted s.state row m reported q pushed done.answer).seen

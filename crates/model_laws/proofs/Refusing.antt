@@ -58,17 +58,17 @@ start_answered p log o e =
 refused_none : (s : Session) (x : Step) (why : Refusal)
     → reply_of_step s x ≡ reply.Refused why → event_of_step s x ≡ None
 refused_none s (step.Command call) why refused =
-    let told = λ (o : Option Event). answer_of s.state (state_after s.state o) call in
-    refused_decision (decide s.state s.log call) (λ o. Ok (told o)) reply.Answer why
-    (λ o e. (told o, refl)) (λ x e. cc) refused
+    let reported = λ (o : Option Event). answer_of s.state (state_after s.state o) call in
+    refused_decision (decide s.state s.log call) (λ o. Ok (reported o)) reply.Answer why
+    (λ o e. (reported o, refl)) (λ x e. cc) refused
 refused_none s step.Start why refused =
     let p : State = s.state in
     refused_decision (decide_start p s.log) _ reply.Started why (start_answered p s.log)
     (λ x e. cc) refused
 refused_none s (step.Finish n outcome) why refused =
-    let told : ℕ = s.state.count + 1 in
-    refused_decision (decide_finish s.state n outcome) (λ o. Ok told) reply.Finished why
-    (λ o e. (told, refl)) (λ x e. cc) refused
+    let reported : ℕ = s.state.count + 1 in
+    refused_decision (decide_finish s.state n outcome) (λ o. Ok reported) reply.Finished why
+    (λ o e. (reported, refl)) (λ x e. cc) refused
 refused_none s step.Flush why refused = cc
 refused_none s step.Checkpoint why refused = cc
 

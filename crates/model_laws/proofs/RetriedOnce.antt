@@ -12,16 +12,16 @@ use Rattle.run_model.specs.declared.tasks.Stage.TheVariants as stage
 use Rattle.run_model.specs.declared.tasks.Task.{Task}
 use Rattle.run_model.specs.Event as event
 use Rattle.model_laws.specs.Restarts.{task_restarted}
-use Rattle.model_laws.specs.Retries.{IsTriedAnew, KeepsLink}
+use Rattle.model_laws.specs.Retries.{IsTriedAgain, KeepsLink}
 use Rattle.model_laws.proofs.Interrupts.{restarted}
 use Rattle.model_laws.proofs.Links.{retried_by}
 use Rattle.model_laws.proofs.Shapes.{alike_at}
 use Rattle.model_laws.proofs.TaskEvents.{retry_found}
 use Rattle.model_laws.proofs.Tests.{passing}
 
-pub tried_anew : (p : State) (n : ℕ) (row : Task) → HasRow p.work.tasks n row
-    → IsTriedAnew p n row (step p (event.Retry n))
-tried_anew p n row found =
+pub tried_again : (p : State) (n : ℕ) (row : Task) → HasRow p.work.tasks n row
+    → IsTriedAgain p n row (step p (event.Retry n))
+tried_again p n row found =
     let is = retry_found p.work n row found in
     record {
       counted = refl;
@@ -46,12 +46,12 @@ staged stage k rows n row found =
     (alike_at (λ x y. y.retry_of ≡ x.retry_of) (with_stage stage) k rows (λ x. refl)
     (λ x at. refl)).forth n row found
 
-anew : (w : WorkState) (k n : ℕ) (row : Task) (o : Option Task) → HasRow w.tasks n row
+once_more : (w : WorkState) (k n : ℕ) (row : Task) (o : Option Task) → HasRow w.tasks n row
     → Kept (option_map_or (λ row. record w { tasks = w.tasks ++ retried_row k row ∷ [] }) o
     w).tasks
     n row
-anew w k n row None found = (row, found, refl)
-anew w k n row (Some old) found = pushed w.tasks (retried_row k old) n row found
+once_more w k n row None found = (row, found, refl)
+once_more w k n row (Some old) found = pushed w.tasks (retried_row k old) n row found
 
 kept_by : (p : State) (event : Event) (n : ℕ) (row : Task) → HasRow p.work.tasks n row
     → KeepsLink (step p event) n row
@@ -63,7 +63,7 @@ kept_by p (event.Bare name s) n row found = (row, found, refl)
 kept_by p (event.SetLimit g limit) n row found = (row, found, refl)
 kept_by p (event.Go g job argument) n row found = pushed p.work.tasks _ n row found
 kept_by p (event.TryGo g job argument) n row found = pushed p.work.tasks _ n row found
-kept_by p (event.Retry k) n row found = anew p.work k n row (slice_get p.work.tasks k) found
+kept_by p (event.Retry k) n row found = once_more p.work k n row (slice_get p.work.tasks k) found
 kept_by p (event.Start k) n row found = staged stage.Running k p.work.tasks n row found
 kept_by p (event.Finish k outcome) n row found =
     staged (stage_of outcome) k p.work.tasks n row found
@@ -104,7 +104,7 @@ retried_once p q n events may led =
     let now : Retried (step p (event.Retry n)) n = (
       length p.work.tasks,
       retried_row n row.0,
-      ap (λ rows. slice_get rows (length p.work.tasks)) (tried_anew p n row.0 row.1).tasks
+      ap (λ rows. slice_get rows (length p.work.tasks)) (tried_again p n row.0 row.1).tasks
           ∙ slice_get-push_last p.work.tasks (retried_row n row.0),
       refl,
     ) in

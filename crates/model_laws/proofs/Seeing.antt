@@ -22,9 +22,9 @@ pub group_waited : (q : State) (g : ℕ) (row : Group) → slice_get q.work.grou
     → option_map (λ look. look.waited) (group_look_of q g) ≡ Some row.waited
 group_waited q g row found = rw found refl
 
-pub group_told : (q : State) (g : ℕ) (row : Group) → slice_get q.work.groups g ≡ Some row
+pub group_reported : (q : State) (g : ℕ) (row : Group) → slice_get q.work.groups g ≡ Some row
     → option_map (λ look. look.error) (group_look_of q g) ≡ Some row.error
-group_told q g row found = rw found refl
+group_reported q g row found = rw found refl
 
 pub task_found : (q : State) (n : ℕ) (row : Task) → slice_get q.work.tasks n ≡ Some row
     → task_look_of q n

@@ -49,11 +49,11 @@ restarted_stage stage.Success is = is
 restarted_stage (stage.Failure text) is = is
 restarted_stage stage.Interrupted is = is
 
-anew : (w : WorkState) (k n : ℕ) (o : Option Task) → Begun w.tasks n
+once_more : (w : WorkState) (k n : ℕ) (o : Option Task) → Begun w.tasks n
     → Begun (option_map_or (λ row. record w { tasks = w.tasks ++ retried_row k row ∷ [] }) o
     w).tasks n
-anew w k n None has = has
-anew w k n (Some old) has = pushed w.tasks (retried_row k old) n has
+once_more w k n None has = has
+once_more w k n (Some old) has = pushed w.tasks (retried_row k old) n has
 
 -- A task that was started still is after any event.
 pub begun_by : (p : State) (event : Event) (n : ℕ) → Begun p.work.tasks n
@@ -66,7 +66,7 @@ begun_by p (event.Bare name s) n has = has
 begun_by p (event.SetLimit g limit) n has = has
 begun_by p (event.Go g job argument) n has = pushed p.work.tasks _ n has
 begun_by p (event.TryGo g job argument) n has = pushed p.work.tasks _ n has
-begun_by p (event.Retry k) n has = anew p.work k n (slice_get p.work.tasks k) has
+begun_by p (event.Retry k) n has = once_more p.work k n (slice_get p.work.tasks k) has
 begun_by p (event.Start k) n has = staged stage.Running refl k p.work.tasks n has
 begun_by p (event.Finish k how) n has =
     staged (stage_of how) (ended_stage how) k p.work.tasks n has

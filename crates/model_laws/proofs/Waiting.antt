@@ -23,7 +23,7 @@ use Rattle.model_laws.proofs.Answering.{carried_out, repeated_out, room_made, de
 use Rattle.model_laws.proofs.Names.{named_group}
 use Rattle.model_laws.proofs.Passing.{and_then_Ok}
 use Rattle.model_laws.proofs.Places.{changed_row}
-use Rattle.model_laws.proofs.Seeing.{group_waited, group_told, task_found}
+use Rattle.model_laws.proofs.Seeing.{group_waited, group_reported, task_found}
 use Rattle.model_laws.proofs.StartingReplies.{ok_or_Ok, start_first}
 use Rattle.model_laws.proofs.Tests.{passing}
 
@@ -42,10 +42,10 @@ waited_seen_row : (q : State) (g : ℕ) (row : Group) (error : Option (List ℕ)
     ≡ answer.Waited error
     → SeesWait q g error
 waited_seen_row q g row error found waited e =
-    let told = error_of_row (slice_get q.work.groups g) row error found e in
+    let reported = error_of_row (slice_get q.work.groups g) row error found e in
     record {
       waited = group_waited q g row found ∙ ap (λ (b : Bool). Some b) waited;
-      told = group_told q g row found ∙ ap (λ (o : Option (List ℕ)). Some o) told;
+      reported = group_reported q g row found ∙ ap (λ (o : Option (List ℕ)). Some o) reported;
     }
 
 again_seen : (s : Session) (group : List ℕ) (error : Option (List ℕ)) (q : State)
@@ -85,18 +85,18 @@ waited_seen s group error q answered = go (has_waited s.state.work (group_of s.s
 -- ---- starts
 
 -- What the start of task n is answered, by the row of the task.
-abbrev start_told : State → ℕ → Task → Started
-start_told p n row = record {
+abbrev start_reported : State → ℕ → Task → Started
+start_reported p n row = record {
   event = p.count + 1;
   info = record { task = n; job = row.job; argument = row.argument };
   done = is_task_done p row;
 }
 
-told_row : (p : State) (n : ℕ) (o : Option Task) (started : Started)
-    → option_map (start_told p n) o ≡ Some started
-    → (row : Task) × (o ≡ Some row) × (start_told p n row ≡ started)
-told_row p n None started e = absurd (none-some started e)
-told_row p n (Some row) started e = (row, refl, same_Some (start_told p n row) started e)
+reported_row : (p : State) (n : ℕ) (o : Option Task) (started : Started)
+    → option_map (start_reported p n) o ≡ Some started
+    → (row : Task) × (o ≡ Some row) × (start_reported p n row ≡ started)
+reported_row p n None started e = absurd (none-some started e)
+reported_row p n (Some row) started e = (row, refl, same_Some (start_reported p n row) started e)
 
 accepted_start : (r : Result Started Refusal) (started : Started)
     → replied reply.Started r ≡ reply.Started started → r ≡ Ok started
@@ -107,7 +107,7 @@ accepted_start (Err why) started e = cc
 pub record Begins (p : State) (started : Started) (n : ℕ) : Type 0 where
   pub row : Task
   pub found : slice_get p.work.tasks n ≡ Some row
-  pub told : start_told p n row ≡ started
+  pub reported : start_reported p n row ≡ started
 
 begins : (p : State) (started : Started) (n : ℕ) → first_ready p.work ≡ Some n
     → ok_or (option_and_then (started_of p) (first_ready p.work)) refusal.NothingReady ≡ Ok started
@@ -115,9 +115,9 @@ begins : (p : State) (started : Started) (n : ℕ) → first_ready p.work ≡ So
 begins p started n first e =
     let answer = option_and_then (started_of p) (first_ready p.work) in
     let known = ok_or_Ok answer refusal.NothingReady started e in
-    let told = sym (ap (option_and_then (started_of p)) first) ∙ known in
-    let row = told_row p n (slice_get p.work.tasks n) started told in
-    record { row = row.0; found = row.1; told = row.2 }
+    let reported = sym (ap (option_and_then (started_of p)) first) ∙ known in
+    let row = reported_row p n (slice_get p.work.tasks n) started reported in
+    record { row = row.0; found = row.1; reported = row.2 }
 
 -- The first ready task is started, and the answer shows its row.
 pub record Starts (s : Session) (started : Started) (q : State) : Type 0 where
@@ -151,7 +151,7 @@ started_seen s started q answered =
     let rows : List Task = s.state.work.tasks in
     let found = changed_row change n rows q.work.tasks begun.row changed begun.found in
     let seen = task_found q n (change begun.row) found in
-    subst (SeesStart q) begun.told (record {
+    subst (SeesStart q) begun.reported (record {
       running = ap (option_map (λ look. look.phase)) seen;
       job = ap (option_map (λ look. look.job)) seen;
       argument = ap (option_map (λ look. look.argument)) seen;

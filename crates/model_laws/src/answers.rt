@@ -37,16 +37,16 @@ pub fn what_is_made_is_seen()
 /// phase is ready. A retry has the group, the job and the argument of the old task, and a link to
 /// it.
 pub fn what_is_submitted_is_seen()
-    ensures go { (s : Session) (group job argument : List ℕ) (n : ℕ) (told : Phase) (q : State)
-        → Answered s (command.Go group job argument) (answer.Task n told) q
-        → task_look_of q n ≡ Some (task_seen (group_of s.state group) job argument told None) }
-    ensures tried { (s : Session) (group job argument : List ℕ) (n : ℕ) (told : Phase) (q : State)
-        → Answered s (command.TryGo group job argument) (answer.Task n told) q
-        → (told ≡ Ready)
-        × (task_look_of q n ≡ Some (task_seen (group_of s.state group) job argument told None)) }
-    ensures retried { (s : Session) (n m : ℕ) (row : Task) (told : Phase) (q : State)
-        → HasRow s.state.work.tasks n row → Answered s (command.Retry n) (answer.Task m told) q
-        → task_look_of q m ≡ Some (task_seen row.group row.job row.argument told (Some n)) }
+    ensures go { (s : Session) (group job argument : List ℕ) (n : ℕ) (phase : Phase) (q : State)
+        → Answered s (command.Go group job argument) (answer.Task n phase) q
+        → task_look_of q n ≡ Some (task_seen (group_of s.state group) job argument phase None) }
+    ensures tried { (s : Session) (group job argument : List ℕ) (n : ℕ) (phase : Phase) (q : State)
+        → Answered s (command.TryGo group job argument) (answer.Task n phase) q
+        → (phase ≡ Ready)
+        × (task_look_of q n ≡ Some (task_seen (group_of s.state group) job argument phase None)) }
+    ensures retried { (s : Session) (n m : ℕ) (row : Task) (phase : Phase) (q : State)
+        → HasRow s.state.work.tasks n row → Answered s (command.Retry n) (answer.Task m phase) q
+        → task_look_of q m ≡ Some (task_seen row.group row.job row.argument phase (Some n)) }
 {}
 
 /// A group that was waited for is shown as waited for, with the error that the answer gave.

@@ -8,13 +8,13 @@ ghost use Rattle.run_model.specs.Event as event;
 ghost use Rattle.run_model.specs.State.{State};
 ghost use Rattle.run_model.specs.Step.{step};
 ghost use Rattle.run_model.specs.Rules.{HasRow};
-ghost use Rattle.model_laws.specs.Retries.{IsTriedAnew, KeepsLink};
+ghost use Rattle.model_laws.specs.Retries.{IsTriedAgain, KeepsLink};
 
 /// A retry is a new task, the last of all, with the group, the job and the argument of the old one.
 /// It isn't started yet.
 pub fn a_retry_is_a_task_of_its_own()
     ensures { (p : State) (n : ℕ) (row : Task) → HasRow p.work.tasks n row
-        → IsTriedAnew p n row (step p (event.Retry n)) }
+        → IsTriedAgain p n row (step p (event.Retry n)) }
 {}
 
 /// A task is retried at most once, whatever comes after the retry.

@@ -32,13 +32,13 @@ pub over_more : (p : State) (names : Names) (done : List Bool) (n : ℕ) (name :
     → length done ≡ n → slice_get names.groups.items n ≡ Some name
     → b ≡ is_over p names.night name → AreOverTo n p names done
     → AreOverTo (n + 1) p names (done ++ b ∷ [])
-over_more p names done n name b sized is said before g group below there =
+over_more p names done n name b sized is printed before g group below there =
     elim (cases_eq g n) [
       | inl same ↦
           let alike : name ≡ group =
           one_row names.groups.items n g name group (sym same) is there in
           ap (λ m. slice_get (done ++ b ∷ []) m) same ∙ pushed done n b sized
-          ∙ ap Some said ∙ ap (λ x. Some (is_over p names.night x)) alike
+          ∙ ap Some printed ∙ ap (λ x. Some (is_over p names.night x)) alike
       | inr other ↦
           get_push_old done (b ∷ []) g (omega (arith, below, other, sized))
           ∙ before g group (omega (arith, below, other)) there
@@ -51,7 +51,7 @@ pub known_more : (p : State) (ends : Ends) (names : Names) (commands : List Comm
     → k ≡ known_of p (moment_of ends) names.night group key
     → AreKnownTo n p ends names commands known
     → AreKnownTo (n + 1) p ends names commands (known ++ k ∷ [])
-known_more p ends names commands known n command group key k sized it said before c one g y below
+known_more p ends names commands known n command group key k sized it printed before c one g y below
     called =
     elim (cases_eq c n) [
       | inl same ↦
@@ -62,7 +62,7 @@ known_more p ends names commands known n command group key k sized it said befor
           (ap (λ (x : Command). x.group) alike) it.group_is called.group_is in
           let of_key : key ≡ y =
           one_row names.keys.items n c key y (sym same) it.key_is called.key_is in
-          ap (λ m. slice_get (known ++ k ∷ []) m) same ∙ pushed known n k sized ∙ ap Some said
+          ap (λ m. slice_get (known ++ k ∷ []) m) same ∙ pushed known n k sized ∙ ap Some printed
           ∙ ap (λ x. Some (known_of p (moment_of ends) names.night x key)) in_group
           ∙ ap (λ x. Some (known_of p (moment_of ends) names.night g x)) of_key
       | inr other ↦

@@ -15,13 +15,13 @@ use Rattle.night_plan.specs.declared.commands.When.TheVariants as when
 use Rattle.night_plan.specs.declared.standings.Hope.TheVariants as hope
 use Rattle.night_plan.specs.declared.standings.Standing.{Standing}
 use Rattle.night_plan.specs.declared.standings.Standing.TheVariants as standing
-use Rattle.night_plan.specs.declared.standings.Tally.{Tally}
+use Rattle.night_plan.specs.declared.standings.Summary.{Summary}
 use Rattle.night_plan.specs.Plans.{is_of, names, horizon, HasNeed, ComesAfter, IsSound, is_within}
 use Rattle.night_plan.specs.Nights.{Night, Names, has_ended_ok, HasFailed, IsNever, Lost, IsFinal}
 use Rattle.night_plan.specs.Nights.{IsMetBy}
 use Rattle.night_plan.specs.Standings.{Stands, is_final}
-use Rattle.night_plan.specs.Hopes.{no_tally, tally_of, with_both, Finds, IsTallyOf, hope_of}
-use Rattle.night_plan.specs.Hopes.{has_hope, tally_for, IsPlaced, AreStanding}
+use Rattle.night_plan.specs.Hopes.{no_summary, summary_of, with_both, Finds, IsSummaryOf, hope_of}
+use Rattle.night_plan.specs.Hopes.{has_hope, summary_for, IsPlaced, AreStanding}
 use Rattle.night_plan.proofs.Rows.{of_there}
 use Rattle.night_plan.proofs.Final.{never_not_ok, IsVainBy, final_from, not_final_from}
 
@@ -43,17 +43,17 @@ finds_both false false Of Or P Q one two = either
     either d (inr or) = two d or
 
 -- The tally of the same commands, said in another way.
-pub tally_same : (n : Night) (Of Or : ℕ → Type 0) (t : Tally) → ((d : ℕ) → Of d → Or d)
-    → ((d : ℕ) → Or d → Of d) → IsTallyOf n Of t → IsTallyOf n Or t
-tally_same n Of Or t there back is = record {
+pub summary_same : (n : Night) (Of Or : ℕ → Type 0) (t : Summary) → ((d : ℕ) → Of d → Or d)
+    → ((d : ℕ) → Or d → Of d) → IsSummaryOf n Of t → IsSummaryOf n Or t
+summary_same n Of Or t there back is = record {
   pending = finds_same t.pending Of Or (λ d. IsFinal n d → ⊥) (IsFinal n) there back is.pending;
   never = finds_same t.never Of Or (IsNever n) (λ d. IsNever n d → ⊥) there back is.never;
   failed = finds_same t.failed Of Or (HasFailed n) (λ d. HasFailed n d → ⊥) there back is.failed;
 }
 
-pub tally_both : (n : Night) (Of Or : ℕ → Type 0) (t u : Tally) → IsTallyOf n Of t
-    → IsTallyOf n Or u → IsTallyOf n (λ d. Of d ⊎ Or d) (with_both t u)
-tally_both n Of Or t u one two = record {
+pub summary_both : (n : Night) (Of Or : ℕ → Type 0) (t u : Summary) → IsSummaryOf n Of t
+    → IsSummaryOf n Or u → IsSummaryOf n (λ d. Of d ⊎ Or d) (with_both t u)
+summary_both n Of Or t u one two = record {
   pending = finds_both t.pending u.pending Of Or (λ d. IsFinal n d → ⊥) (IsFinal n) one.pending
       two.pending;
   never = finds_both t.never u.never Of Or (IsNever n) (λ d. IsNever n d → ⊥) one.never two.never;
@@ -61,15 +61,16 @@ tally_both n Of Or t u one two = record {
       two.failed;
 }
 
-pub tally_none : (n : Night) (Of : ℕ → Type 0) → ((d : ℕ) → Of d → ⊥) → IsTallyOf n Of no_tally
-tally_none n Of none = record {
+pub summary_none : (n : Night) (Of : ℕ → Type 0) → ((d : ℕ) → Of d → ⊥)
+    → IsSummaryOf n Of no_summary
+summary_none n Of none = record {
   pending = λ d of. absurd (none d of);
   never = λ d of. absurd (none d of);
   failed = λ d of. absurd (none d of);
 }
 
 pending_one : (n : Night) (now d : ℕ) (s : Standing) → Stands n now d s → is_final s ≡ false
-    → IsTallyOf n (λ e. e ≡ d) (record { pending = true; never = false; failed = false })
+    → IsSummaryOf n (λ e. e ≡ d) (record { pending = true; never = false; failed = false })
 pending_one n now d s stands is =
     let open_yet = not_final_from n now d s stands is in
     record {
@@ -79,19 +80,19 @@ pending_one n now d s stands is =
     }
 
 -- The tally of one command that stands so.
-pub tally_one : (n : Night) (now d : ℕ) (s : Standing) → Stands n now d s
-    → IsTallyOf n (λ e. e ≡ d) (tally_of s)
-tally_one n now d standing.EndedOk stands = record {
+pub summary_one : (n : Night) (now d : ℕ) (s : Standing) → Stands n now d s
+    → IsSummaryOf n (λ e. e ≡ d) (summary_of s)
+summary_one n now d standing.EndedOk stands = record {
   pending = λ e is. subst (IsFinal n) (sym is) (inl stands);
   never = λ e is never. never_not_ok n d (subst (IsNever n) is never) stands;
   failed = λ e is failed. never_not_ok n d (subst (IsNever n) is (Lost e failed.1)) stands;
 }
-tally_one n now d standing.Failed stands = record {
+summary_one n now d standing.Failed stands = record {
   pending = λ e is. subst (IsFinal n) (sym is) (inr (Lost d stands.1));
   never = (d, refl, Lost d stands.1);
   failed = (d, refl, stands);
 }
-tally_one n now d standing.Canceled stands =
+summary_one n now d standing.Canceled stands =
     let final = final_from n now d standing.Canceled stands refl in
     record {
       pending = λ e is. subst (IsFinal n) (sym is) final;
@@ -99,16 +100,16 @@ tally_one n now d standing.Canceled stands =
       failed = λ e is failed. true≢false
           (sym (subst (HasFailed n) is failed).0 ∙ stands.no_failure);
     }
-tally_one n now d standing.GivenUp stands = record {
+summary_one n now d standing.GivenUp stands = record {
   pending = λ e is. subst (IsFinal n) (sym is) (inr stands.never);
   never = (d, refl, stands.never);
   failed = λ e is failed. stands.no_failure (subst (HasFailed n) is failed);
 }
-tally_one n now d standing.Busy stands = pending_one n now d standing.Busy stands refl
-tally_one n now d (standing.Waiting moment) stands =
+summary_one n now d standing.Busy stands = pending_one n now d standing.Busy stands refl
+summary_one n now d (standing.Waiting moment) stands =
     pending_one n now d (standing.Waiting moment) stands refl
-tally_one n now d standing.Ready stands = pending_one n now d standing.Ready stands refl
-tally_one n now d standing.Pending stands = pending_one n now d standing.Pending stands refl
+summary_one n now d standing.Ready stands = pending_one n now d standing.Ready stands refl
+summary_one n now d standing.Pending stands = pending_one n now d standing.Pending stands refl
 
 -- ---- hopes
 
@@ -204,7 +205,7 @@ module _ (n : Night) (c : ℕ) (need : Need) where
   met_by when.Ended true v f pending never failed is more = absurd (true≢false more)
   met_by when.Ended false v f pending never failed is more = pending
 
-  module _ (t : Tally) (is : IsTallyOf n (Names n c need) t) where
+  module _ (t : Summary) (is : IsSummaryOf n (Names n c need) t) where
     pub vain_from : has_hope hope.Vain (hope_of need.when t) ≡ true → IsVainBy n c need need.when
     vain_from = vain_by need.when t.pending t.never t.failed is.pending is.never is.failed
 
@@ -229,7 +230,7 @@ module _ (n : Night) (c : ℕ) (need : Need) where
 module _ (n : Night) (now pools : ℕ) (order places : List ℕ)
     (sound : IsSound n.first n.groups pools n.commands order places)
     (p c : ℕ) (at : slice_get order p ≡ Some c)
-    (all : List Standing) (tallies : List Tally)
+    (all : List Standing) (tallies : List Summary)
     (are : AreStanding n now order p all tallies)
     (need : Need) (has : HasNeed n.commands c need) where
   below : c < length n.commands
@@ -247,12 +248,12 @@ module _ (n : Night) (now pools : ℕ) (order places : List ℕ)
       let here = sound.at p c at in
       omega (arith, less, here)
 
-  pub named_tally : IsTallyOf n (Names n c need) (tally_for all tallies need.of)
-  named_tally = go need.of refl (sound.within c need has)
+  pub named_summary : IsSummaryOf n (Names n c need) (summary_for all tallies need.of)
+  named_summary = go need.of refl (sound.within c need has)
     where
       go : (o : Subject) → need.of ≡ o
           → is_within (length n.groups) (horizon n.first c) o ≡ true
-          → IsTallyOf n (Names n c need) (tally_for all tallies o)
+          → IsSummaryOf n (Names n c need) (summary_for all tallies o)
       go (subject.Command e) is within =
           let own : Names n c need e =
           ap (λ o. names n.commands (horizon n.first c) o e) is ∙ eq-eqb e e refl in
@@ -260,19 +261,19 @@ module _ (n : Night) (now pools : ℕ) (order places : List ℕ)
           let bound = reach in
           let placed = sound.placed e (omega (arith, less, bound)) in
           let stood = are.stood (slice_index places e) e (earlier e own) placed in
-          subst (λ (o : Option Standing). IsTallyOf n (Names n c need)
-          (option_map_or tally_of o no_tally)) (sym stood.1)
-          (tally_same n (λ d. d ≡ e) (Names n c need) (tally_of stood.0)
+          subst (λ (o : Option Standing). IsSummaryOf n (Names n c need)
+          (option_map_or summary_of o no_summary)) (sym stood.1)
+          (summary_same n (λ d. d ≡ e) (Names n c need) (summary_of stood.0)
           (λ d same. subst (Names n c need) (sym same) own)
           (λ d named. sym (eqb-true e d
           (sym (ap (λ o. names n.commands (horizon n.first c) o d) is) ∙ named)))
-          (tally_one n now e stood.0 stood.2))
+          (summary_one n now e stood.0 stood.2))
       go (subject.Group g) is within =
           let inside : g < length n.groups = ltb-true g (length n.groups) within in
           let counted = are.counted g inside in
-          subst (λ (o : Option Tally). IsTallyOf n (Names n c need)
-          (option_map_or (λ t. t) o no_tally)) (sym counted.1)
-          (tally_same n (IsPlaced n order g p) (Names n c need) counted.0 named_by placed_by
+          subst (λ (o : Option Summary). IsSummaryOf n (Names n c need)
+          (option_map_or (λ t. t) o no_summary)) (sym counted.1)
+          (summary_same n (IsPlaced n order g p) (Names n c need) counted.0 named_by placed_by
           counted.2)
         where
           named_by : (d : ℕ) → IsPlaced n order g p d → Names n c need d

@@ -19,21 +19,34 @@ use Rattle.night_plan.specs.declared.facts.Known.{Known}
 use Rattle.night_plan.specs.declared.standings.Hope.{Hope}
 use Rattle.night_plan.specs.declared.standings.Hope.TheVariants as hope
 use Rattle.night_plan.specs.declared.standings.Standing.{Standing}
-use Rattle.night_plan.specs.declared.standings.Tally.{Tally}
+use Rattle.night_plan.specs.declared.standings.Summary.{Summary}
 use Rattle.night_plan.specs.Plans.{is_of, is_within, names, horizon, HasNeed, IsSound}
 use Rattle.night_plan.specs.Nights.{Night, is_busy, is_ok, is_failed, is_spent, is_canceled, stops}
 use Rattle.night_plan.specs.Nights.{is_cleanup, is_idle, HasStopped, IsLost, MayBegin}
 use Rattle.night_plan.specs.Nights.{at, has_spent, Lost}
 use Rattle.std.specs.Option.{option_map_or}
 use Rattle.night_plan.specs.Standings.{IsGivenUp, IsPending, Stands}
-use Rattle.night_plan.specs.Hopes.{hope_of, has_hope, tally_for, tally_of, with_both, is_lost_by}
+use Rattle.night_plan.specs.Hopes.{
+  hope_of,
+  has_hope,
+  summary_for,
+  summary_of,
+  with_both,
+  is_lost_by,
+}
 use Rattle.night_plan.specs.Hopes.{AreWithin, lost_stands, AreStopped, IsPlaced, AreStanding}
-use Rattle.night_plan.specs.Hopes.{IsTallyOf}
+use Rattle.night_plan.specs.Hopes.{IsSummaryOf}
 use Rattle.night_plan.proofs.Rows.{all_from_contains, at_is, of_at, of_there}
 use Rattle.night_plan.proofs.Rows.{get_set_same, get_set_other}
 use Rattle.night_plan.proofs.Final.{canceled_lost, never_from, never_why}
-use Rattle.night_plan.proofs.Hoping.{tally_same, tally_both, tally_one, vain_from, not_vain_from}
-use Rattle.night_plan.proofs.Hoping.{open_from, unmet_from, met_from, named_tally}
+use Rattle.night_plan.proofs.Hoping.{
+  summary_same,
+  summary_both,
+  summary_one,
+  vain_from,
+  not_vain_from,
+}
+use Rattle.night_plan.proofs.Hoping.{open_from, unmet_from, met_from, named_summary}
 
 -- ---- which groups have stopped
 
@@ -212,16 +225,17 @@ module _ (n : Night) (now c : ℕ) (command : Command) (fact : Known)
 
   module _ (pools p : ℕ) (order places : List ℕ)
       (sound : IsSound n.first n.groups pools n.commands order places)
-      (at_p : slice_get order p ≡ Some c) (all : List Standing) (tallies : List Tally)
+      (at_p : slice_get order p ≡ Some c) (all : List Standing) (tallies : List Summary)
       (are : AreStanding n now order p all tallies)
       (idle : is_idle n c ≡ true) (free : IsLost n c → ⊥) where
     abbrev left : Need → Hope
-    left need = hope_of need.when (tally_for all tallies need.of)
+    left need = hope_of need.when (summary_for all tallies need.of)
 
     tallied : (need : Need) → HasNeed n.commands c need
-        → IsTallyOf n (λ d. names n.commands (horizon n.first c) need.of d ≡ true)
-        (tally_for all tallies need.of)
-    tallied need has = named_tally n now pools order places sound p c at_p all tallies are need has
+        → IsSummaryOf n (λ d. names n.commands (horizon n.first c) need.of d ≡ true)
+        (summary_for all tallies need.of)
+    tallied need has = named_summary n now pools order places sound p c at_p all tallies are need
+        has
 
     has_it : (need : Need) → Contains command.needs.items need → HasNeed n.commands c need
     has_it need listed = record { command = command; is = is; listed = listed }
@@ -232,7 +246,7 @@ module _ (n : Night) (now c : ℕ) (command : Command) (fact : Known)
         (same_Some has.command command (sym has.is ∙ is)) has.listed
 
     unlike : (h : Hope)
-        → (Any (λ need. has_hope h (hope_of need.when (tally_for all tallies need.of)) ≡ true)
+        → (Any (λ need. has_hope h (hope_of need.when (summary_for all tallies need.of)) ≡ true)
         command.needs.items → ⊥)
         → (need : Need) → HasNeed n.commands c need → has_hope h (left need) ≡ false
     unlike h none need has =
@@ -241,37 +255,37 @@ module _ (n : Night) (now c : ℕ) (command : Command) (fact : Known)
 
     pub given_up
         : Any (λ need. has_hope hope.Vain
-        (hope_of need.when (tally_for all tallies need.of)) ≡ true)
+        (hope_of need.when (summary_for all tallies need.of)) ≡ true)
         command.needs.items → IsGivenUp n c
     given_up any =
         let has = has_it any.1 (any.0, any.2, any.3) in
         record {
           never = never_from n c any.1 idle has
-              (vain_from n c any.1 (tally_for all tallies any.1.of) (tallied any.1 has) any.4);
+              (vain_from n c any.1 (summary_for all tallies any.1.of) (tallied any.1 has) any.4);
           no_failure = λ failed. free failed.1;
           no_cancel = λ was. free (canceled_lost n c was);
         }
 
     module _ (no_vain : Any (λ need. has_hope hope.Vain
-        (hope_of need.when (tally_for all tallies need.of)) ≡ true) command.needs.items → ⊥) where
+        (hope_of need.when (summary_for all tallies need.of)) ≡ true) command.needs.items → ⊥) where
       pub pending
           : Any (λ need. has_hope hope.Open
-          (hope_of need.when (tally_for all tallies need.of)) ≡ true)
+          (hope_of need.when (summary_for all tallies need.of)) ≡ true)
           command.needs.items → IsPending n c
       pending any =
           let has = has_it any.1 (any.0, any.2, any.3) in
-          let it = open_from n c any.1 (tally_for all tallies any.1.of) (tallied any.1 has)
+          let it = open_from n c any.1 (summary_for all tallies any.1.of) (tallied any.1 has)
           any.4 in
           record {
             idle = idle;
             hope = λ never. elim (never_why n c never) [
               | inl lost ↦ free lost
-              | inr vain ↦ not_vain_from n c vain.0 (tally_for all tallies vain.0.of)
+              | inr vain ↦ not_vain_from n c vain.0 (summary_for all tallies vain.0.of)
                   (tallied vain.0 vain.1) (unlike hope.Vain no_vain vain.0 vain.1) vain.2
             ];
             need = any.1;
             has = has;
-            unmet = unmet_from n c any.1 (tally_for all tallies any.1.of) (tallied any.1 has)
+            unmet = unmet_from n c any.1 (summary_for all tallies any.1.of) (tallied any.1 has)
                 any.4;
             on = it.0;
             named = it.1;
@@ -279,12 +293,12 @@ module _ (n : Night) (now c : ℕ) (command : Command) (fact : Known)
           }
 
       pub may_begin : (Any (λ need. has_hope hope.Open
-          (hope_of need.when (tally_for all tallies need.of)) ≡ true) command.needs.items → ⊥)
+          (hope_of need.when (summary_for all tallies need.of)) ≡ true) command.needs.items → ⊥)
           → MayBegin n c
       may_begin no_open = record {
         idle = idle;
         free = free;
-        met = λ need has. met_from n c need (tally_for all tallies need.of) (tallied need has)
+        met = λ need has. met_from n c need (summary_for all tallies need.of) (tallied need has)
             (unlike hope.Vain no_vain need has) (unlike hope.Open no_open need has);
       }
 
@@ -311,17 +325,17 @@ within_all n c command is pools order places sound commands groups one two below
 -- ---- one more command of the order
 
 pub standing_more : (n : Night) (now pools p c : ℕ) (order places : List ℕ) (all : List Standing)
-    (tallies : List Tally) (s : Standing) (t : Tally) (command : Command)
+    (tallies : List Summary) (s : Standing) (t : Summary) (command : Command)
     → IsSound n.first n.groups pools n.commands order places
     → AreStanding n now order p all tallies → slice_get order p ≡ Some c
     → slice_get n.commands c ≡ Some command → slice_get tallies command.group ≡ Some t
     → Stands n now c s
     → AreStanding n now order (p + 1) (set all c s)
-    (set tallies command.group (with_both t (tally_of s)))
+    (set tallies command.group (with_both t (summary_of s)))
 standing_more n now pools p c order places all tallies s t command sound are at_p is at_t stands =
     record {
       sized = length-set all c s ∙ are.sized;
-      grouped = length-set tallies command.group (with_both t (tally_of s)) ∙ are.grouped;
+      grouped = length-set tallies command.group (with_both t (summary_of s)) ∙ are.grouped;
       stood = λ q d below at_q. elim (cases_eq d c) [
         | inl same ↦ (
           s,
@@ -340,25 +354,25 @@ standing_more n now pools p c order places all tallies s t command sound are at_
       ];
       counted = λ g within. elim (cases_eq g command.group) [
         | inl same ↦ (
-          with_both t (tally_of s),
-          ap (slice_get (set tallies command.group (with_both t (tally_of s)))) same
-              ∙ get_set_same tallies command.group (with_both t (tally_of s))
+          with_both t (summary_of s),
+          ap (slice_get (set tallies command.group (with_both t (summary_of s)))) same
+              ∙ get_set_same tallies command.group (with_both t (summary_of s))
               (let sized = are.grouped in omega (arith, sized, within, same)),
           (let old = are.counted g within in
               let old_t : old.0 ≡ t =
               same_Some old.0 t (sym old.1 ∙ ap (slice_get tallies) same ∙ at_t) in
-              tally_same n (λ d. IsPlaced n order g p d ⊎ (d ≡ c)) (IsPlaced n order g (p + 1))
-              (with_both t (tally_of s)) (grown g same) (shrunk g)
-              (tally_both n (IsPlaced n order g p) (λ d. d ≡ c) t (tally_of s)
-              (subst (IsTallyOf n (IsPlaced n order g p)) old_t old.2)
-              (tally_one n now c s stands))),
+              summary_same n (λ d. IsPlaced n order g p d ⊎ (d ≡ c)) (IsPlaced n order g (p + 1))
+              (with_both t (summary_of s)) (grown g same) (shrunk g)
+              (summary_both n (IsPlaced n order g p) (λ d. d ≡ c) t (summary_of s)
+              (subst (IsSummaryOf n (IsPlaced n order g p)) old_t old.2)
+              (summary_one n now c s stands))),
         )
         | inr other ↦
             let old = are.counted g within in (
               old.0,
-              get_set_other tallies command.group g (with_both t (tally_of s))
+              get_set_other tallies command.group g (with_both t (summary_of s))
                   (let sized = are.grouped in omega (arith, sized, within)) other ∙ old.1,
-              tally_same n (IsPlaced n order g p) (IsPlaced n order g (p + 1)) old.0
+              summary_same n (IsPlaced n order g p) (IsPlaced n order g (p + 1)) old.0
                   (λ d it. record {
                     place = it.place;
                     below = (let less = it.below in omega (arith, less));

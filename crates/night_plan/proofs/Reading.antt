@@ -12,12 +12,12 @@ use Rattle.night_plan.specs.declared.facts.Facts.{Facts}
 use Rattle.night_plan.specs.declared.facts.Known.{Known}
 use Rattle.night_plan.specs.declared.standings.Hope.{Hope}
 use Rattle.night_plan.specs.declared.standings.Standing.{Standing}
-use Rattle.night_plan.specs.declared.standings.Tally.{Tally}
+use Rattle.night_plan.specs.declared.standings.Summary.{Summary}
 use Rattle.night_plan.specs.declared.standings.Standing.TheVariants as standing
 use Rattle.night_plan.specs.Nights.{AreFacts, IsLost, Night, is_idle, night}
 use Rattle.night_plan.specs.Queues.{IsQueue}
 use Rattle.night_plan.specs.Hopes.{AreStopped, has_hope, hope_of, is_lost_by}
-use Rattle.night_plan.specs.Hopes.{tally_for}
+use Rattle.night_plan.specs.Hopes.{summary_for}
 use Rattle.night_plan.proofs.Passing.{lost_all, lost_right, stop_at}
 use Rattle.night_plan.proofs.Rows.{read}
 
@@ -114,17 +114,17 @@ module _ (plan : Plan) (facts : Facts) (now i : ℕ) (command : Command) (fact :
       stopped are mark.0 mark.1 lost)
 
 -- Some need has this hope, by the standings and tallies so far.
-abbrev pub Hopes : List Standing → List Tally → Hope → List Need → Type 0
+abbrev pub Hopes : List Standing → List Summary → Hope → List Need → Type 0
 Hopes all tallies which needs =
-    Any (λ need. has_hope which (hope_of need.when (tally_for all tallies need.of)) ≡ true) needs
+    Any (λ need. has_hope which (hope_of need.when (summary_for all tallies need.of)) ≡ true) needs
 
-pub some_hope : (all : List Standing) (tallies : List Tally) (which : Hope)
+pub some_hope : (all : List Standing) (tallies : List Summary) (which : Hope)
     (read needs : List Need) (r : Bool) → read ≡ needs
     → (r ≡ true → Hopes all tallies which read) → r ≡ true → Hopes all tallies which needs
 some_hope all tallies which read needs r same says is =
     subst (Hopes all tallies which) same (says is)
 
-pub no_hope : (all : List Standing) (tallies : List Tally) (which : Hope)
+pub no_hope : (all : List Standing) (tallies : List Summary) (which : Hope)
     (read needs : List Need) (r : Bool) → read ≡ needs
     → (Hopes all tallies which read → r ≡ true) → r ≡ false
     → Hopes all tallies which needs → ⊥

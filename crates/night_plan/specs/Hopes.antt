@@ -12,7 +12,7 @@ use Rattle.night_plan.specs.declared.standings.Hope.{Hope}
 use Rattle.night_plan.specs.declared.standings.Hope.TheVariants as hope
 use Rattle.night_plan.specs.declared.standings.Standing.{Standing}
 use Rattle.night_plan.specs.declared.standings.Standing.TheVariants as standing
-use Rattle.night_plan.specs.declared.standings.Tally.{Tally}
+use Rattle.night_plan.specs.declared.standings.Summary.{Summary}
 use Rattle.night_plan.specs.Plans.{is_of}
 use Rattle.night_plan.specs.Nights.{Night, is_spent, is_canceled, is_cleanup, HasStopped}
 use Rattle.night_plan.specs.Nights.{HasFailed, IsNever, IsFinal}
@@ -20,18 +20,18 @@ use Rattle.night_plan.specs.Standings.{Stands}
 
 -- ---- tallies
 
-abbrev pub no_tally : Tally
-no_tally = record { pending = false; never = false; failed = false }
+abbrev pub no_summary : Summary
+no_summary = record { pending = false; never = false; failed = false }
 
 -- The tally of a command that stands so.
-abbrev pub tally_of : Standing → Tally
-tally_of standing.EndedOk = no_tally
-tally_of standing.Failed = record { pending = false; never = true; failed = true }
-tally_of standing.Canceled = record { pending = false; never = true; failed = false }
-tally_of standing.GivenUp = record { pending = false; never = true; failed = false }
-tally_of _ = record { pending = true; never = false; failed = false }
+abbrev pub summary_of : Standing → Summary
+summary_of standing.EndedOk = no_summary
+summary_of standing.Failed = record { pending = false; never = true; failed = true }
+summary_of standing.Canceled = record { pending = false; never = true; failed = false }
+summary_of standing.GivenUp = record { pending = false; never = true; failed = false }
+summary_of _ = record { pending = true; never = false; failed = false }
 
-abbrev pub with_both : Tally → Tally → Tally
+abbrev pub with_both : Summary → Summary → Summary
 with_both t u = record {
   pending = t.pending || u.pending;
   never = t.never || u.never;
@@ -44,7 +44,7 @@ Finds true Of P Q = (d : ℕ) × Of d × P d
 Finds false Of P Q = (d : ℕ) → Of d → Q d
 
 -- The tally of some commands.
-pub record IsTallyOf (n : Night) (Of : ℕ → Type 0) (t : Tally) : Type 0 where
+pub record IsSummaryOf (n : Night) (Of : ℕ → Type 0) (t : Summary) : Type 0 where
   pub pending : Finds t.pending Of (λ d. IsFinal n d → ⊥) (IsFinal n)
   pub never : Finds t.never Of (IsNever n) (λ d. IsNever n d → ⊥)
   pub failed : Finds t.failed Of (HasFailed n) (λ d. HasFailed n d → ⊥)
@@ -52,7 +52,7 @@ pub record IsTallyOf (n : Night) (Of : ℕ → Type 0) (t : Tally) : Type 0 wher
 -- ---- hopes
 
 -- What a need can expect, by the tally of the commands that it names.
-abbrev pub hope_of : When → Tally → Hope
+abbrev pub hope_of : When → Summary → Hope
 hope_of when.Well t = cond t.never hope.Vain (cond t.pending hope.Open hope.Met)
 hope_of when.Failed t = cond t.failed hope.Met (cond t.pending hope.Open hope.Vain)
 hope_of when.Ended t = cond t.pending hope.Open hope.Met
@@ -69,9 +69,9 @@ AreWithin commands groups (subject.Command d) = d < commands
 AreWithin commands groups (subject.Group g) = g < groups
 
 -- The tally of what a subject names, by the standings of commands and the tallies of groups.
-abbrev pub tally_for : List Standing → List Tally → Subject → Tally
-tally_for all tallies (subject.Command d) = option_map_or tally_of (slice_get all d) no_tally
-tally_for all tallies (subject.Group g) = option_map_or (λ t. t) (slice_get tallies g) no_tally
+abbrev pub summary_for : List Standing → List Summary → Subject → Summary
+summary_for all tallies (subject.Command d) = option_map_or summary_of (slice_get all d) no_summary
+summary_for all tallies (subject.Group g) = option_map_or (λ t. t) (slice_get tallies g) no_summary
 
 -- ---- the pass
 
@@ -100,10 +100,10 @@ pub record IsPlaced (n : Night) (order : List ℕ) (g p d : ℕ) : Type 0 where
 
 -- The commands before place p of the order stand so, and these are the tallies of each group's.
 pub record AreStanding (n : Night) (now : ℕ) (order : List ℕ) (p : ℕ) (all : List Standing)
-    (tallies : List Tally) : Type 0 where
+    (tallies : List Summary) : Type 0 where
   pub sized : length all ≡ length n.commands
   pub grouped : length tallies ≡ length n.groups
   pub stood : (q c : ℕ) → q < p → slice_get order q ≡ Some c
       → (s : Standing) × (slice_get all c ≡ Some s) × Stands n now c s
   pub counted : (g : ℕ) → g < length n.groups
-      → (t : Tally) × (slice_get tallies g ≡ Some t) × IsTallyOf n (IsPlaced n order g p) t
+      → (t : Summary) × (slice_get tallies g ≡ Some t) × IsSummaryOf n (IsPlaced n order g p) t

@@ -5,7 +5,7 @@ ghost use Rattle.std.specs.Prelude.{Some, length};
 ghost use Rattle.std.specs.Prelude.{slice_get, true};
 ghost use Rattle.night_plan.specs.Nights.{AreFacts, night, stops};
 ghost use Rattle.night_plan.specs.Standings.{Stands};
-ghost use Rattle.night_plan.specs.Hopes.{tally_of, with_both, hope_of, tally_for, has_hope};
+ghost use Rattle.night_plan.specs.Hopes.{summary_of, with_both, hope_of, summary_for, has_hope};
 ghost use Rattle.night_plan.specs.Hopes.{is_lost_by, lost_stands, AreWithin, AreStopped};
 ghost use Rattle.night_plan.specs.Hopes.{AreStanding};
 
@@ -36,7 +36,7 @@ pub enum Standing {
 
 /// What is counted of some commands.
 #[derive(Clone, Copy)]
-pub struct Tally {
+pub struct Summary {
     /// One of them is not final.
     pub pending: bool,
     /// One of them never begins again.
@@ -54,26 +54,26 @@ pub enum Hope {
 }
 
 /// The tally of a command that stands so.
-fn tally_one(standing: Standing) -> Tally
-    ensures { result ≡ tally_of standing }
+fn summary_one(standing: Standing) -> Summary
+    ensures { result ≡ summary_of standing }
 {
     match standing {
-        Standing::EndedOk => Tally {
+        Standing::EndedOk => Summary {
             pending: false,
             never: false,
             failed: false,
         },
-        Standing::Failed => Tally {
+        Standing::Failed => Summary {
             pending: false,
             never: true,
             failed: true,
         },
-        Standing::Canceled | Standing::GivenUp => Tally {
+        Standing::Canceled | Standing::GivenUp => Summary {
             pending: false,
             never: true,
             failed: false,
         },
-        Standing::Busy | Standing::Waiting(_) | Standing::Ready | Standing::Pending => Tally {
+        Standing::Busy | Standing::Waiting(_) | Standing::Ready | Standing::Pending => Summary {
             pending: true,
             never: false,
             failed: false,
@@ -82,10 +82,10 @@ fn tally_one(standing: Standing) -> Tally
 }
 
 /// The tally of two sets of commands.
-fn both(one: Tally, other: Tally) -> Tally
+fn both(one: Summary, other: Summary) -> Summary
     ensures { result ≡ with_both one other }
 {
-    Tally {
+    Summary {
         pending: one.pending || other.pending,
         never: one.never || other.never,
         failed: one.failed || other.failed,
@@ -93,40 +93,40 @@ fn both(one: Tally, other: Tally) -> Tally
 }
 
 /// What a need can expect, by the tally of the commands that it names.
-fn hope_left(when: When, tally: Tally) -> Hope
-    ensures { result ≡ hope_of when tally }
+fn hope_left(when: When, summary: Summary) -> Hope
+    ensures { result ≡ hope_of when summary }
 {
     match when {
-        When::Well if tally.never => Hope::Vain,
-        When::Failed if tally.failed => Hope::Met,
-        _ if tally.pending => Hope::Open,
+        When::Well if summary.never => Hope::Vain,
+        When::Failed if summary.failed => Hope::Met,
+        _ if summary.pending => Hope::Open,
         When::Failed => Hope::Vain,
         _ => Hope::Met,
     }
 }
 
 /// The tally of the commands that a subject names, by the standings and tallies so far.
-fn tally_named(all: &[Standing], tallies: &[Tally], of: Subject) -> Tally
+fn summary_named(all: &[Standing], tallies: &[Summary], of: Subject) -> Summary
     requires { AreWithin (length all.now) (length tallies.now) of }
-    ensures { result ≡ tally_for all.now tallies.now of }
+    ensures { result ≡ summary_for all.now tallies.now of }
 {
     match of {
-        Subject::Command(d) => tally_one(all[d]),
+        Subject::Command(d) => summary_one(all[d]),
         Subject::Group(g) => tallies[g],
     }
 }
 
 /// Whether one of these needs has this hope.
-fn any_hope(all: &[Standing], tallies: &[Tally], needs: &[Need], which: Hope) -> bool
+fn any_hope(all: &[Standing], tallies: &[Summary], needs: &[Need], which: Hope) -> bool
     requires { All (λ need. AreWithin (length all.now) (length tallies.now) need.of) needs.now }
     ensures { IsTrue result
-        ↔ Any (λ need. has_hope which (hope_of need.when (tally_for all.now tallies.now need.of))
+        ↔ Any (λ need. has_hope which (hope_of need.when (summary_for all.now tallies.now need.of))
         ≡ true) needs.now }
 {
     for need in needs {
         if is_hope(
             which,
-            hope_left(need.when, tally_named(all, tallies, need.of)),
+            hope_left(need.when, summary_named(all, tallies, need.of)),
         ) {
             return true;
         }
@@ -182,7 +182,7 @@ fn standing_at(
     facts: &Facts,
     stopped: &[bool],
     all: &[Standing],
-    tallies: &[Tally],
+    tallies: &[Summary],
     now: u64,
     p: usize,
 ) -> Standing
@@ -252,7 +252,7 @@ pub fn standings(
 {
     let stopped = stopped_groups(alloc, plan, facts)?;
     let mut all = vec![in alloc; Standing::Pending; plan.commands.len()]?;
-    let none = Tally {
+    let none = Summary {
         pending: false,
         never: false,
         failed: false,
@@ -272,7 +272,7 @@ pub fn standings(
         let group = plan.commands[c].group;
         let before = tallies[group];
         all[c] = standing;
-        tallies[group] = both(before, tally_one(standing));
+        tallies[group] = both(before, summary_one(standing));
     }
     Ok(all)
 }

@@ -87,8 +87,8 @@ demo_ends until (Ok stray) given left r0 r1 w0 w1 new (inl over) =
     (over.before, over.after, begins state_of given left over new, over.runs)
 demo_ends until (Err why) given left r0 r1 w0 w1 new (inl over) =
     inr (over.before, over.after, begins state_of given left over new, over.runs.0)
-demo_ends until r given left r0 r1 w0 w1 new (inr (why, told, opens, unread, quiet)) =
-    rw told (inl (
+demo_ends until r given left r0 r1 w0 w1 new (inr (why, reported, opens, unread, quiet)) =
+    rw reported (inl (
       unopened why (opens_state state_of given (Err (why, left)) (formatted Small) new.is_disk
           new.honest opens new.stores new.unspent),
       unread,

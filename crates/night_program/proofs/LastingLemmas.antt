@@ -41,7 +41,7 @@ module _ {D : Type 0} (state : D → DiskState) where
       → CrewEnds state IsOpen given workers answer left w0 w1
       → FindsLeft state given left next → StoresWork p (state next).now
   crew_is_found given left next p workers answer w0 w1 lies
-      (inl (why, told, opens, same, promises)) finds = record {
+      (inl (why, reported, opens, same, promises)) finds = record {
         work = [];
         only = refl;
         stores = opened_night p [] (state next).now
@@ -56,7 +56,7 @@ module _ {D : Type 0} (state : D → DiskState) where
         stores = kept.1.any_moment.each (state next).now finds.content;
       }
   crew_is_found given left next p workers answer w0 w1 lies
-      (inr (b, opened, begun, inr (audited, starts, finishes, flushed, worked, told, promises)))
+      (inr (b, opened, begun, inr (audited, starts, finishes, flushed, worked, reported, promises)))
       finds =
       let kept = (promises lies.honest lies.rest p lies.stores).0 in
       record {

@@ -19,13 +19,13 @@ use Rattle.console_lines.specs.declared.rejections.RejectedLine.{RejectedLine}
 use Rattle.run_console.specs.RunProgress.{RunEnds, RunStops}
 use Rattle.run_console.specs.Timed.{timed_known}
 use Rattle.run_console.specs.declared.untils.Until.{Until}
-use Rattle.run_console.proofs.Fronts.{stops_begin}
+use Rattle.run_console.proofs.Prefixes.{stops_begin}
 use Rattle.night_program.specs.CutScripts.{CutsLines, IsRunOver, RunsLines}
 use Rattle.night_program.specs.Scripts.{EndsOver, Runs, RunsOver, ScriptEnds}
 use Rattle.night_program.specs.Timed.{RunsTimed, TimedEnds}
 use Rattle.store_words.specs.Lasting.{FindsLeft}
 use Rattle.store_words.proofs.FoundLemmas.{held_is_found, start_is}
-use Rattle.store_words.proofs.WordLemmas.{IsLedBy, front_led}
+use Rattle.store_words.proofs.WordLemmas.{IsLedBy, prefix_led}
 
 -- What a run says of both of its ends.
 pub ran : {D : Type 0} (state : D → DiskState) (until : Until)
@@ -60,7 +60,7 @@ module _ {D : Type 0} (state : D → DiskState) where
       → ((b c : BookView D) → Ran b c → RunsLines state b c)
       → EndsOver state Ran given answer left r0 r1 w0 w1 → IsRunOver state given left
   ends_over Ran given left answer r0 r1 w0 w1 is (inl over) = inl (run_over Ran given left is over)
-  ends_over Ran given left answer r0 r1 w0 w1 is (inr (why, told, opens, unread, quiet)) =
+  ends_over Ran given left answer r0 r1 w0 w1 is (inr (why, reported, opens, unread, quiet)) =
       inr (why, opens)
 
   pub stored_over : (until : Until) (done : Result (Option RejectedLine) RunFault) (given left : D)
@@ -82,33 +82,34 @@ module _ {D : Type 0} (state : D → DiskState) where
       ends
 
 module _ {D : Type 0} (state : D → DiskState) (disk : (d : D) → IsDisk (state d)) where
-  told_below : (o : Option ℕ) (n durable count : ℕ) → n ≡ unwrap_or o durable
+  reported_below : (o : Option ℕ) (n durable count : ℕ) → n ≡ unwrap_or o durable
       → unwrap_or o 0 ≤ count + (n - count)
-  told_below None n durable count is = omega arith
-  told_below (Some k) n durable count is = omega (arith, is)
+  reported_below None n durable count is = omega arith
+  reported_below (Some k) n durable count is = omega (arith, is)
 
-  pub lines_led : (given next : D) (p : State) (events : List Event) (told : List Reply)
-      → LiesWith state given p → CutsLines state given events told next
-      → IsLedBy p events (unwrap_or (last_acked told) 0) (state next).now
-  lines_led given next p events told lies cut =
+  pub lines_led : (given next : D) (p : State) (events : List Event) (reported : List Reply)
+      → LiesWith state given p → CutsLines state given events reported next
+      → IsLedBy p events (unwrap_or (last_acked reported) 0) (state next).now
+  lines_led given next p events reported lies cut =
       let b = cut.over.before in
       let m = cut.middle in
       let c = cut.over.after in
       let opened = opened_as state given p b lies cut.over.opened in
-      let first = row_carries state b m cut.first told disk opened.durable cut.played in
-      let second = row_carries state m c cut.second cut.untold disk first.images cut.goes_on in
+      let first = row_carries state b m cut.first reported disk opened.durable cut.played in
+      let second = row_carries state m c cut.second cut.unreported disk first.images cut.goes_on in
       let found = held_is_found state given next p b m c lies cut.over.opened first second
       (subst (λ d. FindsLeft state m.journal.disk d next) cut.over.disk cut.finds) in
-      let left = steps_left state b m cut.first told (row_steps state b m cut.first told cut.played)
+      let left = steps_left state b m cut.first reported
+      (row_steps state b m cut.first reported cut.played)
       in
       let start = first.start ∙ start_is state given p b lies cut.over.opened in
-      let below = told_below (last_acked told) m.durable b.durable m.session.start.count
+      let below = reported_below (last_acked reported) m.durable b.durable m.session.start.count
       left.durable in
-      let least = subst (λ (q : State). unwrap_or (last_acked told) 0 ≤ q.count + acked m) start
+      let least = subst (λ (q : State). unwrap_or (last_acked reported) 0 ≤ q.count + acked m) start
       below in
       record {
         state = found.state;
-        leads = front_led p found.state events (acked m) (unwrap_or (last_acked told) 0)
+        leads = prefix_led p found.state events (acked m) (unwrap_or (last_acked reported) 0)
             (subst (λ es. IsPrefix (restarted p) es (acked m) found.state) cut.history found.prefix)
             least;
         stores = found.stores;

@@ -23,7 +23,7 @@ use Rattle.night_program.specs.Lasting.{Working, flushed_by}
 use Rattle.night_program.proofs.LastingLemmas.{crew_is_found}
 use Rattle.store_words.specs.Lasting.{FindsLeft, LeadsBy}
 use Rattle.night_program.proofs.LineLemmas.{lines_led}
-use Rattle.store_words.proofs.WordLemmas.{IsLedBy, format_leaves, front_led, lies_read}
+use Rattle.store_words.proofs.WordLemmas.{IsLedBy, format_leaves, prefix_led, lies_read}
 use Rattle.store_words.proofs.WordLemmas.{made_lies, migrate_leaves, opened_led, renew_leaves}
 
 -- ---- what a night leads to
@@ -32,12 +32,12 @@ night_led : (p : State) (work : List Event) (x : List ℕ) → StoresNight p wor
     → IsLedBy p work 0 x
 night_led p work x (inl before) = record {
   state = p;
-  leads = record { front = inl refl; holds = omega arith };
+  leads = record { beginning = inl refl; holds = omega arith };
   stores = before;
 }
 night_led p work x (inr after) = record {
   state = after.state;
-  leads = front_led p after.state work 0 0 after.prefix (omega arith);
+  leads = prefix_led p after.state work 0 0 after.prefix (omega arith);
   stores = after.stores;
 }
 
@@ -49,7 +49,7 @@ module _ {D : Type 0} (state : D → DiskState) (disk : (d : D) → IsDisk (stat
   acks_led p work n x left acks image = record {
     state = acks.state;
     leads = record {
-      front = inr (record {
+      beginning = inr (record {
         many = length work;
         enough = omega arith;
         within = omega arith;
@@ -83,13 +83,14 @@ module _ {D : Type 0} (state : D → DiskState) (disk : (d : D) → IsDisk (stat
       (w0 w1 : Option (List ℕ)) → LiesWith state given p
       → CrewEnds state IsOpen given workers answer left w0 w1
       → (state given).clock ≤ (state left).clock
-  crew_later given left p workers answer w0 w1 lies (inl (why, told, opens, same, promises)) =
+  crew_later given left p workers answer w0 w1 lies (inl (why, reported, opens, same, promises)) =
       (promises lies.honest lies.rest p lies.stores).later
   crew_later given left p workers answer w0 w1 lies
       (inr (b, opened, begun, inl (fault, same, promises))) =
       (promises lies.honest lies.rest p lies.stores).1.any_moment.later
   crew_later given left p workers answer w0 w1 lies
-      (inr (b, opened, begun, inr (audited, starts, finishes, flushed, worked, told, promises))) =
+      (inr (b, opened, begun, inr (audited, starts, finishes, flushed, worked, reported, promises)))
+      =
       (promises lies.honest lies.rest p lies.stores).0.any_moment.later
 
   sooner : (given left next : D) → (state given).clock ≤ (state left).clock
@@ -108,8 +109,8 @@ module _ {D : Type 0} (state : D → DiskState) (disk : (d : D) → IsDisk (stat
       → IsWorkLed p (unwrap_or (flushed_by state given workers answer left w0 w1 ends) 0)
       (state next).now
   night_acked given left next p workers answer w0 w1 lies
-      (inl (why, told, opens, same, promises)) finds =
-      let ends = inl (why, told, opens, same, promises) in
+      (inl (why, reported, opens, same, promises)) finds =
+      let ends = inl (why, reported, opens, same, promises) in
       crew_led given left next p workers answer w0 w1 lies ends
       (sooner given left next (crew_later given left p workers answer w0 w1 lies ends) finds)
   night_acked given left next p workers answer w0 w1 lies
@@ -118,14 +119,15 @@ module _ {D : Type 0} (state : D → DiskState) (disk : (d : D) → IsDisk (stat
       crew_led given left next p workers answer w0 w1 lies ends
       (sooner given left next (crew_later given left p workers answer w0 w1 lies ends) finds)
   night_acked given left next p workers answer w0 w1 lies
-      (inr (b, opened, begun, inr (audited, starts, finishes, Err why, worked, told, promises)))
+      (inr (b, opened, begun, inr (audited, starts, finishes, Err why, worked, reported, promises)))
       finds =
       let ends =
-      inr (b, opened, begun, inr (audited, starts, finishes, Err why, worked, told, promises)) in
+      inr (b, opened, begun, inr (audited, starts, finishes, Err why, worked, reported, promises))
+      in
       crew_led given left next p workers answer w0 w1 lies ends
       (sooner given left next (crew_later given left p workers answer w0 w1 lies ends) finds)
   night_acked given left next p workers answer w0 w1 lies
-      (inr (b, opened, begun, inr (audited, starts, finishes, Ok n, worked, told, promises)))
+      (inr (b, opened, begun, inr (audited, starts, finishes, Ok n, worked, reported, promises)))
       finds =
       let kept = promises lies.honest lies.rest p lies.stores in
       let work = worked.desk.book.session.history in
@@ -136,17 +138,18 @@ module _ {D : Type 0} (state : D → DiskState) (disk : (d : D) → IsDisk (stat
             ((disk left).only_now (state next).now finds.content);
       }
 
-  cut_crew_led : (given next : D) (p : State) (told : Option ℕ) → LiesWith state given p
-      → CutsCrew state given told next → IsWorkLed p (unwrap_or told 0) (state next).now
-  cut_crew_led given next p told lies cut = by cut.cut
+  cut_crew_led : (given next : D) (p : State) (reported : Option ℕ) → LiesWith state given p
+      → CutsCrew state given reported next → IsWorkLed p (unwrap_or reported 0) (state next).now
+  cut_crew_led given next p reported lies cut = by cut.cut
     where
       ends : CrewEnds state IsOpen given cut.workers cut.answer cut.left cut.w0 cut.w1
       ends = cut.ends
 
-      by : ((told ≡ None) × FindsLeft state given cut.left next)
-          ⊎ ((told ≡ flushed_by state given cut.workers cut.answer cut.left cut.w0 cut.w1 cut.ends)
+      by : ((reported ≡ None) × FindsLeft state given cut.left next)
+          ⊎ ((reported
+          ≡ flushed_by state given cut.workers cut.answer cut.left cut.w0 cut.w1 cut.ends)
           × FindsLeft state cut.left cut.left next)
-          → IsWorkLed p (unwrap_or told 0) (state next).now
+          → IsWorkLed p (unwrap_or reported 0) (state next).now
       by (inl (none, finds)) =
           subst (λ o. IsWorkLed p (unwrap_or o 0) (state next).now) (sym none)
           (crew_led given cut.left next p cut.workers cut.answer cut.w0 cut.w1 lies ends finds)
@@ -179,18 +182,18 @@ module _ {D : Type 0} (state : D → DiskState) (disk : (d : D) → IsDisk (stat
       lies.rest.only (state next).now (reads.each (state next).now finds.content) in
       found_by p Reading _ next finds p refl
       (subst (λ x. Stores x p) (sym same) lies.stores)
-  run_led given next p (Scripting events told) lies (inl (none, cuts)) =
+  run_led given next p (Scripting events reported) lies (inl (none, cuts)) =
       let left = cuts.opens.any_moment lies.honest lies.rest p lies.stores in
       let led = opened_led p events (state next).now
       (left.each (state next).now cuts.finds.content) in
-      found_by p (Scripting events told) _ next cuts.finds led.state
+      found_by p (Scripting events reported) _ next cuts.finds led.state
       (subst (λ rs. LeadsBy p events (unwrap_or (last_acked rs) 0) led.state) (sym none) led.leads)
       led.stores
-  run_led given next p (Scripting events told) lies (inr cuts) =
-      let led = lines_led state disk given next p events told lies cuts in
-      found_by p (Scripting events told) _ next cuts.finds led.state led.leads led.stores
-  run_led given next p (Working told) lies cuts =
-      let led = cut_crew_led given next p told lies cuts in
+  run_led given next p (Scripting events reported) lies (inr cuts) =
+      let led = lines_led state disk given next p events reported lies cuts in
+      found_by p (Scripting events reported) _ next cuts.finds led.state led.leads led.stores
+  run_led given next p (Working reported) lies cuts =
+      let led = cut_crew_led given next p reported lies cuts in
       record {
         state_then = led.led.state;
         leads = (led.work, led.only, led.led.leads);

@@ -30,14 +30,14 @@ IsRunOver state given left =
 -- Lines were run over the store on a disk, and their steps became these events. A crash or the end
 -- came when the replies to the first steps had been printed.
 pub record CutsLines {D : Type 0} (state : D → DiskState) (given : D) (events : List Event)
-    (told : List Reply) (next : D) : Type 0 where
+    (reported : List Reply) (next : D) : Type 0 where
   pub left : D
   pub over : RunsOver state (RunsLines state) given left
   pub history : over.after.session.history ≡ events
   pub first : List Step
   pub middle : BookView D
   pub second : List Step
-  pub untold : List Reply
-  pub played : StepsOn state over.before first told middle
-  pub goes_on : StepsOn state middle second untold over.after
+  pub unreported : List Reply
+  pub played : StepsOn state over.before first reported middle
+  pub goes_on : StepsOn state middle second unreported over.after
   pub finds : FindsLeft state middle.journal.disk left next

@@ -22,13 +22,13 @@ abbrev pub is_strange : Task → Bool
 is_strange task = is_unfinished task.stage && not (is_known task.job)
 
 -- The report about such tasks: the job of the first one, and how many there are.
-abbrev pub told_of : List Task → Option UnknownJob
-told_of [] = None
-told_of (task ∷ tasks) = Some (record { job = task.job; tasks = length tasks + 1 })
+abbrev pub reported_of : List Task → Option UnknownJob
+reported_of [] = None
+reported_of (task ∷ tasks) = Some (record { job = task.job; tasks = length tasks + 1 })
 
 -- The report about these tasks.
 abbrev pub unknown_in : List Task → Option UnknownJob
-unknown_in tasks = told_of (filter is_strange tasks)
+unknown_in tasks = reported_of (filter is_strange tasks)
 
 -- The store on a disk was only read. Either these tasks with unknown jobs were found in its state,
 -- or no state was found, and the fault says why.

@@ -52,9 +52,9 @@ pub data Run : Type 0 where
 -- The run leads from state p to state q.
 abbrev pub Leads : State → Run → State → Type 0
 Leads p Reading q = q ≡ p
-Leads p (Scripting events told) q = LeadsBy p events (unwrap_or (last_acked told) 0) q
-Leads p (Working told) q =
-    (work : List Event) × (list_all is_work work ≡ true) × LeadsBy p work (unwrap_or told 0) q
+Leads p (Scripting events reported) q = LeadsBy p events (unwrap_or (last_acked reported) 0) q
+Leads p (Working reported) q =
+    (work : List Event) × (list_all is_work work ≡ true) × LeadsBy p work (unwrap_or reported 0) q
 Leads p (Formatting layout) q = q ≡ formatted layout
 Leads p Migrating q = q ≡ widened p
 Leads p (Renewing layout) q = q ≡ renewed_in layout p
@@ -77,29 +77,29 @@ module _ {D : Type 0} (state : D → DiskState) where
   flushed_by given workers answer left w0 w1 (inl none) = None
   flushed_by given workers answer left w0 w1 (inr (b, opened, begun, inl none)) = None
   flushed_by given workers answer left w0 w1
-      (inr (b, opened, begun, inr (audit, starts, finishes, flushed, worked, told, promises))) =
+      (inr (b, opened, begun, inr (audit, starts, finishes, flushed, worked, reported, promises))) =
       flushed_of flushed
 
   -- A crew worked on the store on a disk. A crash came at any moment; or after the night, when what
   -- its last flush acknowledged was printed.
-  pub record CutsCrew (given : D) (told : Option ℕ) (next : D) : Type 0 where
+  pub record CutsCrew (given : D) (reported : Option ℕ) (next : D) : Type 0 where
     pub workers : ℕ
     pub answer : Result Bool RunFault
     pub left : D
     pub w0 : Option (List ℕ)
     pub w1 : Option (List ℕ)
     pub ends : CrewEnds state IsOpen given workers answer left w0 w1
-    pub cut : ((told ≡ None) × FindsLeft state given left next)
-        ⊎ ((told ≡ flushed_by given workers answer left w0 w1 ends)
+    pub cut : ((reported ≡ None) × FindsLeft state given left next)
+        ⊎ ((reported ≡ flushed_by given workers answer left w0 w1 ends)
         × FindsLeft state left left next)
 
   -- The program made this run over the store on the disk, and the next opening finds the other one.
   abbrev pub RunLeaves : (given : D) → Run → (next : D) → Type 0
   RunLeaves given Reading next =
       (read : D) × IsReadAlone (state given) (state read) × FindsLeft state given read next
-  RunLeaves given (Scripting events told) next =
-      ((told ≡ []) × CutsOpening state given next) ⊎ CutsLines state given events told next
-  RunLeaves given (Working told) next = CutsCrew given told next
+  RunLeaves given (Scripting events reported) next =
+      ((reported ≡ []) × CutsOpening state given next) ⊎ CutsLines state given events reported next
+  RunLeaves given (Working reported) next = CutsCrew given reported next
   RunLeaves given (Formatting layout) next =
       CutsMaking state (λ made left. ((state made).size ≡ store_len layout)
       × (done : Result ⊤ RunFault) × (w0 : Option (List ℕ)) × (w1 : Option (List ℕ))

@@ -22,7 +22,14 @@ use Rattle.night_words.proofs.LevelLemmas.{words_pass}
 use Rattle.night_words.proofs.RowLemmas.{IsFull, given_is_read}
 use Rattle.night_words.proofs.TurnLemmas.{above, held, mark}
 use Rattle.night_words.proofs.UsedLemmas.{Came, IsKept, IsQuiet, a_flag, a_mark, a_value, came}
-use Rattle.night_words.proofs.UsedLemmas.{end_full, end_rows, end_told, keeps, kept_full, not_told}
+use Rattle.night_words.proofs.UsedLemmas.{
+  end_full,
+  end_rows,
+  end_reported,
+  keeps,
+  kept_full,
+  not_reported,
+}
 
 pub data Command : Type 0 where
   demos : Command
@@ -407,8 +414,8 @@ ends c name words w (flagged k) none fine =
     let rows = end_rows (shape c) (formed c) w in
     record {
       stored = stores_read c rows (kept_full (shape c) (formed c) w k fine) none;
-      alone = λ unset. absurd (not_told (shape c) rows (quiet c rows unset)
-          (end_told (shape c) (formed c) w k fine));
+      alone = λ unset. absurd (not_reported (shape c) rows (quiet c rows unset)
+          (end_reported (shape c) (formed c) w k fine));
     }
 
 -- nothing is found in the words after a command

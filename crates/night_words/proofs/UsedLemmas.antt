@@ -136,14 +136,14 @@ grows_shown a r more grows shown =
 -- ---- what is held
 
 -- a flag or an option was used
-pub record IsTold (s : Shape) (r : List Row) : Type 0 where
+pub record IsReported (s : Shape) (r : List Row) : Type 0 where
   pub rule : Rule
   pub there : IsIn rule s.rules
   pub named : is_named rule ≡ true
   pub shown : is_shown rule r ≡ true
 
-told_grows : (s : Shape) (r more : List Row) → Grows r more → IsTold s r → IsTold s more
-told_grows s r more grows t = record {
+reported_grows : (s : Shape) (r more : List Row) → Grows r more → IsReported s r → IsReported s more
+reported_grows s r more grows t = record {
   rule = t.rule;
   there = t.there;
   named = t.named;
@@ -152,7 +152,7 @@ told_grows s r more grows t = record {
 
 -- or an option will be, whose values come in
 data IsTouched (s : Shape) (r : List Row) (p : Option (Text × List Text)) : Type 0 where
-  told : IsTold s r → IsTouched s r p
+  reported : IsReported s r → IsTouched s r p
   waited : (a : Rule) → IsIn a s.rules → is_named a ≡ true → arg_by_id s.rules a.id ≡ Some a
       → (values : List Text) → p ≡ Some (a.id, values) → IsTouched s r p
 
@@ -176,11 +176,11 @@ module _ (s : Shape) (formed : IsFormed s) where
       go (Some a) found none = used_grows a v.1 r
           (form_used s a v.1 r (form_in s formed a (found_in _ a s.rules found).0) none)
 
-  settled_told : (r : List Row) (p : Option (Text × List Text)) → IsTouched s r p → Settles r p
-      → IsTold s (settled_rows s.rules p r)
-  settled_told r p (told t) none = told_grows s r _ (settled_grows r p none) t
-  settled_told r p (waited a is named at values e) none =
-      subst (λ o. IsTold s (settled_rows s.rules o r)) (sym e) (record {
+  settled_reported : (r : List Row) (p : Option (Text × List Text)) → IsTouched s r p → Settles r p
+      → IsReported s (settled_rows s.rules p r)
+  settled_reported r p (reported t) none = reported_grows s r _ (settled_grows r p none) t
+  settled_reported r p (waited a is named at values e) none =
+      subst (λ o. IsReported s (settled_rows s.rules o r)) (sym e) (record {
         rule = a;
         there = is;
         named = named;
@@ -240,7 +240,7 @@ module _ (s : Shape) (formed : IsFormed s) where
       (used a values (settled_rows s.rules p r)) (settled_grows r p (first_none _ _ none))
       (used_grows a values (settled_rows s.rules p r) u) in
       kept w (used a values (settled_rows s.rules p r)) None idle n false at
-      (grows_full r _ more full) (told (record {
+      (grows_full r _ more full) (reported (record {
         rule = a;
         there = is;
         named = named;
@@ -261,7 +261,7 @@ module _ (s : Shape) (formed : IsFormed s) where
   pushed_touched : (r : List Row) (p : Option (Text × List Text)) (id word : Text)
       → IsTouched s r p
       → IsTouched s r (Some ((started id p).0, (started id p).1 ++ word ∷ []))
-  pushed_touched r p id word (told t) = told t
+  pushed_touched r p id word (reported t) = reported t
   pushed_touched r p id word (waited a is named at values e) =
       waited a is named at (values ++ word ∷ [])
       (ap (λ o. Some ((started id o).0, (started id o).1 ++ word ∷ [])) e)
@@ -287,7 +287,8 @@ module _ (s : Shape) (formed : IsFormed s) where
             (pushed_touched r p a.id word touched)
         go false none at =
             kept w (settled_rows s.rules p r) (Some (a.id, word ∷ [])) _ _ _ at
-            (grows_full r _ (settled_grows r p none) full) (told (settled_told r p touched none))
+            (grows_full r _ (settled_grows r p none) full)
+            (reported (settled_reported r p touched none))
 
     -- a value of an option that waits for one
     option_kept : (id : Text) (o : Option Rule) → (w : Walk)
@@ -365,15 +366,15 @@ module _ (s : Shape) (formed : IsFormed s) where
       (grows_full _ _ (defaults_grow s.rules (settled_rows s.rules p r))
       (grows_full r _ (settled_grows r p fine) full))
 
-  pub end_told : (w : Walk) → IsKept w
-      → settle_fault s.rules s.args_override_self w.held ≡ [] → IsTold s (end_rows w)
-  end_told w k none =
+  pub end_reported : (w : Walk) → IsKept w
+      → settle_fault s.rules s.args_override_self w.held ≡ [] → IsReported s (end_rows w)
+  end_reported w k none =
       let is = ap (λ (v : Walk). v.held) k.is in
       let fine : Settles k.rows k.pending =
       subst (λ h. settle_fault s.rules s.args_override_self h ≡ []) is none in
-      subst (λ h. IsTold s (finished s.rules h)) (sym is)
-      (told_grows s _ _ (defaults_grow s.rules (settled_rows s.rules k.pending k.rows))
-      (settled_told k.rows k.pending k.touched fine))
+      subst (λ h. IsReported s (finished s.rules h)) (sym is)
+      (reported_grows s _ _ (defaults_grow s.rules (settled_rows s.rules k.pending k.rows))
+      (settled_reported k.rows k.pending k.touched fine))
 
   pub kept_full : (w : Walk) → IsKept w
       → settle_fault s.rules s.args_override_self w.held ≡ [] → IsFull (end_rows w)
@@ -412,12 +413,12 @@ module _ (s : Shape) (formed : IsFormed s) where
 -- ---- where nothing was used
 
 -- no flag and no option is told
-abbrev is_told : List Row → Rule → Bool
-is_told rows a = is_named a && is_shown a rows
+abbrev is_reported : List Row → Rule → Bool
+is_reported rows a = is_named a && is_shown a rows
 
 abbrev pub IsQuiet : Shape → List Row → Type 0
-IsQuiet s rows = list_any (is_told rows) s.rules ≡ false
+IsQuiet s rows = list_any (is_reported rows) s.rules ≡ false
 
-pub not_told : (s : Shape) (rows : List Row) → IsQuiet s rows → IsTold s rows → ⊥
-not_told s rows quiet t = none_in (is_told rows) t.rule s.rules quiet t.there
+pub not_reported : (s : Shape) (rows : List Row) → IsQuiet s rows → IsReported s rows → ⊥
+not_reported s rows quiet t = none_in (is_reported rows) t.rule s.rules quiet t.there
     (ap (λ b. b && is_shown t.rule rows) t.named ∙ t.shown)

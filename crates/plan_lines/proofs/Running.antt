@@ -179,14 +179,14 @@ pub record HasRun (held : List ℕ) (number : ℕ) (s : InputPart) (r0 r1 w0 w1 
     : Type 0 where
   pub bytes : List ℕ
   pub read : Consumes r0 r1 bytes
-  pub front : List ℕ
-  pub parts : bytes ≡ front ++ held
-  pub closed : open_line [] front ≡ []
+  pub prefix : List ℕ
+  pub parts : bytes ≡ prefix ++ held
+  pub closed : open_line [] prefix ≡ []
   pub first : Draft
   pub none_yet : IsNew first
   pub lines : List AnswerLine
-  pub taken : TakesAll (part.Plan first) 1 (whole_lines [] front) s lines
-  pub count : number ≡ 1 + length (whole_lines [] front)
+  pub taken : TakesAll (part.Plan first) 1 (whole_lines [] prefix) s lines
+  pub count : number ≡ 1 + length (whole_lines [] prefix)
   pub written : Appends w0 w1 (answer_lines lines)
 
 pub begun : (held : List ℕ) (first : Draft) (r w : Option (List ℕ)) → held ≡ [] → IsNew first
@@ -194,7 +194,7 @@ pub begun : (held : List ℕ) (first : Draft) (r w : Option (List ℕ)) → held
 begun held first r w none new = record {
   bytes = [];
   read = consumes_nothing r;
-  front = [];
+  prefix = [];
   parts = sym none;
   closed = refl;
   first = first;
@@ -206,11 +206,11 @@ begun held first r w none new = record {
 }
 
 -- The lines of what was taken, and of what comes after it.
-lines_after : (front text : List ℕ) → open_line [] front ≡ []
-    → whole_lines [] (front ++ text) ≡ whole_lines [] front ++ whole_lines [] text
-lines_after front text closed =
-    whole_lines-append [] front text
-    ∙ ap (λ (l : List ℕ). whole_lines [] front ++ whole_lines l text) closed
+lines_after : (prefix text : List ℕ) → open_line [] prefix ≡ []
+    → whole_lines [] (prefix ++ text) ≡ whole_lines [] prefix ++ whole_lines [] text
+lines_after prefix text closed =
+    whole_lines-append [] prefix text
+    ∙ ap (λ (l : List ℕ). whole_lines [] prefix ++ whole_lines l text) closed
 
 -- The next line, and those after its LF.
 line_first : (text rest : List ℕ) → whole_lines [] text ≡ []
@@ -221,23 +221,23 @@ line_first text rest none =
     ∙ ap (λ (l : List ℕ). whole_lines l (10 ∷ rest)) (open_of_none [] text none)
 
 -- All bytes that were read, if these come after them.
-read_on : (bytes front held more : List ℕ) → bytes ≡ front ++ held
-    → bytes ++ more ≡ front ++ (held ++ more)
-read_on bytes front held more parts =
-    ap (λ (l : List ℕ). l ++ more) parts ∙ append_assoc front held more
+read_on : (bytes prefix held more : List ℕ) → bytes ≡ prefix ++ held
+    → bytes ++ more ≡ prefix ++ (held ++ more)
+read_on bytes prefix held more parts =
+    ap (λ (l : List ℕ). l ++ more) parts ∙ append_assoc prefix held more
 
 module _ {held new line : List ℕ} {number : ℕ} {s : InputPart}
     {r0 r1 r2 w0 w1 : Option (List ℕ)} where
   -- All lines, if a line was read.
   all_lines : (run : HasRun held number s r0 r1 w0 w1) (reads : ReadsLine held new r1 r2 line)
       → whole_lines [] (run.bytes ++ reads.bytes)
-      ≡ whole_lines [] run.front ++ reads.text ∷ whole_lines [] new
+      ≡ whole_lines [] run.prefix ++ reads.text ∷ whole_lines [] new
   all_lines run reads =
       ap (whole_lines [])
-      (read_on run.bytes run.front held reads.bytes run.parts
-      ∙ ap (λ (l : List ℕ). run.front ++ l) reads.parts)
-      ∙ lines_after run.front (reads.text ++ 10 ∷ new) run.closed
-      ∙ ap (λ (l : List (List ℕ)). whole_lines [] run.front ++ l)
+      (read_on run.bytes run.prefix held reads.bytes run.parts
+      ∙ ap (λ (l : List ℕ). run.prefix ++ l) reads.parts)
+      ∙ lines_after run.prefix (reads.text ++ 10 ∷ new) run.closed
+      ∙ ap (λ (l : List (List ℕ)). whole_lines [] run.prefix ++ l)
       (line_first reads.text new reads.whole)
 
 module _ {held new line : List ℕ} {number : ℕ} {s : InputPart} {r0 r1 r2 w0 w1 w2 : Option (List ℕ)}
@@ -249,9 +249,9 @@ module _ {held new line : List ℕ} {number : ℕ} {s : InputPart} {r0 r1 r2 w0 
         → HasRun new (number + 1) t r0 r2 w0 w2
     line_taken t run reads answer =
         let text = reads.text in
-        let lines = whole_lines [] run.front in
-        let one : whole_lines [] (run.front ++ (text ++ 10 ∷ [])) ≡ lines ++ text ∷ [] =
-        lines_after run.front (text ++ 10 ∷ []) run.closed
+        let lines = whole_lines [] run.prefix in
+        let one : whole_lines [] (run.prefix ++ (text ++ 10 ∷ [])) ≡ lines ++ text ∷ [] =
+        lines_after run.prefix (text ++ 10 ∷ []) run.closed
         ∙ ap (λ (l : List (List ℕ)). lines ++ l) (line_first text [] reads.whole) in
         let takes : TakesLine s (1 + length lines) text (next.Part t) answer.0 =
         subst (λ n. TakesLine s n text (next.Part t) answer.0) run.count
@@ -261,15 +261,15 @@ module _ {held new line : List ℕ} {number : ℕ} {s : InputPart} {r0 r1 r2 w0 
         record {
           bytes = run.bytes ++ reads.bytes;
           read = consumes_then r0 r1 r2 run.bytes reads.bytes run.read reads.read;
-          front = run.front ++ (text ++ 10 ∷ []);
+          prefix = run.prefix ++ (text ++ 10 ∷ []);
           parts =
-              read_on run.bytes run.front held reads.bytes run.parts
-              ∙ ap (λ (l : List ℕ). run.front ++ l)
+              read_on run.bytes run.prefix held reads.bytes run.parts
+              ∙ ap (λ (l : List ℕ). run.prefix ++ l)
               (reads.parts ∙ sym (append_assoc text (10 ∷ []) new))
-              ∙ sym (append_assoc run.front (text ++ 10 ∷ []) new);
+              ∙ sym (append_assoc run.prefix (text ++ 10 ∷ []) new);
           closed =
-              open_line-append [] run.front (text ++ 10 ∷ [])
-              ∙ (line_ends (open_line [] run.front) text).1;
+              open_line-append [] run.prefix (text ++ 10 ∷ [])
+              ∙ (line_ends (open_line [] run.prefix) text).1;
           first = run.first;
           none_yet = run.none_yet;
           lines = run.lines ++ answer.0;
@@ -293,7 +293,7 @@ module _ {held new line : List ℕ} {number : ℕ} {s : InputPart} {r0 r1 r2 w0 
         → RunEnds stop r0 r2 w0 w2
     line_ends_run stop run reads answer =
         let text = reads.text in
-        let lines = whole_lines [] run.front in
+        let lines = whole_lines [] run.prefix in
         let takes : TakesLine s (1 + length lines) text (next.End stop) answer.0 =
         subst (λ n. TakesLine s n text (next.End stop) answer.0) run.count
         (takes_cut s number text (next.End stop) answer.0
@@ -327,7 +327,7 @@ module _ {held new line : List ℕ} {number : ℕ} {s : InputPart} {r0 r1 r2 w0 
         → RunStops why r0 r2 w0 w2
     line_stops_run why run reads answer =
         let text = reads.text in
-        let lines = whole_lines [] run.front in
+        let lines = whole_lines [] run.prefix in
         let off = breaks why s number text w1 w2
         (subst (λ (l : List ℕ). Answers (TakesLine s number l) (Err why) w1 w2) reads.returned
         answer) in
@@ -373,11 +373,11 @@ module _ {held : List ℕ} {number : ℕ} {s : InputPart} {r0 r1 r2 w0 w1 : Opti
   -- All lines, if no more was read.
   no_more_lines : (run : HasRun held number s r0 r1 w0 w1) (bytes : List ℕ)
       → ReadsNoLine held r1 r2 bytes
-      → whole_lines [] (run.bytes ++ bytes) ≡ whole_lines [] run.front ++ []
+      → whole_lines [] (run.bytes ++ bytes) ≡ whole_lines [] run.prefix ++ []
   no_more_lines run bytes reads =
-      ap (whole_lines []) (read_on run.bytes run.front held bytes run.parts)
-      ∙ lines_after run.front (held ++ bytes) run.closed
-      ∙ ap (λ (l : List (List ℕ)). whole_lines [] run.front ++ l) reads.none
+      ap (whole_lines []) (read_on run.bytes run.prefix held bytes run.parts)
+      ∙ lines_after run.prefix (held ++ bytes) run.closed
+      ∙ ap (λ (l : List (List ℕ)). whole_lines [] run.prefix ++ l) reads.none
 
   -- The input has ended.
   pub input_ends_run : HasRun held number s r0 r1 w0 w1
@@ -394,7 +394,7 @@ module _ {held : List ℕ} {number : ℕ} {s : InputPart} {r0 r1 r2 w0 w1 : Opti
         (λ (l : List (List ℕ)).
         RunsOver (part.Plan run.first) 1 l end.InputEnded (run.lines ++ []))
         (sym (no_more_lines run reads.0 reads.1))
-        (runs_then (part.Plan run.first) 1 (whole_lines [] run.front) [] s end.InputEnded
+        (runs_then (part.Plan run.first) 1 (whole_lines [] run.prefix) [] s end.InputEnded
         run.lines [] run.taken (refl, refl));
     ended = λ is. reads.2;
     written =
@@ -417,7 +417,7 @@ module _ {held : List ℕ} {number : ℕ} {s : InputPart} {r0 r1 r2 w0 w1 : Opti
         (λ (l : List (List ℕ)).
         StopsOver why (part.Plan run.first) 1 l (answer_lines run.lines ++ []))
         (sym (no_more_lines run reads.0 reads.1))
-        (stops_then why (part.Plan run.first) 1 (whole_lines [] run.front) [] s run.lines []
+        (stops_then why (part.Plan run.first) 1 (whole_lines [] run.prefix) [] s run.lines []
         run.taken (of_input why reads.0 reads.2, refl));
     too_long = λ is.
         omega (arith, long_enough why reads.0 reads.2 is, length-append run.bytes reads.0);
@@ -449,13 +449,13 @@ lines_stop_run held number s r0 r1 w0 w1 run many = record {
       subst
       (λ (l : List (List ℕ)).
       StopsOver fault.InputTooLong (part.Plan run.first) 1 l (answer_lines run.lines ++ []))
-      (sym (ap (whole_lines []) run.parts ∙ lines_after run.front held run.closed))
-      (stops_then fault.InputTooLong (part.Plan run.first) 1 (whole_lines [] run.front)
+      (sym (ap (whole_lines []) run.parts ∙ lines_after run.prefix held run.closed))
+      (stops_then fault.InputTooLong (part.Plan run.first) 1 (whole_lines [] run.prefix)
       (whole_lines [] held) s run.lines [] run.taken
-      (stops_here s (1 + length (whole_lines [] run.front)) (whole_lines [] held)));
+      (stops_here s (1 + length (whole_lines [] run.prefix)) (whole_lines [] held)));
   too_long = λ is.
-      let size : length run.bytes ≡ length run.front + length held =
-      ap length run.parts ∙ length-append run.front held in
-      omega (arith, many, run.count, few_lines [] run.front, size);
+      let size : length run.bytes ≡ length run.prefix + length held =
+      ap length run.parts ∙ length-append run.prefix held in
+      omega (arith, many, run.count, few_lines [] run.prefix, size);
   written = subst (Appends w0 w1) (sym (append-nil (answer_lines run.lines))) run.written;
 }

@@ -10,7 +10,7 @@ use Rattle.console_lines.specs.Progress.{WritesPart}
 use Rattle.console_lines.proofs.Written.{appends_then}
 use Rattle.plan_lines.specs.declared.answers.AnswerLine.{AnswerLine}
 use Rattle.plan_lines.specs.Answers.{answer_lines, answer_text}
-use Rattle.plan_lines.specs.Writing.{IsWritten, WritesFront}
+use Rattle.plan_lines.specs.Writing.{IsWritten, WritesPrefix}
 
 -- One line more.
 one_line : (k : ℕ) (lines : List AnswerLine) (d : AnswerLine) → k < length lines
@@ -57,23 +57,23 @@ answer_lines-append (x ∷ xs) ys =
 -- A part of what was buffered.
 pub part_written : (w0 w1 w2 : Option (List ℕ)) (buffer : List ℕ) (k : ℕ)
     (lines : List AnswerLine) → IsWritten w0 w1 (answer_lines (take k lines)) buffer
-    → WritesPart w1 w2 buffer → WritesFront w0 w2 (answer_lines lines)
+    → WritesPart w1 w2 buffer → WritesPrefix w0 w2 (answer_lines lines)
 part_written w0 w1 w2 buffer k lines before part =
-    let front = part.0 in
+    let prefix = part.0 in
     let rest = part.1.0 in
     let more = answer_lines (drop k lines) in
     let all : answer_lines lines ≡ answer_lines (take k lines) ++ more =
     ap answer_lines (sym (take-append-drop k lines))
     ∙ answer_lines-append (take k lines) (drop k lines) in (
-      before.out ++ front,
+      before.out ++ prefix,
       (
         rest ++ more,
         all ∙ ap (λ (l : List ℕ). l ++ more)
             (before.parts ∙ ap (λ (l : List ℕ). before.out ++ l) part.1.1
-            ∙ sym (append_assoc before.out front rest))
-            ∙ append_assoc (before.out ++ front) rest more,
+            ∙ sym (append_assoc before.out prefix rest))
+            ∙ append_assoc (before.out ++ prefix) rest more,
       ),
-      appends_then w0 w1 w2 before.out front before.written part.2,
+      appends_then w0 w1 w2 before.out prefix before.written part.2,
     )
 
 kept_after : (w0 w1 w2 : Option (List ℕ)) (text : List ℕ) → Appends w0 w1 text → Keeps w1 w2
@@ -87,7 +87,7 @@ kept_after (Some x) (Some y) (Some z) text h k = k ∙ h
 pub whole_written : (w0 w1 w2 w3 : Option (List ℕ)) (buffer : List ℕ) (k : ℕ)
     (lines : List AnswerLine) → IsWritten w0 w1 (answer_lines (take k lines)) buffer
     → length lines ≤ k → Appends w1 w2 buffer → Keeps w2 w3
-    → WritesFront w0 w3 (answer_lines lines)
+    → WritesPrefix w0 w3 (answer_lines lines)
 whole_written w0 w1 w2 w3 buffer k lines before end all kept =
     let text : answer_lines lines ≡ before.out ++ buffer =
     ap answer_lines (sym (take_all k lines end)) ∙ before.parts in (

@@ -23,12 +23,12 @@ pub record IsNew (d : Draft) : Type 0 where
   pub last : d.last ≡ None
 
 -- The last command has the need or the take that a line says, and nothing else has changed.
-pub record HasNewLast (said : PlanLine) (d e : Draft) : Type 0 where
+pub record HasNewLast (given : PlanLine) (d e : Draft) : Type 0 where
   pub old : Command
   pub new : Command
   pub was : d.last ≡ Some old
   pub is : e.last ≡ Some new
-  pub has : Extends said old new
+  pub has : Extends given old new
   pub groups : e.groups ≡ d.groups
   pub pools : e.pools ≡ d.pools
   pub commands : e.commands ≡ d.commands
@@ -65,5 +65,5 @@ Finishes d (Err why) = Explains d.groups.items d.pools.items (commands_in d) why
 
 -- The last command has the need or the take that a line says, if there is a last command.
 abbrev pub ExtendsLast : PlanLine → Draft → Option Draft → Type 0
-ExtendsLast said d None = d.last ≡ None
-ExtendsLast said d (Some e) = HasNewLast said d e
+ExtendsLast given d None = d.last ≡ None
+ExtendsLast given d (Some e) = HasNewLast given d e

@@ -16,10 +16,10 @@ use Rattle.plan_lines.specs.States.{MayGrow}
 
 -- The command by which the plan grows has what a line of this number says. There has to be one.
 abbrev pub GrowsOn : PlanLine → ℕ → Round → Heard → Type 0
-GrowsOn said number r (heard.Bad n) = (r.growth ≡ None) × (n ≡ number)
-GrowsOn said number r (heard.Round t) =
+GrowsOn given number r (heard.Bad n) = (r.growth ≡ None) × (n ≡ number)
+GrowsOn given number r (heard.Round t) =
     (g h : Growth) × (r.growth ≡ Some g) × (t.growth ≡ Some h) × (t.state ≡ r.state)
-    × Extends said g.command h.command × (h.line ≡ g.line)
+    × Extends given g.command h.command × (h.line ≡ g.line)
 
 -- The plan has grown by the command, if there is one that it may grow by.
 abbrev pub Grows : Option Growth → PlanState → Grown → Type 0
@@ -30,8 +30,8 @@ Grows (Some g) s (grown.Bad n) = MayGrow false s.plan g.command × (n ≡ g.line
 
 -- A fact was noted. There has to be something that it is about.
 abbrev pub HearsFact : PlanLine → ℕ → PlanState → Heard → Type 0
-HearsFact said number s (heard.Bad n) = Notes false said s.facts s.facts × (n ≡ number)
-HearsFact said number s (heard.Round t) = HasFact said s t.state × (t.growth ≡ None)
+HearsFact given number s (heard.Bad n) = Notes false given s.facts s.facts × (n ≡ number)
+HearsFact given number s (heard.Round t) = HasFact given s t.state × (t.growth ≡ None)
 
 -- A line of this number was heard while the plan was growing by no command.
 abbrev pub HearsAlone : PlanLine → ℕ → PlanState → Heard → Type 0
@@ -44,16 +44,16 @@ HearsAlone (line.Now moment) number s (heard.Round t) =
     HasTime moment s t.state × (t.growth ≡ None)
 HearsAlone line.Standings number s (heard.Round t) =
     HasQuestion true s t.state × (t.growth ≡ None)
-HearsAlone said number s answer = HearsFact said number s answer
+HearsAlone given number s answer = HearsFact given number s answer
 
 -- A line was heard once the plan has grown.
 abbrev pub HearsAfter : PlanLine → ℕ → Grown → Heard → Type 0
-HearsAfter said number (grown.State s) answer = HearsAlone said number s answer
-HearsAfter said number (grown.Bad n) answer = answer ≡ heard.Bad n
+HearsAfter given number (grown.State s) answer = HearsAlone given number s answer
+HearsAfter given number (grown.Bad n) answer = answer ≡ heard.Bad n
 
 -- A line of this number was heard in a round.
 abbrev pub Hears : PlanLine → ℕ → Round → Heard → Type 0
 Hears (line.Need need) number r answer = GrowsOn (line.Need need) number r answer
 Hears (line.Take take) number r answer = GrowsOn (line.Take take) number r answer
-Hears said number r answer =
-    (g : Grown) × Grows r.growth r.state g × HearsAfter said number g answer
+Hears given number r answer =
+    (g : Grown) × Grows r.growth r.state g × HearsAfter given number g answer

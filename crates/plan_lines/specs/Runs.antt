@@ -5,7 +5,7 @@ use Rattle.std.specs.Io.KnownBytes.{Appends, Consumes, IsAtEnd}
 use Rattle.console_lines.specs.declared.faults.RunFault.{RunFault}
 use Rattle.console_lines.specs.declared.faults.RunFault.TheVariants as fault
 use Rattle.console_lines.specs.Lines.{whole_lines}
-use Rattle.console_lines.specs.Progress.{IsFront}
+use Rattle.console_lines.specs.Progress.{IsPrefix}
 use Rattle.night_plan.specs.declared.commands.Plan.{Plan}
 use Rattle.night_plan.specs.declared.plans.PlanFault.{PlanFault}
 use Rattle.plan_lines.specs.declared.answers.AnswerLine.{AnswerLine}
@@ -125,7 +125,7 @@ pub record RunEnds (stop : RunEnd) (r0 r1 w0 w1 : Option (List ℕ)) : Type 0 wh
 abbrev pub BreaksOff : RunFault → InputPart → ℕ → (line : List ℕ) → (text : List ℕ) → Type 0
 BreaksOff fault.Output s n line text =
     (after : Next) × (lines : List AnswerLine) × TakesLine s n line after lines
-    × IsFront text (answer_lines lines)
+    × IsPrefix text (answer_lines lines)
 BreaksOff fault.Memory s n line text = text ≡ []
 BreaksOff fault.InputTooLong s n line text = text ≡ []
 BreaksOff _ s n line text = ⊥
@@ -173,7 +173,7 @@ Answers Makes (Ok after) w0 w1 =
     (lines : List AnswerLine) × Makes after lines × Appends w0 w1 (answer_lines lines)
 Answers Makes (Err fault.Output) w0 w1 =
     (after : Next) × (lines : List AnswerLine) × Makes after lines
-    × (text : List ℕ) × IsFront text (answer_lines lines) × Appends w0 w1 text
+    × (text : List ℕ) × IsPrefix text (answer_lines lines) × Appends w0 w1 text
 Answers Makes (Err fault.Memory) w0 w1 = w1 ≡ w0
 Answers Makes (Err _) w0 w1 = ⊥
 

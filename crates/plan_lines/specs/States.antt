@@ -36,9 +36,9 @@ pub record HasTime (moment : ℕ) (s t : PlanState) : Type 0 where
   pub question : t.asked ≡ s.asked
 
 -- A line was noted among the facts, and nothing else has changed.
-pub record HasFact (said : PlanLine) (s t : PlanState) : Type 0 where
+pub record HasFact (given : PlanLine) (s t : PlanState) : Type 0 where
   pub plan : t.plan ≡ s.plan
-  pub facts : Notes true said s.facts t.facts
+  pub facts : Notes true given s.facts t.facts
   pub time : t.time ≡ s.time
   pub question : t.asked ≡ s.asked
 

@@ -1,7 +1,7 @@
 -- What is written of an answer.
 use Rattle.std.specs.Prelude.{◌≡◌, ◌++◌, List, ℕ, Option}
 use Rattle.std.specs.Io.KnownBytes.{Appends}
-use Rattle.console_lines.specs.Progress.{IsFront}
+use Rattle.console_lines.specs.Progress.{IsPrefix}
 
 -- A text was written, but for its last bytes, which are buffered.
 pub record IsWritten (w0 w1 : Option (List ℕ)) (text buffer : List ℕ) : Type 0 where
@@ -10,5 +10,5 @@ pub record IsWritten (w0 w1 : Option (List ℕ)) (text buffer : List ℕ) : Type
   pub parts : text ≡ out ++ buffer
 
 -- A prefix of a text was written, perhaps all of it.
-abbrev pub WritesFront : Option (List ℕ) → Option (List ℕ) → List ℕ → Type 0
-WritesFront w0 w1 text = (front : List ℕ) × IsFront front text × Appends w0 w1 front
+abbrev pub WritesPrefix : Option (List ℕ) → Option (List ℕ) → List ℕ → Type 0
+WritesPrefix w0 w1 text = (prefix : List ℕ) × IsPrefix prefix text × Appends w0 w1 prefix

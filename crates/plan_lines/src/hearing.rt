@@ -94,12 +94,12 @@ impl Round {
 }
 
 /// The growth with one more need or take.
-fn with_line(growth: Growth, said: PlanLine) -> Result<Growth, AllocError>
-    ensures command { IfOk result (λ new. Extends said growth.command new.command) }
+fn with_line(growth: Growth, given: PlanLine) -> Result<Growth, AllocError>
+    ensures command { IfOk result (λ new. Extends given growth.command new.command) }
     ensures line { IfOk result (λ new. new.line ≡ growth.line) }
 {
     let Growth { command, line } = growth;
-    let command = extended(command, said)?;
+    let command = extended(command, given)?;
     Ok(Growth { command, line })
 }
 

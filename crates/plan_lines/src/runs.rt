@@ -6,7 +6,7 @@ ghost use Rattle.plan_lines.specs.Answers.{answer_lines};
 ghost use Rattle.plan_lines.specs.Runs.{Answers, AnswersRound, BeginsRounds, EndsPart, EndsPlan};
 ghost use Rattle.plan_lines.specs.Runs.{EndsRound, Gives, Refuses, Rejects, RunsPlan, Takes};
 ghost use Rattle.plan_lines.specs.Runs.{TakesLine};
-ghost use Rattle.plan_lines.specs.Writing.{WritesFront};
+ghost use Rattle.plan_lines.specs.Writing.{WritesPrefix};
 
 use crate::answers::AnswerLine;
 use crate::drafts::Draft;
@@ -251,7 +251,7 @@ fn answered<W: Write>(next: Next, lines: &[AnswerLine], output: &mut W) -> Resul
 fn write_answer<W: Write>(lines: &[AnswerLine], output: &mut W) -> Result<(), RunFault>
     ensures whole { OnOk result (Appends (W.contents output.old) (W.contents output.new)
         (answer_lines lines.now)) }
-    ensures front { OnErr result (WritesFront (W.contents output.old) (W.contents output.new)
+    ensures prefix { OnErr result (WritesPrefix (W.contents output.old) (W.contents output.new)
         (answer_lines lines.now)) }
     ensures fault { IfErr result (λ fault. fault ≡ RunFault.Output) }
 {

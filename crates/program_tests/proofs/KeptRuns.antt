@@ -39,14 +39,14 @@ module _ {D : Type 0} (state : D → DiskState) (passes : D → ℕ) (disks : (d
       (read, alone, kept name given given read next it alone.passed.later)
 
   pub scripts : ScriptsAreRuns state (shelf_view state passes)
-  scripts name given left next steps told it over played = inr (record {
+  scripts name given left next steps reported it over played = inr (record {
     left = left;
     over = over;
     history = refl;
     first = steps;
     middle = over.after;
     second = [];
-    untold = [];
+    unreported = [];
     played = played;
     goes_on = refl;
     finds = kept name over.after.journal.disk given left next it

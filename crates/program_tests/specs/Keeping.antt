@@ -37,8 +37,8 @@ ReadingsAreRuns {D = D} state seen =
 -- So it is where lines were run over the store in it, up to their end.
 abbrev pub ScriptsAreRuns : {F D : Type 0} → (D → DiskState) → FilesView F D → Type 0
 ScriptsAreRuns {D = D} state seen =
-    (name : List ℕ) (given left next : D) (steps : List Step) (told : List Reply)
+    (name : List ℕ) (given left next : D) (steps : List Step) (reported : List Reply)
     → IsOpenedAgain seen name given left next
     → (over : RunsOver state (RunsLines state) given left)
-    → StepsOn state over.before steps told over.after
-    → RunLeaves state given (Scripting over.after.session.history told) next
+    → StepsOn state over.before steps reported over.after
+    → RunLeaves state given (Scripting over.after.session.history reported) next

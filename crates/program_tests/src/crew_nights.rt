@@ -114,7 +114,7 @@ static ROWS: [Row; 8] = [
 ];
 
 /// Says whether a night is audited, settled and counted as its row says.
-fn is_as_told<D: RunDisk>(night: &NightEnd<D>, row: &Row) -> bool {
+fn is_as_reported<D: RunDisk>(night: &NightEnd<D>, row: &Row) -> bool {
     night.audited == row.audited
         && night.last == Ok(row.acked)
         && night.settled == row.settled
@@ -125,7 +125,7 @@ fn is_as_told<D: RunDisk>(night: &NightEnd<D>, row: &Row) -> bool {
 fn assert_night<R: Threads + Wait + Sync + Abort>(rt: &R, alloc: Global, n: usize, row: &Row) {
     let book = opened(rt, alloc, stored(rt, alloc, row.limit, row.tasks));
     let night = plain_night(rt, alloc, book, row.workers, &Fixed(row.open));
-    holds_at(rt, is_as_told(&night, row), "row", n as u64);
+    holds_at(rt, is_as_reported(&night, row), "row", n as u64);
     assert_tasks(rt, night.book.state(), row.ends);
     drop(night);
 }

@@ -66,14 +66,14 @@ fn night_in<
     requires finishes { (finishes.name ≡ F.name) × (finishes.parts ≡ F.parts)
         × (vec_len jobs < F.parts) }
 {
-    let (desk, mut seat) = Desk::<D, S, F>::new(book, starts, finishes);
+    let (desk, mut own) = Desk::<D, S, F>::new(book, starts, finishes);
     let shared = Mutex::new(desk);
-    let Ok((lists, last)) = run_night(rt, alloc, &shared, &mut seat, jobs, gate) else {
+    let Ok((lists, last)) = run_night(rt, alloc, &shared, &mut own, jobs, gate) else {
         panic!(rt; "no night");
     };
     let mut desk = shared.into_inner();
     let audited = audit(&desk, lists.as_slice());
-    let settled = desk.settle(&mut seat);
+    let settled = desk.settle(&mut own);
     NightEnd {
         book: desk.into_book(),
         lists,

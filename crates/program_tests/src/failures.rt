@@ -47,7 +47,7 @@ fn is_whole(night: &NightEnd<FailOnce<MemoryDisk>>) -> bool {
 }
 
 /// Says whether a night is told that its disk failed, or its audit is Ok.
-fn is_told(night: &NightEnd<FailOnce<MemoryDisk>>) -> bool {
+fn is_reported(night: &NightEnd<FailOnce<MemoryDisk>>) -> bool {
     let fails = night.last.is_err();
     fails == night.book.is_broken() && (fails || night.audited.is_ok())
 }
@@ -89,7 +89,7 @@ fn assert_stored(
 /// acknowledged is in what the disk stores.
 fn assert_kept(rt: &impl Abort, alloc: Global, call: u64, night: NightEnd<FailOnce<MemoryDisk>>) {
     holds_at(rt, is_whole(&night), "an audit that is Ok at call", call);
-    holds_at(rt, is_told(&night), "what is told at call", call);
+    holds_at(rt, is_reported(&night), "what is told at call", call);
     let NightEnd { book, lists, .. } = night;
     assert_stored(rt, alloc, book, lists.as_slice(), call);
 }

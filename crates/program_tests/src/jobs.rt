@@ -7,31 +7,31 @@ use std::process::Abort;
 use std::test::Fail;
 
 /// A job and its argument; a turn, and whether its scope is done; and what the turn answers.
-type Row = (&'static str, &'static str, u32, bool, Told);
+type Row = (&'static str, &'static str, u32, bool, Reported);
 
 /// What a turn answers.
-enum Told {
+enum Reported {
     More,
     Finished,
     Failed(&'static str),
 }
 
 static TURNS: [Row; 15] = [
-    ("spin", "3", 0, false, Told::More),
-    ("spin", "3", 2, false, Told::More),
-    ("spin", "3", 3, false, Told::Finished),
-    ("spin", "0", 0, false, Told::Finished),
-    ("spin", "9999", 999, false, Told::More),
-    ("spin", "0010", 9, false, Told::More),
-    ("spin", "0010", 10, false, Told::Finished),
-    ("spin", "3", 1, true, Told::Failed("canceled")),
-    ("spin", "x", 0, true, Told::Failed("canceled")),
-    ("spin", "x", 0, false, Told::Failed("bad argument")),
-    ("spin", "1x", 0, false, Told::Failed("bad argument")),
-    ("spin", "10000", 0, false, Told::Failed("bad argument")),
-    ("fail", "no-room", 0, false, Told::Failed("no-room")),
-    ("fail", "x", 0, true, Told::Failed("x")),
-    ("copy", "a", 0, true, Told::Finished),
+    ("spin", "3", 0, false, Reported::More),
+    ("spin", "3", 2, false, Reported::More),
+    ("spin", "3", 3, false, Reported::Finished),
+    ("spin", "0", 0, false, Reported::Finished),
+    ("spin", "9999", 999, false, Reported::More),
+    ("spin", "0010", 9, false, Reported::More),
+    ("spin", "0010", 10, false, Reported::Finished),
+    ("spin", "3", 1, true, Reported::Failed("canceled")),
+    ("spin", "x", 0, true, Reported::Failed("canceled")),
+    ("spin", "x", 0, false, Reported::Failed("bad argument")),
+    ("spin", "1x", 0, false, Reported::Failed("bad argument")),
+    ("spin", "10000", 0, false, Reported::Failed("bad argument")),
+    ("fail", "no-room", 0, false, Reported::Failed("no-room")),
+    ("fail", "x", 0, true, Reported::Failed("x")),
+    ("copy", "a", 0, true, Reported::Finished),
 ];
 
 fn name(rt: &impl Abort, text: &str) -> Name {
@@ -58,11 +58,11 @@ fn turn_of(rt: &impl Abort, row: &Row) -> Option<Turn> {
     }
 }
 
-fn is_told(turn: &Option<Turn>, told: &Told) -> bool {
-    match (turn, told) {
-        (Some(Turn::More), Told::More) => true,
-        (Some(Turn::Finished), Told::Finished) => true,
-        (Some(Turn::Failed(error)), Told::Failed(text)) => error.as_bytes() == text.as_bytes(),
+fn is_reported(turn: &Option<Turn>, reported: &Reported) -> bool {
+    match (turn, reported) {
+        (Some(Turn::More), Reported::More) => true,
+        (Some(Turn::Finished), Reported::Finished) => true,
+        (Some(Turn::Failed(error)), Reported::Failed(text)) => error.as_bytes() == text.as_bytes(),
         _ => false,
     }
 }
@@ -71,7 +71,7 @@ fn is_told(turn: &Option<Turn>, told: &Told) -> bool {
 fn each_job_makes_its_turns(rt: HostRuntime) -> Result<(), Fail> {
     for (n, row) in TURNS.iter().enumerate() {
         let turn = turn_of(&rt, row);
-        assert!(&rt; is_told(&turn, &row.4), "row {n}: {turn:?}");
+        assert!(&rt; is_reported(&turn, &row.4), "row {n}: {turn:?}");
     }
     Ok(())
 }

@@ -74,7 +74,7 @@ fn durable_starts<
         × (vec_len jobs < F.parts) }
 {
     let first = book.durable().saturating_add(1);
-    let (desk, mut seat) = Desk::<D, S, F>::new(book, starts, finishes);
+    let (desk, mut own) = Desk::<D, S, F>::new(book, starts, finishes);
     let shared = Mutex::new(desk);
     let gate = Durable {
         rt,
@@ -82,7 +82,7 @@ fn durable_starts<
         first,
         found: AtomicU32::new(0),
     };
-    let ran = run_night(rt, alloc, &shared, &mut seat, jobs, &gate).is_ok();
+    let ran = run_night(rt, alloc, &shared, &mut own, jobs, &gate).is_ok();
     holds_at(rt, ran, "night", 1);
     gate.found.load(Ordering::SeqCst)
 }
@@ -169,7 +169,7 @@ fn flushed_night<
 {
     // After two starts.
     let finish = book.durable().saturating_add(3);
-    let (desk, mut seat) = Desk::<D, S, F>::new(book, starts, finishes);
+    let (desk, mut own) = Desk::<D, S, F>::new(book, starts, finishes);
     let shared = Mutex::new(desk);
     let gate = Flushed {
         rt,
@@ -178,7 +178,7 @@ fn flushed_night<
         begun: AtomicBool::new(false),
         seen: AtomicBool::new(false),
     };
-    let ran = run_night(rt, alloc, &shared, &mut seat, jobs, &gate).is_ok();
+    let ran = run_night(rt, alloc, &shared, &mut own, jobs, &gate).is_ok();
     holds_at(rt, ran, "night", 1);
     gate.seen.load(Ordering::SeqCst)
 }
@@ -214,13 +214,13 @@ impl<D: RunDisk, S: Ledger, F: Ledger> Shows for Desk<D, S, F> {
 /// for the lock 10,000 times at most, a millisecond apart: told under the lock it would never get
 /// it.
 #[derive(Drop)]
-struct Told<'a, T: Shows, R: Wait + Clock> {
+struct Reported<'a, T: Shows, R: Wait + Clock> {
     rt: &'a R,
     shared: &'a Mutex<T>,
     found: AtomicU32,
 }
 
-impl<'a, T: Shows, R: Wait + Clock> Gate for Told<'a, T, R> {
+impl<'a, T: Shows, R: Wait + Clock> Gate for Reported<'a, T, R> {
     fn before(&self, _task: u16, _turn: u32) -> bool {
         true
     }
@@ -239,7 +239,7 @@ impl<'a, T: Shows, R: Wait + Clock> Gate for Told<'a, T, R> {
 }
 
 /// How many tasks of a night of one worker have ended when the gate is told of them.
-fn ended_when_told<
+fn ended_when_reported<
     D: RunDisk + Drop + Send,
     S: Ledger + Send + Sync,
     F: Ledger + Send + Sync,
@@ -257,24 +257,24 @@ fn ended_when_told<
     requires finishes { (finishes.name ≡ F.name) × (finishes.parts ≡ F.parts)
         × (vec_len jobs < F.parts) }
 {
-    let (desk, mut seat) = Desk::<D, S, F>::new(book, starts, finishes);
+    let (desk, mut own) = Desk::<D, S, F>::new(book, starts, finishes);
     let shared = Mutex::new(desk);
-    let gate = Told {
+    let gate = Reported {
         rt,
         shared: &shared,
         found: AtomicU32::new(0),
     };
-    let ran = run_night(rt, alloc, &shared, &mut seat, jobs, &gate).is_ok();
+    let ran = run_night(rt, alloc, &shared, &mut own, jobs, &gate).is_ok();
     holds_at(rt, ran, "night", 1);
     gate.found.load(Ordering::SeqCst)
 }
 
 #[test]
-fn a_gate_is_told_after_the_lock(rt: HostRuntime) {
+fn a_gate_is_reported_after_the_lock(rt: HostRuntime) {
     let tasks: [Task; 2] = [(b"copy", b"a"); 2];
     let jobs = plain_jobs(&rt, rt.alloc(), 1);
     let parts = jobs.len() as u64 + 1;
-    let found = ended_when_told::<MemoryDisk, Brand, Brand, HostRuntime>(
+    let found = ended_when_reported::<MemoryDisk, Brand, Brand, HostRuntime>(
         &rt,
         rt.alloc(),
         book_of(&rt, rt.alloc(), &tasks),

@@ -3,7 +3,7 @@
 ghost use Rattle.std.specs.Prelude.{⊤};
 
 use crate::asserts::{done, holds};
-use crate::shelves::{Shelf, said};
+use crate::shelves::{Shelf, as_printed};
 use night_program::{CopyJob, Ended, FailJob, SpinJob, Streams, night};
 use night_words::WordsFault;
 use run_crew::Job;
@@ -89,7 +89,7 @@ impl FirstError for System {
     ghost notes = { λ system error. ⊤ };
 
     fn first_error(&self) -> Option<FileError> {
-        Some(said(self.0))
+        Some(as_printed(self.0))
     }
 }
 

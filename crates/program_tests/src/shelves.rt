@@ -61,7 +61,7 @@ impl Kept {
         match self {
             Kept::File(disk) => bytes_of(alloc, disk),
             Kept::Open => Err(FileError::InUse),
-            Kept::Gone => Err(said(NO_FILE)),
+            Kept::Gone => Err(as_printed(NO_FILE)),
         }
     }
 
@@ -135,7 +135,7 @@ impl Shelf {
     {
         match self.kept_at(name) {
             Some(kept) => Ok(kept.bytes(self.alloc)?),
-            None => Err(said(NO_FILE)),
+            None => Err(as_printed(NO_FILE)),
         }
     }
 
@@ -167,7 +167,7 @@ impl Shelf {
                     passes: self.passes,
                 },
             }),
-            Err(_) => Err(said("no memory")),
+            Err(_) => Err(as_printed("no memory")),
         }
     }
 
@@ -202,7 +202,7 @@ impl Shelf {
             return Ok(());
         }
         if self.second.kept.is_there() {
-            return Err(said("no place"));
+            return Err(as_printed("no place"));
         }
         let Ok(name) = String::from_str(self.alloc, name) else {
             return Err(FileError::NoMemory);
@@ -250,7 +250,7 @@ fn bytes_of(alloc: Global, disk: &MemoryDisk) -> Result<Vec<u8>, FileError>
 {
     match disk.image(alloc, disk.calls(), Torn::Take) {
         Ok(bytes) => Ok(bytes),
-        Err(_) => Err(said("no memory")),
+        Err(_) => Err(as_printed("no memory")),
     }
 }
 
@@ -262,7 +262,7 @@ fn copied(alloc: Global, disk: &MemoryDisk) -> Result<MemoryDisk, FileError>
 {
     match MemoryDisk::from_bytes(alloc, bytes_of(alloc, disk)?) {
         Ok(copy) => Ok(copy),
-        Err(_) => Err(said("no memory")),
+        Err(_) => Err(as_printed("no memory")),
     }
 }
 
@@ -273,7 +273,7 @@ fn zeros(alloc: Global, size: u64) -> Result<MemoryDisk, FileError>
 {
     match MemoryDisk::new(alloc, size as usize) {
         Ok(disk) => Ok(disk),
-        Err(_) => Err(said("no memory")),
+        Err(_) => Err(as_printed("no memory")),
     }
 }
 
@@ -334,7 +334,7 @@ impl Files for Shelf {
         size: u64,
     ) -> Result<Made<Fuse<MemoryDisk>, Broken>, FileError> {
         if self.has(name) {
-            return Err(said("there is one"));
+            return Err(as_printed("there is one"));
         }
         self.make(name, size, true)
     }
@@ -375,7 +375,7 @@ impl FirstError for Broken {
 
     fn first_error(&self) -> Option<FileError> {
         if self.passes < u64::MAX {
-            Some(said("broken"))
+            Some(as_printed("broken"))
         } else {
             None
         }
@@ -383,10 +383,10 @@ impl FirstError for Broken {
 }
 
 /// What a system says.
-pub fn said(text: &str) -> FileError
+pub fn as_printed(text: &str) -> FileError
     ensures { result ≢ FileError.InUse }
 {
-    let mut said = ArrayString::new();
-    let _fits = said.try_push_str(text);
-    FileError::System(said)
+    let mut as_printed = ArrayString::new();
+    let _fits = as_printed.try_push_str(text);
+    FileError::System(as_printed)
 }

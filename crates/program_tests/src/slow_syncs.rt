@@ -158,7 +158,7 @@ fn slow_night<
 {
     // After three starts and the first finish.
     let finish = book.durable().saturating_add(5);
-    let (desk, mut seat) = Desk::<D, S, F>::new(book, starts, finishes);
+    let (desk, mut own) = Desk::<D, S, F>::new(book, starts, finishes);
     let shared = Mutex::new(desk);
     let gate = Both {
         rt,
@@ -167,7 +167,7 @@ fn slow_night<
         begun: AtomicBool::new(false),
         seen: AtomicBool::new(false),
     };
-    let ran = run_night(rt, alloc, &shared, &mut seat, jobs, &gate).is_ok();
+    let ran = run_night(rt, alloc, &shared, &mut own, jobs, &gate).is_ok();
     holds_at(rt, ran, "night", 1);
     gate.seen.load(Ordering::SeqCst)
 }
@@ -199,8 +199,8 @@ fn marks_of(rt: &impl Abort, alloc: Global) -> Arc<Marks> {
 }
 
 // The turn of task 1 is over before the sync is, so its worker waits for the lock to finish it, and
-// rings just after the flush that the first ring was for. Nobody else flushes before task 2 goes
-// on.
+// wakes the flusher just after the flush that the first call was for. Nobody else flushes before
+// task 2 goes on.
 #[test]
 fn a_finish_after_a_slow_sync_becomes_durable(rt: HostRuntime) {
     let marks = marks_of(&rt, rt.alloc());

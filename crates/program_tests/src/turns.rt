@@ -221,7 +221,7 @@ impl<C: Clock + Drop> Gate for Cancels<C> {
 }
 
 #[test]
-fn a_turn_is_told_that_another_task_failed(rt: HostRuntime) {
+fn a_turn_is_reported_that_another_task_failed(rt: HostRuntime) {
     let gate = Cancels {
         clock: rt,
         begun: AtomicBool::new(false),
@@ -237,7 +237,7 @@ fn a_turn_is_told_that_another_task_failed(rt: HostRuntime) {
 /// Adds up, over the tasks that are told that their scope is done, 1 for task 0 and 2 for task 1.
 #[derive(Drop)]
 struct Hears {
-    told: Arc<AtomicU32>,
+    reported: Arc<AtomicU32>,
 }
 
 impl Job for Hears {
@@ -247,7 +247,7 @@ impl Job for Hears {
 
     fn turn(&mut self, info: &TaskInfo, _turn: u32, done: bool) -> Turn {
         if done {
-            self.told
+            self.reported
                 .fetch_add(u32::from(info.task) + 1, Ordering::SeqCst);
         }
         Turn::Finished
@@ -255,9 +255,13 @@ impl Job for Hears {
 }
 
 /// The job of one worker that hears of scopes that are done.
-fn hearing(rt: &impl Abort, alloc: Global, told: &Arc<AtomicU32>) -> Vec<Vec<Box<dyn Job + Send>>> {
+fn hearing(
+    rt: &impl Abort,
+    alloc: Global,
+    reported: &Arc<AtomicU32>,
+) -> Vec<Vec<Box<dyn Job + Send>>> {
     let job = Hears {
-        told: done(rt, Arc::try_clone(told), "count"),
+        reported: done(rt, Arc::try_clone(reported), "count"),
     };
     let job = done(rt, Box::new(alloc, job), "memory");
     let mut list: Vec<Box<dyn Job + Send>> = Vec::new(alloc);
@@ -268,13 +272,13 @@ fn hearing(rt: &impl Abort, alloc: Global, told: &Arc<AtomicU32>) -> Vec<Vec<Box
 }
 
 #[test]
-fn a_turn_is_told_of_its_own_scope(rt: HostRuntime) {
-    let told = done(&rt, Arc::new(rt.alloc(), AtomicU32::new(0)), "memory");
-    let jobs = hearing(&rt, rt.alloc(), &told);
+fn a_turn_is_reported_of_its_own_scope(rt: HostRuntime) {
+    let reported = done(&rt, Arc::new(rt.alloc(), AtomicU32::new(0)), "memory");
+    let jobs = hearing(&rt, rt.alloc(), &reported);
     let book = opened(&rt, rt.alloc(), with_a_cancelled_group(&rt, rt.alloc()));
     let night = night(&rt, rt.alloc(), book, jobs, &Fixed(true));
     assert_tasks(&rt, night.book.state(), &[Going::Success, Going::Success]);
     drop(night);
-    let told = told.load(Ordering::SeqCst);
-    holds_at(&rt, told == 2, "told", u64::from(told));
+    let reported = reported.load(Ordering::SeqCst);
+    holds_at(&rt, reported == 2, "told", u64::from(reported));
 }

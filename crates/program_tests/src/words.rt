@@ -155,7 +155,7 @@ fn each_word_has_its_status_and_its_text(rt: HostRuntime) {
 }
 
 #[test]
-fn words_that_the_system_did_not_give_are_told(rt: HostRuntime) {
+fn words_that_the_system_did_not_give_are_reported(rt: HostRuntime) {
     let cases = [
         (
             WordsFault::NotText,
@@ -216,14 +216,14 @@ fn assert_untaken<R: Threads + Wait + Sync + Abort>(
 }
 
 #[test]
-fn an_output_that_takes_nothing_is_told(rt: HostRuntime) {
+fn an_output_that_takes_nothing_is_reported(rt: HostRuntime) {
     for (row, printing) in PRINTING.iter().enumerate() {
         assert_untaken(&rt, rt.alloc(), row, printing);
     }
 }
 
 #[test]
-fn an_input_that_fails_is_told(rt: HostRuntime) {
+fn an_input_that_fails_is_reported(rt: HostRuntime) {
     let mut output = Vec::new(rt.alloc());
     let mut errors = Vec::new(rt.alloc());
     let ended = run_over(
@@ -243,22 +243,22 @@ fn an_input_that_fails_is_told(rt: HostRuntime) {
 }
 
 /// Words that something is told of, and the status.
-type Telling = (&'static [&'static str], u8);
+type Reporting = (&'static [&'static str], u8);
 
-static TOLD: [Telling; 3] = [(&["crew"], 2), (&["script", "none"], 3), (&[], 2)];
+static TOLD: [Reporting; 3] = [(&["crew"], 2), (&["script", "none"], 3), (&[], 2)];
 
 /// Asserts how a run ends that can tell nothing.
-fn assert_untold<R: Threads + Wait + Sync + Abort>(
+fn assert_unreported<R: Threads + Wait + Sync + Abort>(
     rt: &R,
     alloc: Global,
     row: usize,
-    telling: &Telling,
+    reporting: &Reporting,
 ) {
     let mut output = Vec::new(alloc);
     let ended = run_over(
         rt,
         alloc,
-        Ok(words_of(rt, alloc, telling.0)),
+        Ok(words_of(rt, alloc, reporting.0)),
         no_times(),
         &mut empty_file(rt, alloc),
         &mut b"".as_slice(),
@@ -267,15 +267,15 @@ fn assert_untold<R: Threads + Wait + Sync + Abort>(
     );
     holds(
         rt,
-        ended.status == telling.1 && !ended.printed,
+        ended.status == reporting.1 && !ended.printed,
         "words",
         row,
     );
 }
 
 #[test]
-fn what_could_not_be_told_is_said(rt: HostRuntime) {
-    for (row, telling) in TOLD.iter().enumerate() {
-        assert_untold(&rt, rt.alloc(), row, telling);
+fn what_could_not_be_reported_is_printed(rt: HostRuntime) {
+    for (row, reporting) in TOLD.iter().enumerate() {
+        assert_unreported(&rt, rt.alloc(), row, reporting);
     }
 }

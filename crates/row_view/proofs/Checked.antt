@@ -18,69 +18,69 @@ module _
     (row : Codec read write kept) (test : List X → X → Bool) where
   -- Each of these rows passes after those in front and before it.
   abbrev pub ArePassed : List X → List X → Type 0
-  ArePassed front more =
-      (k : ℕ) (x : X) → slice_get more k ≡ Some x → test (front ++ take k more) x ≡ true
+  ArePassed prefix more =
+      (k : ℕ) (x : X) → slice_get more k ≡ Some x → test (prefix ++ take k more) x ≡ true
 
-  pub record AreMore (n : ℕ) (front : List X) (bytes : List ℕ) (x : List X × List ℕ) : Type 0 where
+  pub record AreMore (n : ℕ) (prefix : List X) (bytes : List ℕ) (x : List X × List ℕ) : Type 0 where
     pub more : List X
-    pub all : x.0 ≡ front ++ more
+    pub all : x.0 ≡ prefix ++ more
     pub many : length more ≡ n
-    pub passed : ArePassed front more
+    pub passed : ArePassed prefix more
     pub kept_all : AllByRecursion (λ y. IsTrue (kept y)) more
     pub spelled : bytes ≡ flat_map write more ++ x.1
 
-  passed_first : (front : List X) (x : X) (more : List X) → test front x ≡ true
-      → ArePassed (front ++ x ∷ []) more → ArePassed front (x ∷ more)
-  passed_first front x more ok others zero y found =
-      ap (λ f. test f y) (append-nil front) ∙ ap (test front) (sym (same_Some x y found)) ∙ ok
-  passed_first front x more ok others (suc k) y found =
-      ap (λ f. test f y) (sym (append_assoc front (x ∷ []) (take k more))) ∙ others k y found
+  passed_first : (prefix : List X) (x : X) (more : List X) → test prefix x ≡ true
+      → ArePassed (prefix ++ x ∷ []) more → ArePassed prefix (x ∷ more)
+  passed_first prefix x more ok others zero y found =
+      ap (λ f. test f y) (append-nil prefix) ∙ ap (test prefix) (sym (same_Some x y found)) ∙ ok
+  passed_first prefix x more ok others (suc k) y found =
+      ap (λ f. test f y) (sym (append_assoc prefix (x ∷ []) (take k more))) ∙ others k y found
 
-  passed_after : (front : List X) (x : X) (more : List X) → ArePassed front (x ∷ more)
-      → ArePassed (front ++ x ∷ []) more
-  passed_after front x more all k y found =
-      ap (λ f. test f y) (append_assoc front (x ∷ []) (take k more)) ∙ all (suc k) y found
+  passed_after : (prefix : List X) (x : X) (more : List X) → ArePassed prefix (x ∷ more)
+      → ArePassed (prefix ++ x ∷ []) more
+  passed_after prefix x more all k y found =
+      ap (λ f. test f y) (append_assoc prefix (x ∷ []) (take k more)) ∙ all (suc k) y found
 
-  pub more_take : (n : ℕ) (front : List X) (bytes : List ℕ) (x : List X × List ℕ)
-      → more_at read test n front bytes ≡ Some x → AreMore n front bytes x
-  more_take zero front bytes x e =
-      let P : List X × List ℕ → Type 0 = λ y. AreMore zero front bytes y in
-      subst P (same_Some (front, bytes) x e) (record {
+  pub more_take : (n : ℕ) (prefix : List X) (bytes : List ℕ) (x : List X × List ℕ)
+      → more_at read test n prefix bytes ≡ Some x → AreMore n prefix bytes x
+  more_take zero prefix bytes x e =
+      let P : List X × List ℕ → Type 0 = λ y. AreMore zero prefix bytes y in
+      subst P (same_Some (prefix, bytes) x e) (record {
         more = [];
-        all = sym (append-nil front);
+        all = sym (append-nil prefix);
         many = refl;
         passed = λ k y found. absurd (none-some y found);
         kept_all = tt;
         spelled = refl;
       })
-  more_take (suc n) front bytes x e =
+  more_take (suc n) prefix bytes x e =
       let next = λ (y : X × List ℕ).
-      cond (test front y.0) (more_at read test n (front ++ y.0 ∷ []) y.1) None in
+      cond (test prefix y.0) (more_at read test n (prefix ++ y.0 ∷ []) y.1) None in
       let first = through (read bytes) next x e in
-      let ok = cond_some_by (test front first.0.0)
-      (more_at read test n (front ++ first.0.0 ∷ []) first.0.1) x first.2 in
+      let ok = cond_some_by (test prefix first.0.0)
+      (more_at read test n (prefix ++ first.0.0 ∷ []) first.0.1) x first.2 in
       let taken = row.takes bytes first.0 first.1 in
-      let others = more_take n (front ++ first.0.0 ∷ []) first.0.1 x ok.1 in
+      let others = more_take n (prefix ++ first.0.0 ∷ []) first.0.1 x ok.1 in
       record {
         more = first.0.0 ∷ others.more;
-        all = others.all ∙ append_assoc front (first.0.0 ∷ []) others.more;
+        all = others.all ∙ append_assoc prefix (first.0.0 ∷ []) others.more;
         many = ap suc others.many;
-        passed = passed_first front first.0.0 others.more ok.0 others.passed;
+        passed = passed_first prefix first.0.0 others.more ok.0 others.passed;
         kept_all = (taken.tested, others.kept_all);
         spelled =
             taken.spelled ∙ ap (λ l. write first.0.0 ++ l) others.spelled
             ∙ sym (append_assoc (write first.0.0) (flat_map write others.more) x.1);
       }
 
-  pub more_again : (front more : List X) (rest : List ℕ) → ArePassed front more
+  pub more_again : (prefix more : List X) (rest : List ℕ) → ArePassed prefix more
       → AllByRecursion (λ y. IsTrue (kept y)) more
-      → more_at read test (length more) front (flat_map write more ++ rest)
-      ≡ Some (front ++ more, rest)
-  more_again front [] rest passed ok = ap (λ f. Some (f, rest)) (sym (append-nil front))
-  more_again front (x ∷ more) rest passed ok =
-      let here : test front x ≡ true =
-      ap (λ f. test f x) (sym (append-nil front)) ∙ passed 0 x refl in
-      let others = more_again (front ++ x ∷ []) more rest (passed_after front x more passed) ok.1
+      → more_at read test (length more) prefix (flat_map write more ++ rest)
+      ≡ Some (prefix ++ more, rest)
+  more_again prefix [] rest passed ok = ap (λ f. Some (f, rest)) (sym (append-nil prefix))
+  more_again prefix (x ∷ more) rest passed ok =
+      let here : test prefix x ≡ true =
+      ap (λ f. test f x) (sym (append-nil prefix)) ∙ passed 0 x refl in
+      let others = more_again (prefix ++ x ∷ []) more rest (passed_after prefix x more passed) ok.1
       in
       rw (
         append_assoc (write x) (flat_map write more) rest,
@@ -88,7 +88,7 @@ module _
         here,
         others,
       )
-      (ap (λ f. Some (f, rest)) (append_assoc front (x ∷ []) more))
+      (ap (λ f. Some (f, rest)) (append_assoc prefix (x ∷ []) more))
 
 -- ---- tests with numbers
 

@@ -25,10 +25,10 @@ pub number_spelled :
     (bytes ≡ to_be_bytes w x.0 ++ x.1) × (x.0 ≡ from_be_bytes w (to_be_bytes w x.0))
 unfolding number_at
 number_spelled w bytes x e =
-    let front = take (byte_len w) bytes in
-    let n = from_be_bytes w front in
-    let read = cond_some (bytes_eq (to_be_bytes w n) front) (n, drop (byte_len w) bytes) x e in
-    let same : to_be_bytes w n ≡ front = (bytes_eq-Decides (to_be_bytes w n) front).0 read.0 in
+    let prefix = take (byte_len w) bytes in
+    let n = from_be_bytes w prefix in
+    let read = cond_some (bytes_eq (to_be_bytes w n) prefix) (n, drop (byte_len w) bytes) x e in
+    let same : to_be_bytes w n ≡ prefix = (bytes_eq-Decides (to_be_bytes w n) prefix).0 read.0 in
     let P : ℕ × List ℕ → Type 0 =
     λ y. (bytes ≡ to_be_bytes w y.0 ++ y.1) × (y.0 ≡ from_be_bytes w (to_be_bytes w y.0)) in
     subst P read.1 (
@@ -38,11 +38,11 @@ number_spelled w bytes x e =
 
 -- Two lists that were joined come apart where the first one ends.
 pub seam :
-    (front rest : List ℕ) (k : ℕ) → length front ≡ k →
-    (front ≡ take k (front ++ rest)) × (drop k (front ++ rest) ≡ rest)
-seam front rest k size = (
-  sym (ap (λ n. take n (front ++ rest)) (sym size) ∙ take-append_seam front rest),
-  ap (λ n. drop n (front ++ rest)) (sym size) ∙ drop-append_seam front rest,
+    (prefix rest : List ℕ) (k : ℕ) → length prefix ≡ k →
+    (prefix ≡ take k (prefix ++ rest)) × (drop k (prefix ++ rest) ≡ rest)
+seam prefix rest k size = (
+  sym (ap (λ n. take n (prefix ++ rest)) (sym size) ∙ take-append_seam prefix rest),
+  ap (λ n. drop n (prefix ++ rest)) (sym size) ∙ drop-append_seam prefix rest,
 )
 
 -- A number that comes back from its bytes is read again, whatever follows.

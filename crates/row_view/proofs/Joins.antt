@@ -16,19 +16,19 @@ pub put_then :
     put_at (put_at old at x) m y ≡ put_at old at (x ++ y)
 unfolding put_at
 put_then old at m x y e room =
-    let front = take at old ++ x in
+    let prefix = take at old ++ x in
     let behind = drop (at + length x) old in
-    let size : length front ≡ m =
+    let size : length prefix ≡ m =
     length-append (take at old) x
     ∙ ap (λ n. n + length x) (length-take-le at old (omega arith)) ∙ sym e in
-    let parts = seam front behind m size in
-    let rest : drop (m + length y) (front ++ behind) ≡ drop (at + length (x ++ y)) old =
-    sym (drop-drop (length y) m (front ++ behind))
+    let parts = seam prefix behind m size in
+    let rest : drop (m + length y) (prefix ++ behind) ≡ drop (at + length (x ++ y)) old =
+    sym (drop-drop (length y) m (prefix ++ behind))
     ∙ ap (λ l. drop (length y) l) parts.1
     ∙ drop-drop (length y) (at + length x) old
     ∙ ap (λ n. drop n old) (omega (arith, length-append x y)) in
-    ap (λ l. l ++ y ++ drop (m + length y) (front ++ behind)) (sym parts.0)
-    ∙ ap (λ l. (front ++ y) ++ l) rest
+    ap (λ l. l ++ y ++ drop (m + length y) (prefix ++ behind)) (sym parts.0)
+    ∙ ap (λ l. (prefix ++ y) ++ l) rest
     ∙ ap (λ l. l ++ drop (at + length (x ++ y)) old) (append_assoc (take at old) x y)
 
 pub put_three :

@@ -21,20 +21,20 @@ module _ (n : ℕ) (bytes : List ℕ) (small : (i : ℕ) → get_or bytes i 0 < 
 
 -- The number whose bytes come first is read.
 pub number_read :
-    (w : Width) (bytes front : List ℕ) (n : ℕ) → front ≡ take (byte_len w) bytes →
-    n ≡ from_be_bytes w front → to_be_bytes w n ≡ front →
+    (w : Width) (bytes prefix : List ℕ) (n : ℕ) → prefix ≡ take (byte_len w) bytes →
+    n ≡ from_be_bytes w prefix → to_be_bytes w n ≡ prefix →
     number_at w bytes ≡ Some (n, drop (byte_len w) bytes)
 unfolding number_at
-number_read w bytes front n is value back =
-    rw (← is, ← value, (bytes_eq-Decides (to_be_bytes w n) front).1 back)
+number_read w bytes prefix n is value back =
+    rw (← is, ← value, (bytes_eq-Decides (to_be_bytes w n) prefix).1 back)
 
 -- Eight bytes are the number that they spell.
 pub number_read_8 :
-    (bytes front : List ℕ) (n : ℕ) → ((i : ℕ) → get_or bytes i 0 < 256) → 8 ≤ length bytes →
-    front ≡ take 8 bytes → n ≡ from_be_bytes w64 front →
+    (bytes prefix : List ℕ) (n : ℕ) → ((i : ℕ) → get_or bytes i 0 < 256) → 8 ≤ length bytes →
+    prefix ≡ take 8 bytes → n ≡ from_be_bytes w64 prefix →
     number_at w64 bytes ≡ Some (n, drop 8 bytes)
-number_read_8 bytes front n small enough is value =
-    let back : to_be_bytes w64 n ≡ front =
-    be_bytes_8 front n
+number_read_8 bytes prefix n small enough is value =
+    let back : to_be_bytes w64 n ≡ prefix =
+    be_bytes_8 prefix n
     (rw is (length-take-le 8 bytes enough)) (rw is (below_256 8 bytes small)) value
-    in number_read w64 bytes front n is value back
+    in number_read w64 bytes prefix n is value back

@@ -4,5 +4,5 @@ use Rattle.std.specs.Result.{IsErrAnd}
 
 -- The error is the one that was passed to it.
 pub passed_on : {T E : Type 0} (r : Result T E) (e : E) → IsErrAnd r (λ y. y ≡ e) → r ≡ Err e
-passed_on (Ok x) e told = absurd told
-passed_on (Err y) e told = ap (λ w. Err w) told
+passed_on (Ok x) e reported = absurd reported
+passed_on (Err y) e reported = ap (λ w. Err w) reported

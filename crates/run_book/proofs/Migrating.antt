@@ -56,9 +56,9 @@ pub written_not : {D E : Type 0} (from : D → DiskState) (to : E → DiskState)
     → AreSized (from old) (to given) → HasReadStore p (from old) (from read)
     → IfErr r (λ w. w ≡ why.New fault.DiskFailed) → Writes Large (widened p) (to given) r (to new)
     → IfErr r (λ w. MigratesNot from to old given w read new)
-written_not from to old read given new (Ok x) p sized found told failed = tt
-written_not from to old read given new (Err w) p sized found told failed =
-    subst (λ v. MigratesNot from to old given v read new) (sym told) (record {
+written_not from to old read given new (Ok x) p sized found reported failed = tt
+written_not from to old read given new (Err w) p sized found reported failed =
+    subst (λ v. MigratesNot from to old given v read new) (sym reported) (record {
       sized = sized;
       state = p;
       found = found;

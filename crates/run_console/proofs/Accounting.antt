@@ -27,26 +27,26 @@ use Rattle.run_console.specs.declared.untils.Until.{Until}
 use Rattle.run_console.specs.RunProgress.{IsRunStopped, LineStops, RunStops}
 use Rattle.run_console.specs.TakenSteps.{Tries, TriesLine, next_steps, steps_asked}
 use Rattle.run_console.specs.SavingLines.{IsSaving}
-use Rattle.run_console.specs.StoreTroubles.{Accounts, DeviceFails, Tells}
+use Rattle.run_console.specs.StoreTroubles.{Accounts, DeviceFails, Reports}
 
 pub true_false : (b : Bool) → b ≡ true → b ≡ false → ⊥
 true_false b is not = cc
 
 -- The answer that was told as a trouble is that trouble.
-why_told : (why : Trouble) (r : Result ℕ Trouble) → reply_of_save (Err why) ≡ reply_of_save r
+why_reported : (why : Trouble) (r : Result ℕ Trouble) → reply_of_save (Err why) ≡ reply_of_save r
     → r ≡ Err why
-why_told (trouble.Refused x) (Ok n) p = cc
-why_told (trouble.Faulty x) (Ok n) p = cc
-why_told (trouble.Refused x) (Err (trouble.Refused y)) p = cc
-why_told (trouble.Refused x) (Err (trouble.Faulty y)) p = cc
-why_told (trouble.Faulty x) (Err (trouble.Refused y)) p = cc
-why_told (trouble.Faulty x) (Err (trouble.Faulty y)) p = cc
+why_reported (trouble.Refused x) (Ok n) p = cc
+why_reported (trouble.Faulty x) (Ok n) p = cc
+why_reported (trouble.Refused x) (Err (trouble.Refused y)) p = cc
+why_reported (trouble.Refused x) (Err (trouble.Faulty y)) p = cc
+why_reported (trouble.Faulty x) (Err (trouble.Refused y)) p = cc
+why_reported (trouble.Faulty x) (Err (trouble.Faulty y)) p = cc
 
 -- A device's failure is told as a fault.
 failed_fault : (why : Trouble) (r : Reply) → why ≡ trouble.Faulty DiskFailed
     → r ≡ reply_of_save (Err why) → is_fault r ≡ true
-failed_fault (trouble.Faulty x) r is told = ap is_fault told
-failed_fault (trouble.Refused x) r is told = absurd (cc)
+failed_fault (trouble.Faulty x) r is reported = ap is_fault reported
+failed_fault (trouble.Refused x) r is reported = absurd (cc)
 
 module _ {D : Type 0} (state : D → DiskState) where
   -- ---- one step of a book that isn't broken
@@ -54,7 +54,7 @@ module _ {D : Type 0} (state : D → DiskState) where
   -- Where a call breaks the book, a device failed in it, and a fault is told.
   record Breaks (old : BookView D) (r : Reply) (new : BookView D) : Type 0 where
     pub cause : DeviceFails state old new
-    pub told : is_fault r ≡ true
+    pub reported : is_fault r ≡ true
 
   same_sound : (old new : BookView D) → old.journal.broken ≡ false → new ≡ old
       → new.journal.broken ≡ false
@@ -69,15 +69,15 @@ module _ {D : Type 0} (state : D → DiskState) where
   saved_sound : (old new : BookView D) (result : Result ℕ Trouble) (r : Reply)
       → old.journal.broken ≡ false → r ≡ reply_of_save result → Saves state old result new
       → new.journal.broken ≡ true → Breaks old r new
-  saved_sound old new (Ok n) r sound told saves broken =
+  saved_sound old new (Ok n) r sound reported saves broken =
       absurd (true_false new.journal.broken broken saves.answer.sound)
-  saved_sound old new (Err why) r sound told saves broken =
+  saved_sound old new (Err why) r sound reported saves broken =
       elim saves.answer [
         | inl refused ↦ absurd (true_false old.journal.broken refused.was sound)
         | inr (inl spent) ↦
             absurd (true_false new.journal.broken broken (same_sound old new sound spent.same))
         | inr (inr failed) ↦
-            record { cause = failed.cause; told = failed_fault why r failed.told told }
+            record { cause = failed.cause; reported = failed_fault why r failed.reported reported }
       ]
 
   answered : (old new : BookView D) (x : Step) (r : Reply) → old.journal.broken ≡ false
@@ -87,10 +87,10 @@ module _ {D : Type 0} (state : D → DiskState) where
   answered old new step.Start r sound takes = took_sound old new step.Start r sound takes
   answered old new (step.Finish n outcome) r sound takes =
       took_sound old new (step.Finish n outcome) r sound takes
-  answered old new step.Flush r sound tells =
-      saved_sound old new tells.result r sound tells.told tells.saves.saves
-  answered old new step.Checkpoint r sound tells =
-      saved_sound old new tells.result r sound tells.told tells.saves.saves
+  answered old new step.Flush r sound reports =
+      saved_sound old new reports.result r sound reports.reported reports.saves.saves
+  answered old new step.Checkpoint r sound reports =
+      saved_sound old new reports.result r sound reports.reported reports.saves.saves
 
   pub as_sound : (old new : BookView D) (x : Step) (r : Reply) → old.journal.broken ≡ false
       → AnswersStep state old x r new → AnswersSound state old x r new
@@ -136,7 +136,7 @@ module _ {D : Type 0} (state : D → DiskState) where
           → next.journal.broken ≡ false
       here false is none = is
       here true is none =
-          absurd (true_false (is_fault r) (step_breaks old next x r sound one is).told none)
+          absurd (true_false (is_fault r) (step_breaks old next x r sound one is).reported none)
 
   -- One that leaves it broken has its cause.
   row_breaks : (old new : BookView D) (steps : List Step) (answers : List Reply)
@@ -162,76 +162,76 @@ module _ {D : Type 0} (state : D → DiskState) where
   -- ---- the step that was next
 
   -- What a call told of a book that wasn't broken.
-  told_unsaved : (b d : BookView D) (why : Trouble)
+  reported_unsaved : (b d : BookView D) (why : Trouble)
       → b.journal.broken ≡ false
       → IsUnsaved state b why d
-      → Tells state b why d
-  told_unsaved b d why sound (inl refused) = absurd (grind (arith, sound, refused.was))
-  told_unsaved b d why sound (inr (inl spent)) = inl (record {
-    told = spent.told;
+      → Reports state b why d
+  reported_unsaved b d why sound (inl refused) = absurd (grind (arith, sound, refused.was))
+  reported_unsaved b d why sound (inr (inl spent)) = inl (record {
+    reported = spent.reported;
     sound = ap (λ (h : BookView D). h.journal.broken) spent.same ∙ spent.was;
     last = ap (λ (h : BookView D). h.journal.generation) spent.same ∙ spent.last;
   })
-  told_unsaved b d why sound (inr (inr failed)) = inr (record {
-    told = failed.told;
+  reported_unsaved b d why sound (inr (inr failed)) = inr (record {
+    reported = failed.reported;
     broken = failed.broken;
     cause = failed.cause;
   })
 
-  told_saving : (b d : BookView D) (r : Result ℕ Trouble)
+  reported_saving : (b d : BookView D) (r : Result ℕ Trouble)
       → b.journal.broken ≡ false
       → Saves state b r d
-      → IfErr r (λ why. Tells state b why d)
-  told_saving b d (Ok n) sound saves = tt
-  told_saving b d (Err why) sound saves = told_unsaved b d why sound saves.answer
+      → IfErr r (λ why. Reports state b why d)
+  reported_saving b d (Ok n) sound saves = tt
+  reported_saving b d (Err why) sound saves = reported_unsaved b d why sound saves.answer
 
-  save_tells : (old new : BookView D) (result : Result ℕ Trouble) (why : Trouble)
+  save_reports : (old new : BookView D) (result : Result ℕ Trouble) (why : Trouble)
       → old.journal.broken ≡ false → reply_of_save (Err why) ≡ reply_of_save result
-      → Saves state old result new → Tells state old why new
-  save_tells old new result why sound same saves =
-      told_saving old new (Err why) sound
-      (subst (λ r. Saves state old r new) (why_told why result same) saves)
+      → Saves state old result new → Reports state old why new
+  save_reports old new result why sound same saves =
+      reported_saving old new (Err why) sound
+      (subst (λ r. Saves state old r new) (why_reported why result same) saves)
 
-  flush_tells : (old new : BookView D) (why : Trouble) → old.journal.broken ≡ false
+  flush_reports : (old new : BookView D) (why : Trouble) → old.journal.broken ≡ false
       → StepsOn state old (step.Flush ∷ []) (reply_of_save (Err why) ∷ []) new
-      → Tells state old why new
-  flush_tells old new why sound (next, one, on, same) =
-      let tells = as_sound old next step.Flush (reply_of_save (Err why)) sound one in
-      subst (λ (h : BookView D). Tells state old why h) (sym same)
-      (save_tells old next tells.result why sound tells.told tells.saves.saves)
+      → Reports state old why new
+  flush_reports old new why sound (next, one, on, same) =
+      let reports = as_sound old next step.Flush (reply_of_save (Err why)) sound one in
+      subst (λ (h : BookView D). Reports state old why h) (sym same)
+      (save_reports old next reports.result why sound reports.reported reports.saves.saves)
 
-  checkpoint_tells : (old new : BookView D) (why : Trouble) → old.journal.broken ≡ false
+  checkpoint_reports : (old new : BookView D) (why : Trouble) → old.journal.broken ≡ false
       → StepsOn state old (step.Checkpoint ∷ []) (reply_of_save (Err why) ∷ []) new
-      → Tells state old why new
-  checkpoint_tells old new why sound (next, one, on, same) =
-      let tells = as_sound old next step.Checkpoint (reply_of_save (Err why)) sound one in
-      subst (λ (h : BookView D). Tells state old why h) (sym same)
-      (save_tells old next tells.result why sound tells.told tells.saves.saves)
+      → Reports state old why new
+  checkpoint_reports old new why sound (next, one, on, same) =
+      let reports = as_sound old next step.Checkpoint (reply_of_save (Err why)) sound one in
+      subst (λ (h : BookView D). Reports state old why h) (sym same)
+      (save_reports old next reports.result why sound reports.reported reports.saves.saves)
 
-  saving_tells : (a : LineRequest) (old new : BookView D) (why : Trouble) → IsSaving a
+  saving_reports : (a : LineRequest) (old new : BookView D) (why : Trouble) → IsSaving a
       → old.journal.broken ≡ false
       → StepsOn state old (steps_asked a) (reply_of_save (Err why) ∷ []) new
-      → Tells state old why new
-  saving_tells (asked.Step step.Flush) old new why saving sound row =
-      flush_tells old new why sound row
-  saving_tells (asked.Step step.Checkpoint) old new why saving sound row =
-      checkpoint_tells old new why sound row
-  saving_tells _ old new why saving sound row = absurd saving
+      → Reports state old why new
+  saving_reports (asked.Step step.Flush) old new why saving sound row =
+      flush_reports old new why sound row
+  saving_reports (asked.Step step.Checkpoint) old new why saving sound row =
+      checkpoint_reports old new why sound row
+  saving_reports _ old new why saving sound row = absurd saving
 
-  next_tells : (old new : BookView D) (why : Trouble) (left : List (List ℕ))
+  next_reports : (old new : BookView D) (why : Trouble) (left : List (List ℕ))
       → IsRunStopped (fault.Store why) left → old.journal.broken ≡ false
       → StepsOn state old (next_steps left) (reply_of_save (Err why) ∷ []) new
-      → Tells state old why new
-  next_tells old new why [] stopped sound row = flush_tells old new why sound row
-  next_tells old new why (line ∷ left) stopped sound row =
-      saving_tells (request_of line) old new why stopped sound row
+      → Reports state old why new
+  next_reports old new why [] stopped sound row = flush_reports old new why sound row
+  next_reports old new why (line ∷ left) stopped sound row =
+      saving_reports (request_of line) old new why stopped sound row
 
-  tells_later : (b c d : BookView D) (why : Trouble)
+  reports_later : (b c d : BookView D) (why : Trouble)
       → (state b.journal.disk).failures ≤ (state c.journal.disk).failures
-      → Tells state c why d → Tells state b why d
-  tells_later b c d why few (inl spent) = inl spent
-  tells_later b c d why few (inr failed) = inr (record {
-    told = failed.told;
+      → Reports state c why d → Reports state b why d
+  reports_later b c d why few (inl spent) = inl spent
+  reports_later b c d why few (inr failed) = inr (record {
+    reported = failed.reported;
     broken = failed.broken;
     cause = fails_later b c d few failed.cause;
   })
@@ -242,7 +242,7 @@ module _ {D : Type 0} (state : D → DiskState) where
       → middle.journal.broken ≡ false → IsRunStopped why left
       → Tries state middle why (next_steps left) new → Accounts state old why new
   row_accounts old middle new (fault.Store why) left few sound stopped row =
-      tells_later old middle new why few (next_tells middle new why left stopped sound row)
+      reports_later old middle new why few (next_reports middle new why left stopped sound row)
   row_accounts old middle new fault.Output left few sound stopped (inl same) =
       λ broken. absurd (true_false new.journal.broken broken (same_sound middle new sound same))
   row_accounts old middle new fault.Output left few sound stopped (inr row) =
@@ -277,7 +277,7 @@ module _ {D : Type 0} (state : D → DiskState) where
       (w0 w1 : Option (List ℕ)) → b.journal.broken ≡ false
       → LineStops state why line b c w0 w1 → Accounts state b why c
   line_accounts (fault.Store why) line b c w0 w1 sound p =
-      saving_tells (request_of line) b c why p.0 sound p.3
+      saving_reports (request_of line) b c why p.0 sound p.3
   line_accounts fault.Output line b c w0 w1 sound p =
       let taken = p.2 in
       λ broken. absurd (true_false c.journal.broken broken

@@ -54,15 +54,15 @@ written m h =
       are_digits (decimal m) n.0.1,
     )
 
-told : (m : ℕ) → m ≤ GREATEST_MOMENT → moment_at (pos m) ≡ Ok m
+reported : (m : ℕ) → m ≤ GREATEST_MOMENT → moment_at (pos m) ≡ Ok m
 unfolding moment_at
-told m h = grind (arith, nat_tests, h)
+reported m h = grind (arith, nat_tests, h)
 
 read_back : (m : ℕ) → m ≤ GREATEST_MOMENT → moment_of (decimal m) ≡ Some (Ok m)
 read_back m h =
     ap (λ n. option_map_or (λ seconds. Some (moment_at (pos seconds))) n (date_time_of (decimal m)))
     (written m h)
-    ∙ ap Some (told m h)
+    ∙ ap Some (reported m h)
 
 -- ---- words
 

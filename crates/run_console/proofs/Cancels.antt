@@ -215,14 +215,14 @@ pub cancel_runs : {D : Type 0} (state : D → DiskState) (b d : BookView D) (sco
     → buffer ≡ m ++ reply b.session line)
     → why ≡ answer_rejection r
     → RunsRequest state (asks_cancel scope cause) ends (Ok why) b d before buffer w0 w1
-cancel_runs state b d scope cause ends r why before m buffer w0 w1 it room told rejected =
+cancel_runs state b d scope cause ends r why before m buffer w0 w1 it room reported rejected =
     let a = asks_cancel scope cause in
     record {
       ran = λ line e.
           ran_line (line_obeyed b.session d.session line a (sym e) it.does.session)
           (subst (λ (q : LineRequest). TakesAll state b (steps_asked q) d) (sym e) it.does.taken)
           it.does.lasts
-          (buffered_more (reply b.session line) before m buffer w0 w1 room (told line (sym e)));
+          (buffered_more (reply b.session line) before m buffer w0 w1 room (reported line (sym e)));
       cut = λ line e. tt;
       rejected = λ line e is. rejected ∙ answer_rejected state b d line a r (sym e) it;
       sound = it.does.sound;

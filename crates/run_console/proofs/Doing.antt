@@ -15,11 +15,11 @@ use Rattle.run_console.specs.SavingLines.{IsSaving}
 use Rattle.run_console.proofs.TakenSteps.{takes_none}
 
 -- What is said of a state is the one reply.
-pub said_of : {p q : State} {r : LineReply} (say : State → LineReply)
+pub printed_of : {p q : State} {r : LineReply} (say : State → LineReply)
     → p ≡ q
     → r ≡ say p
     → r ∷ [] ≡ say q ∷ []
-said_of say same is = ap (λ x. x ∷ []) (is ∙ ap say same)
+printed_of say same is = ap (λ x. x ∷ []) (is ∙ ap say same)
 
 -- A line that asks for no step leaves the book.
 pub does_none : {D : Type 0} {state : D → DiskState} {a : LineRequest} {b : BookView D}

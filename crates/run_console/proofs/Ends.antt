@@ -26,11 +26,11 @@ use Rattle.run_console.proofs.Lines.{cut_then, cut_troubled, trouble_after}
 use Rattle.console_lines.proofs.Buffered.{part_after}
 
 -- Making room is no line.
-ran_told : {D : Type 0} {state : D → DiskState} {b : BookView D} {g m : List ℕ}
+ran_reported : {D : Type 0} {state : D → DiskState} {b : BookView D} {g m : List ℕ}
     {w0 w1 : Option (List ℕ)}
     → Buffered [] g m w0 w1
     → Ran state [] b b g m w0 w1
-ran_told {state} {b} room = record {
+ran_reported {state} {b} room = record {
   out = room.out;
   written = room.written;
   replied = room.parts;
@@ -50,7 +50,7 @@ pub cut_stopped : {D : Type 0} {state : D → DiskState} {why : RunFault} {line 
     → Troubled why trouble m w1 w2
     → Cut state why (line ∷ []) b c g w0 w2
 cut_stopped {why} trouble saving same row room stop =
-    cut_then (ran_told room) (cut_troubled why trouble saving same row stop)
+    cut_then (ran_reported room) (cut_troubled why trouble saving same row stop)
 
 -- ---- the end
 
@@ -107,11 +107,11 @@ split_one line (x ∷ y ∷ ran) left e =
 
 -- None of nothing is no part.
 no_part : (w0 w1 : Option (List ℕ)) (X : Type 0) → WritesPart w0 w1 [] → X
-no_part w0 w1 X (front, cut, written) = none front cut.0 cut.1 cut.2
+no_part w0 w1 X (prefix, cut, written) = none prefix cut.0 cut.1 cut.2
   where
-    none : (front rest : List ℕ) → [] ≡ front ++ rest → rest ≢ [] → X
+    none : (prefix rest : List ℕ) → [] ≡ prefix ++ rest → rest ≢ [] → X
     none [] rest e some = absurd (some (sym e))
-    none (x ∷ front) rest e some = absurd (omega (arith, ap length e))
+    none (x ∷ prefix) rest e some = absurd (omega (arith, ap length e))
 
 module _ {D : Type 0} (state : D → DiskState) (line : List ℕ) (b c : BookView D)
     (w0 w1 : Option (List ℕ)) where
@@ -193,14 +193,14 @@ module _ {D : Type 0} (state : D → DiskState) (line : List ℕ) (b c : BookVie
 -- ---- the line of a trouble
 
 -- What was written of it is a front, whether the writer failed in it or not.
-pub trouble_told :
+pub trouble_reported :
     (r : Result (Unit {0}) RunFault) (why : Trouble) (g t : List ℕ) (w0 w1 w2 : Option (List ℕ))
     → Appends w0 w1 g
     → t ≡ reply_line (printed.Failed why)
     → OnOk r (Appends w1 w2 t)
     → OnErr r (WritesPart w1 w2 t)
     → WritesTrouble why g w0 w2
-trouble_told (Ok x) why g t w0 w1 w2 h e whole cut =
+trouble_reported (Ok x) why g t w0 w1 w2 h e whole cut =
     (t, ([], sym e ∙ sym (append-nil t)), appends_then w0 w1 w2 g t h whole)
-trouble_told (Err x) why g t w0 w1 w2 h e whole cut =
+trouble_reported (Err x) why g t w0 w1 w2 h e whole cut =
     (cut.0, (cut.1.0, sym e ∙ cut.1.1), appends_then w0 w1 w2 g cut.0 h cut.2)

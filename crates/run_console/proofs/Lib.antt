@@ -6,7 +6,7 @@ pub mod Clocks
 pub mod Counting
 pub mod Doing
 pub mod Ends
-pub mod Fronts
+pub mod Prefixes
 pub mod LineSteps
 pub mod Lines
 pub mod Parts

@@ -98,10 +98,10 @@ pub ran_line : {D : Type 0} {state : D → DiskState} {line : List ℕ} {b c : B
     → Lasts b.session c.session
     → Buffered (reply b.session line) g h w0 w1
     → Ran state (line ∷ []) b c g h w0 w1
-ran_line {line} {b} {g} session taken lasts told = record {
-  out = told.out;
-  written = told.written;
-  replied = ap (λ t. g ++ t) (append-nil (reply b.session line)) ∙ told.parts;
+ran_line {line} {b} {g} session taken lasts reported = record {
+  out = reported.out;
+  written = reported.written;
+  replied = ap (λ t. g ++ t) (append-nil (reply b.session line)) ∙ reported.parts;
   session = session;
   taken = taken;
   lasts = lasts;

@@ -65,7 +65,7 @@ module _ {D : Type 0} {state : D → DiskState} {until : Until} where
       let line = open_line begun part in
       let lines = whole_lines begun part in
       record {
-        front = part;
+        prefix = part;
         behind = behind;
         part_is = e;
         ran = ran_then so_far.ran ran;
@@ -80,7 +80,7 @@ module _ {D : Type 0} {state : D → DiskState} {until : Until} where
       → Cut state why (open_line begun part ∷ []) c d g w1 w2
       → PartCut state until why n begun all b d f w0 w2
   part_stops {part} behind e so_far cut = record {
-    front = part;
+    prefix = part;
     behind = behind;
     part_is = e;
     none = so_far.clean.none;

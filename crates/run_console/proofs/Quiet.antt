@@ -80,88 +80,89 @@ kept_room tail xs room most e most_is =
 -- ---- a part of an input
 
 -- The line that bytes without an LF go on with.
-open_quiet : (begun front xs : List ℕ) → IsQuiet xs
-    → open_line begun front ++ xs ≡ open_line begun (front ++ xs)
-open_quiet begun front xs quiet =
-    sym (open_line-append begun front xs ∙ (quiet (open_line begun front)).1)
+open_quiet : (begun prefix xs : List ℕ) → IsQuiet xs
+    → open_line begun prefix ++ xs ≡ open_line begun (prefix ++ xs)
+open_quiet begun prefix xs quiet =
+    sym (open_line-append begun prefix xs ∙ (quiet (open_line begun prefix)).1)
 
 module _ {D : Type 0} {state : D → DiskState} {until : Until} where
   -- They run nothing.
-  pub part_quiet : {n m : ℕ} {begun front tail more f g : List ℕ} {b c : BookView D}
+  pub part_quiet : {n m : ℕ} {begun prefix tail more f g : List ℕ} {b c : BookView D}
       {w0 w1 : Option (List ℕ)} (xs : List ℕ)
-      → PartRan state until n m begun front b c tail f g w0 w1
+      → PartRan state until n m begun prefix b c tail f g w0 w1
       → IsQuiet xs
       → more ≡ kept (tail ++ xs)
-      → PartRan state until n m begun (front ++ xs) b c more f g w0 w1
-  part_quiet {n} {m} {begun} {front} {tail} {more} {f} {g} {b} {c} {w0} {w1} xs so_far quiet e =
-      let line = open_line begun front in
+      → PartRan state until n m begun (prefix ++ xs) b c more f g w0 w1
+  part_quiet {n} {m} {begun} {prefix} {tail} {more} {f} {g} {b} {c} {w0} {w1} xs so_far quiet e =
+      let line = open_line begun prefix in
       let P : List (List ℕ) → Type 0 = λ lines. Ran state lines b c f g w0 w1 in
       let Q : List (List ℕ) → Type 0 = λ lines. Clean until n m b.session lines in
-      let whole : whole_lines begun (front ++ xs) ≡ whole_lines begun front =
-      whole_lines-append begun front xs
-      ∙ ap (λ l. whole_lines begun front ++ l) (quiet line).0
-      ∙ append-nil (whole_lines begun front) in
+      let whole : whole_lines begun (prefix ++ xs) ≡ whole_lines begun prefix =
+      whole_lines-append begun prefix xs
+      ∙ ap (λ l. whole_lines begun prefix ++ l) (quiet line).0
+      ∙ append-nil (whole_lines begun prefix) in
       record {
         ran = subst P (sym whole) so_far.ran;
         tail_is =
             kept_longer line xs tail more so_far.tail_is e
-            ∙ ap kept (open_quiet begun front xs quiet);
+            ∙ ap kept (open_quiet begun prefix xs quiet);
         clean = subst Q (sym whole) so_far.clean;
       }
 
   -- The next line was run, which an LF ends, and the run goes on.
-  pub line_ran : {n m : ℕ} {begun front tail more f g h : List ℕ} {b c d : BookView D}
+  pub line_ran : {n m : ℕ} {begun prefix tail more f g h : List ℕ} {b c d : BookView D}
       {w0 w1 w2 : Option (List ℕ)} (xs : List ℕ)
-      → PartRan state until n m begun front b c tail f g w0 w1
+      → PartRan state until n m begun prefix b c tail f g w0 w1
       → IsQuiet xs
-      → Ran state ((open_line begun front ++ xs) ∷ []) c d g h w1 w2
-      → ends_at until (rejection_at c.session (open_line begun front ++ xs)) ≡ None
+      → Ran state ((open_line begun prefix ++ xs) ∷ []) c d g h w1 w2
+      → ends_at until (rejection_at c.session (open_line begun prefix ++ xs)) ≡ None
       → more ≡ []
-      → PartRan state until n (m + 1) begun ((front ++ xs) ++ 10 ∷ []) b d more f h w0 w2
-  line_ran {begun} {front} {g} {h} {c} {d} {w1} {w2} xs so_far quiet ran stays none =
+      → PartRan state until n (m + 1) begun ((prefix ++ xs) ++ 10 ∷ []) b d more f h w0 w2
+  line_ran {begun} {prefix} {g} {h} {c} {d} {w1} {w2} xs so_far quiet ran stays none =
       let P : List ℕ → Type 0 = λ line. Ran state (line ∷ []) c d g h w1 w2 in
       let Q : List ℕ → Type 0 = λ line. ends_at until (rejection_at c.session line) ≡ None in
-      let line = open_quiet begun front xs quiet in
+      let line = open_quiet begun prefix xs quiet in
       part_ends (part_quiet xs so_far quiet refl) (subst P line ran) (subst Q line stays) none
 
   -- Or the run ends after it.
-  pub line_rejected : {n m : ℕ} {begun all front tail f g h : List ℕ} {b c d : BookView D}
+  pub line_rejected : {n m : ℕ} {begun all prefix tail f g h : List ℕ} {b c d : BookView D}
       {w0 w1 w2 : Option (List ℕ)} (xs behind : List ℕ) (why : Rejection)
-      → all ≡ ((front ++ xs) ++ 10 ∷ []) ++ behind
-      → PartRan state until n m begun front b c tail f g w0 w1
+      → all ≡ ((prefix ++ xs) ++ 10 ∷ []) ++ behind
+      → PartRan state until n m begun prefix b c tail f g w0 w1
       → IsQuiet xs
-      → Ran state ((open_line begun front ++ xs) ∷ []) c d g h w1 w2
-      → ends_at until (rejection_at c.session (open_line begun front ++ xs)) ≡ Some why
+      → Ran state ((open_line begun prefix ++ xs) ∷ []) c d g h w1 w2
+      → ends_at until (rejection_at c.session (open_line begun prefix ++ xs)) ≡ Some why
       → PartRejected state until (record { number = m; why = why }) n begun all b d f h w0 w2
-  line_rejected {begun} {front} {g} {h} {c} {d} {w1} {w2} xs behind why e so_far quiet ran
+  line_rejected {begun} {prefix} {g} {h} {c} {d} {w1} {w2} xs behind why e so_far quiet ran
       rejected =
       let P : List ℕ → Type 0 = λ line. Ran state (line ∷ []) c d g h w1 w2 in
       let Q : List ℕ → Type 0 = λ line. ends_at until (rejection_at c.session line) ≡ Some why in
-      let line = open_quiet begun front xs quiet in
-      part_rejected behind why (e ∙ append_assoc (front ++ xs) (10 ∷ []) behind)
+      let line = open_quiet begun prefix xs quiet in
+      part_rejected behind why (e ∙ append_assoc (prefix ++ xs) (10 ∷ []) behind)
       (part_quiet xs so_far quiet refl) (subst P line ran) (subst Q line rejected)
 
   -- Or it was cut, whatever bytes come after its LF.
-  pub line_cut : {why : RunFault} {n m : ℕ} {begun all front tail f g : List ℕ} {b c d : BookView D}
+  pub line_cut : {why : RunFault} {n m : ℕ} {begun all prefix tail f g : List ℕ}
+      {b c d : BookView D}
       {w0 w1 w2 : Option (List ℕ)} (xs behind : List ℕ)
-      → all ≡ ((front ++ xs) ++ 10 ∷ []) ++ behind
-      → PartRan state until n m begun front b c tail f g w0 w1
+      → all ≡ ((prefix ++ xs) ++ 10 ∷ []) ++ behind
+      → PartRan state until n m begun prefix b c tail f g w0 w1
       → IsQuiet xs
-      → Cut state why ((open_line begun front ++ xs) ∷ []) c d g w1 w2
+      → Cut state why ((open_line begun prefix ++ xs) ∷ []) c d g w1 w2
       → PartCut state until why n begun all b d f w0 w2
-  line_cut {why} {begun} {front} {g} {c} {d} {w1} {w2} xs behind e so_far quiet cut =
+  line_cut {why} {begun} {prefix} {g} {c} {d} {w1} {w2} xs behind e so_far quiet cut =
       let P : List ℕ → Type 0 = λ line. Cut state why (line ∷ []) c d g w1 w2 in
-      part_stops behind (e ∙ append_assoc (front ++ xs) (10 ∷ []) behind)
-      (part_quiet xs so_far quiet refl) (subst P (open_quiet begun front xs quiet) cut)
+      part_stops behind (e ∙ append_assoc (prefix ++ xs) (10 ∷ []) behind)
+      (part_quiet xs so_far quiet refl) (subst P (open_quiet begun prefix xs quiet) cut)
 
 -- Where that line stands in the part.
-pub line_stands : (all front rest : List ℕ) (n : ℕ)
-    → all ≡ front ++ rest
+pub line_stands : (all prefix rest : List ℕ) (n : ℕ)
+    → all ≡ prefix ++ rest
     → n < length rest
     → (slice_index rest n == 10) ≡ true
-    → all ≡ ((front ++ take n rest) ++ 10 ∷ [])
+    → all ≡ ((prefix ++ take n rest) ++ 10 ∷ [])
     ++ take (length rest - (n + 1)) (drop (n + 1) rest)
-line_stands all front rest n e below lf =
+line_stands all prefix rest n e below lf =
     let xs = take n rest in
     let behind = drop (suc n) rest in
     let next : n + 1 ≡ suc n = omega arith in
@@ -169,8 +170,8 @@ line_stands all front rest n e below lf =
     let left : take (length rest - (n + 1)) (drop (n + 1) rest) ≡ behind =
     ap (λ m. take (length rest - m) (drop m rest)) next
     ∙ take_all (length rest - suc n) behind (omega (arith, len)) in
-    e ∙ ap (λ l. front ++ l) (split_at rest n 0 below)
-    ∙ ap (λ x. front ++ (xs ++ x ∷ behind)) (eqb-true (slice_index rest n) 10 lf)
-    ∙ sym (append_assoc front xs (10 ∷ behind))
-    ∙ sym (append_assoc (front ++ xs) (10 ∷ []) behind)
-    ∙ ap (λ l. ((front ++ xs) ++ 10 ∷ []) ++ l) (sym left)
+    e ∙ ap (λ l. prefix ++ l) (split_at rest n 0 below)
+    ∙ ap (λ x. prefix ++ (xs ++ x ∷ behind)) (eqb-true (slice_index rest n) 10 lf)
+    ∙ sym (append_assoc prefix xs (10 ∷ behind))
+    ∙ sym (append_assoc (prefix ++ xs) (10 ∷ []) behind)
+    ∙ ap (λ l. ((prefix ++ xs) ++ 10 ∷ []) ++ l) (sym left)

@@ -166,15 +166,15 @@ module _ (until : Until) where
   -- ---- a whole input
 
   -- The run ends after the last of the first lines, whatever comes after its LF.
-  pub ends_first : {s : Session} {rejection : RejectedLine} (bytes front behind : List ℕ)
-      → bytes ≡ front ++ 10 ∷ behind
-      → Found until 1 s (lines_of front) rejection
+  pub ends_first : {s : Session} {rejection : RejectedLine} (bytes prefix behind : List ℕ)
+      → bytes ≡ prefix ++ 10 ∷ behind
+      → Found until 1 s (lines_of prefix) rejection
       → (rejection_until until 1 s (lines_of bytes) ≡ Some rejection)
-      × (lines_until until s (lines_of bytes) ≡ lines_of front)
-  ends_first {s} {rejection} bytes front behind e found =
-      let lines : lines_of bytes ≡ lines_of front ++ lines_of behind =
-      ap lines_of e ∙ lines_around front behind in
-      let more = ended_more until 1 s (lines_of front) (lines_of behind) rejection found.found in (
+      × (lines_until until s (lines_of bytes) ≡ lines_of prefix)
+  ends_first {s} {rejection} bytes prefix behind e found =
+      let lines : lines_of bytes ≡ lines_of prefix ++ lines_of behind =
+      ap lines_of e ∙ lines_around prefix behind in
+      let more = ended_more until 1 s (lines_of prefix) (lines_of behind) rejection found.found in (
         ap (rejection_until until 1 s) lines ∙ more.0,
         ap (lines_until until s) lines ∙ more.1 ∙ found.all,
       )
@@ -198,18 +198,18 @@ module _ (until : Until) where
   last_rejection m c line (Some x) h rejection e = e ∙ sym (ends_so until m c line x (sym h))
 
   -- The lines of a run begin with those up to some LF, where it ends after none before the last.
-  pub lines_after : (s : Session) (first : List (List ℕ)) (line front behind : List ℕ)
+  pub lines_after : (s : Session) (first : List (List ℕ)) (line prefix behind : List ℕ)
       → rejection_until until 1 s first ≡ None
-      → lines_of front ≡ first ++ line ∷ []
+      → lines_of prefix ≡ first ++ line ∷ []
       → (more : List (List ℕ))
-      × (lines_until until s (lines_of (front ++ 10 ∷ behind)) ≡ (first ++ line ∷ []) ++ more)
+      × (lines_until until s (lines_of (prefix ++ 10 ∷ behind)) ≡ (first ++ line ∷ []) ++ more)
       × ((lines : List (List ℕ)) → (bytes : List ℕ) → (r : Option (List ℕ))
       → more ≡ [] → StandsFirst lines bytes 4096 → IsReadFor until lines bytes r)
-  lines_after s first line front behind none lines =
+  lines_after s first line prefix behind none lines =
       let next = after_lf until (after_lines s first) line behind in (
         next.0,
         ap (lines_until until s)
-            (lines_around front behind ∙ ap (λ l. l ++ lines_of behind) lines
+            (lines_around prefix behind ∙ ap (λ l. l ++ lines_of behind) lines
             ∙ append_assoc first (line ∷ []) (lines_of behind))
             ∙ run_then until 1 s first (line ∷ lines_of behind) none
             ∙ ap (λ l. first ++ l) next.1

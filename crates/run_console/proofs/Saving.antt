@@ -33,15 +33,15 @@ pub no_fault : {X : Type 0} (f : X → Reply) (r : Result X Refusal)
 no_fault f (Ok x) none = none x
 no_fault f (Err why) none = refl
 
-told_faulty : (why : Trouble) (fault : Fault) (r : Reply) → why ≡ trouble.Faulty fault
+reported_faulty : (why : Trouble) (fault : Fault) (r : Reply) → why ≡ trouble.Faulty fault
     → r ≡ reply_of_save (Err why) → is_fault r ≡ true
-told_faulty why fault r e is = ap is_fault (is ∙ ap (λ w. reply_of_save (Err w)) e)
+reported_faulty why fault r e is = ap is_fault (is ∙ ap (λ w. reply_of_save (Err w)) e)
 
 -- What is known of a step and its answer.
 record Stepped {D : Type 0} (b : BookView D) (x : Step) (r : Reply) (c : BookView D)
     : Type 0 where
   pub session : c.session ≡ after_step b.session x
-  pub is_told : is_fault r ≡ false → r ≡ reply_of_step b.session x
+  pub is_reported : is_fault r ≡ false → r ≡ reply_of_step b.session x
   pub saved : is_fault r ≡ false → IsSaving (asked.Step x) → c.durable ≡ c.session.state.count
   pub saving : is_fault r ≡ true → IsSaving (asked.Step x)
   pub kept : is_fault r ≡ true → c.session ≡ b.session
@@ -50,29 +50,29 @@ module _ {D : Type 0} (state : D → DiskState) (b c : BookView D) where
   took : (x : Step) (r : Reply) → Takes b x r c → is_fault (reply_of_step b.session x) ≡ false
       → (IsSaving (asked.Step x) → ⊥) → Stepped b x r c
   took x r takes none other =
-      let fine = ap is_fault takes.told ∙ none in
+      let fine = ap is_fault takes.reported ∙ none in
       record {
         session = ap (λ (h : BookView D). h.session) takes.taken;
-        is_told = λ h. takes.told;
+        is_reported = λ h. takes.reported;
         saved = λ h saving. absurd (other saving);
         saving = λ faulty. absurd (true_false (is_fault r) faulty fine);
         kept = λ faulty. absurd (true_false (is_fault r) faulty fine);
       }
 
-  save_told : (result : Result ℕ Trouble) (r : Reply) → b.journal.broken ≡ false
+  save_reported : (result : Result ℕ Trouble) (r : Reply) → b.journal.broken ≡ false
       → r ≡ reply_of_save result → Saves state b result c → is_fault r ≡ false
       → (r ≡ answered.Acked b.session.state.count) × (c.durable ≡ c.session.state.count)
-  save_told (Ok n) r sound is saves fine = (
+  save_reported (Ok n) r sound is saves fine = (
     is ∙ ap answered.Acked saves.answer.counted,
     saves.answer.durable ∙ saves.answer.counted
         ∙ ap (λ (s : Session). s.state.count) (sym saves.session),
   )
-  save_told (Err why) r sound is saves fine = elim saves.answer [
+  save_reported (Err why) r sound is saves fine = elim saves.answer [
     | inl refused ↦ absurd (true_false b.journal.broken refused.was sound)
     | inr (inl spent) ↦
-        absurd (true_false (is_fault r) (told_faulty why _ r spent.told is) fine)
+        absurd (true_false (is_fault r) (reported_faulty why _ r spent.reported is) fine)
     | inr (inr failed) ↦
-        absurd (true_false (is_fault r) (told_faulty why _ r failed.told is) fine)
+        absurd (true_false (is_fault r) (reported_faulty why _ r failed.reported is) fine)
   ]
 
   saved : (x : Step) (result : Result ℕ Trouble) (r : Reply) → b.journal.broken ≡ false
@@ -81,8 +81,8 @@ module _ {D : Type 0} (state : D → DiskState) (b c : BookView D) where
       → after_step b.session x ≡ b.session → IsSaving (asked.Step x) → Stepped b x r c
   saved x result r sound is saves answer same saving = record {
     session = saves.session ∙ sym same;
-    is_told = λ fine. (save_told result r sound is saves fine).0 ∙ sym answer;
-    saved = λ fine h. (save_told result r sound is saves fine).1;
+    is_reported = λ fine. (save_reported result r sound is saves fine).0 ∙ sym answer;
+    saved = λ fine h. (save_reported result r sound is saves fine).1;
     saving = λ faulty. saving;
     kept = λ faulty. saves.session;
   }
@@ -95,10 +95,10 @@ module _ {D : Type 0} (state : D → DiskState) (b c : BookView D) where
       took step.Start r takes (no_fault answered.Started _ (λ a. refl)) (λ h. h)
   stepped (step.Finish n outcome) r sound takes =
       took (step.Finish n outcome) r takes (no_fault answered.Finished _ (λ a. refl)) (λ h. h)
-  stepped step.Flush r sound tells =
-      saved step.Flush tells.result r sound tells.told tells.saves.saves refl refl tt
-  stepped step.Checkpoint r sound tells =
-      saved step.Checkpoint tells.result r sound tells.told tells.saves.saves refl refl tt
+  stepped step.Flush r sound reports =
+      saved step.Flush reports.result r sound reports.reported reports.saves.saves refl refl tt
+  stepped step.Checkpoint r sound reports =
+      saved step.Checkpoint reports.result r sound reports.reported reports.saves.saves refl refl tt
 
 module _ {D : Type 0} (state : D → DiskState) (b c : BookView D) (x : Step) (r : Reply)
     (sound : b.journal.broken ≡ false) (one : AnswersStep state b x r c) where
@@ -115,7 +115,7 @@ module _ {D : Type 0} (state : D → DiskState) (b c : BookView D) (x : Step) (r
       → Answers state (asked.Step x) result b c
   step_answers (Ok reply) on lasts is fine fault faulty = record {
     taken = takes_one state r one on fine;
-    replied = is ∙ ap (λ y. printed.Step y ∷ []) (known.is_told fine);
+    replied = is ∙ ap (λ y. printed.Step y ∷ []) (known.is_reported fine);
     session = known.session;
     saved = known.saved fine;
     sound = row_sound state b c (x ∷ []) (r ∷ []) sound
@@ -134,8 +134,8 @@ save_faulty : {D : Type 0} (state : D → DiskState) (b c : BookView D) (why : T
     → is_fault (reply_of_save (Err why)) ≡ true
 save_faulty state b c why sound saves = elim saves.answer [
   | inl refused ↦ absurd (true_false b.journal.broken refused.was sound)
-  | inr (inl spent) ↦ told_faulty why _ _ spent.told refl
-  | inr (inr failed) ↦ told_faulty why _ _ failed.told refl
+  | inr (inl spent) ↦ reported_faulty why _ _ spent.reported refl
+  | inr (inr failed) ↦ reported_faulty why _ _ failed.reported refl
 ]
 
 -- So its reply is that of the step.
@@ -159,7 +159,7 @@ pub takes_answers : {D : Type 0} (state : D → DiskState) (b c : BookView D) (x
     → Answers state (asked.Step x) (Ok (Some (printed.Step r))) b c
 takes_answers state b c x r sound one on lasts none takes =
     step_answers state b c x r sound one (Ok (Some (printed.Step r))) on lasts refl
-    (ap is_fault (takes (as_sound state b c x r sound one)).told ∙ none) tt tt
+    (ap is_fault (takes (as_sound state b c x r sound one)).reported ∙ none) tt tt
 
 module _ {D : Type 0} (state : D → DiskState) (b c : BookView D) (r : Reply)
     (sound : b.journal.broken ≡ false) (on : CarriesOn state b c)

@@ -10,7 +10,7 @@ use Rattle.run_model.specs.Questions.{look_of}
 use Rattle.run_model.specs.State.{State, scope_named}
 use Rattle.run_model.specs.Texts.{IsName, IsText}
 use Rattle.run_disk.specs.Disk.{DiskState}
-use Rattle.run_session.specs.declared.questions.LookView.{LookView}
+use Rattle.run_session.specs.declared.questions.ScopeStatusRef.{ScopeStatusRef}
 use Rattle.run_session.specs.Shown.{ending_of, shown_by}
 use Rattle.book_model.specs.Books.{BookView}
 use Rattle.console_lines.specs.declared.line_requests.LineRequest.TheVariants as asked
@@ -22,7 +22,7 @@ use Rattle.console_lines.specs.Script.{scope_reply}
 use Rattle.console_lines.proofs.ScopeLines.{asks_scope}
 use Rattle.run_console.specs.ScopeQuestions.{IsAsked}
 use Rattle.run_console.specs.RunProgress.{Does}
-use Rattle.run_console.proofs.Doing.{does_none, said_of}
+use Rattle.run_console.proofs.Doing.{does_none, printed_of}
 
 -- It leaves the book, and has one reply.
 pub looks : {D : Type 0} (state : D → DiskState)
@@ -31,9 +31,9 @@ pub looks : {D : Type 0} (state : D → DiskState)
     → p ≡ b.session.state
     → Does state (asked.Scope name) b b (scope_reply p name ∷ [])
 looks state b p name sound same =
-    does_none refl refl (λ h. h) sound (said_of (λ (q : State). scope_reply q name) same refl)
+    does_none refl refl (λ h. h) sound (printed_of (λ (q : State). scope_reply q name) same refl)
 
-seen : (p : State) (line name : List ℕ) (view : LookView) (o : Option Look)
+seen : (p : State) (line name : List ℕ) (view : ScopeStatusRef) (o : Option Look)
     → request_of line ≡ asked.Scope name
     → option_and_then (λ s. look_of p s) (scope_named p.tree name) ≡ o
     → Some (shown_by view) ≡ option_map (λ look. (look.done, look.deadline)) o
@@ -50,7 +50,7 @@ seen p line name view (Some look) asks there shows text = record {
 }
 
 -- What a state shows of a scope that is found by the word after `scope `.
-pub looked : (p : State) (line name : List ℕ) (n : ℕ) (r : Option LookView)
+pub looked : (p : State) (line name : List ℕ) (n : ℕ) (r : Option ScopeStatusRef)
     → scope_word line ≡ Some name
     → IsName name
     → scope_named p.tree name ≡ Some n
@@ -63,13 +63,13 @@ looked p line name n (Some view) word is there shows text =
     (ap (option_and_then (λ s. look_of p s)) there) shows text
 
 -- It is the reply.
-pub asked_reply : (p : State) (line : List ℕ) (view : LookView) (it : IsAsked p line view)
+pub asked_reply : (p : State) (line : List ℕ) (view : ScopeStatusRef) (it : IsAsked p line view)
     → scope_reply p it.name ≡ printed.Scope it.look
 asked_reply p line view it =
     ap (λ o. option_map_or (λ x. printed.Scope x) o (printed.Refused refusal.NoSuchScope)) it.there
 
 -- What is buffered is this reply.
-pub view_line : (p : State) (line : List ℕ) (view : LookView) (it : IsAsked p line view)
+pub view_line : (p : State) (line : List ℕ) (view : ScopeStatusRef) (it : IsAsked p line view)
     → scope_text (option_map ending_of view.done) view.deadline ++ 10 ∷ []
     ≡ reply_lines (scope_reply p it.name ∷ [])
 view_line p line view it =

@@ -16,7 +16,7 @@ use Rattle.run_console.proofs.Woven.{timed_is}
 abbrev pub to_give : (ready : List ℕ) → (is_asked : Bool) → ℕ → (line bytes : List ℕ)
     → Option (List ℕ) → Option (List ℕ)
 to_give ready is_asked latest line bytes known =
-    option_map (λ told. ready ++ left_of is_asked latest told line bytes) known
+    option_map (λ reported. ready ++ left_of is_asked latest reported line bytes) known
 
 -- ---- a byte that is no LF
 
@@ -34,12 +34,12 @@ pub takes_more : (known : Option (List ℕ)) (ready more line next : List ℕ) (
     → Keeps (to_give ready true latest line (b ∷ bytes) known)
     (to_give more true latest next bytes known)
 takes_more None ready more line next latest b bytes other e n = tt
-takes_more (Some told) ready more line next latest b bytes other e n =
-    let on = woven latest told (kept (line ++ b ∷ [])) bytes in
-    let lf = 10 ∷ (advance_text (latest_after latest line) told
-    ++ woven (moved (latest_after latest line) told) (drop 1 told) [] bytes) in
-    ap (λ t. t ++ woven latest told next bytes) e
-    ∙ ap (λ l. (ready ++ b ∷ []) ++ woven latest told l bytes) n
+takes_more (Some reported) ready more line next latest b bytes other e n =
+    let on = woven latest reported (kept (line ++ b ∷ [])) bytes in
+    let lf = 10 ∷ (advance_text (latest_after latest line) reported
+    ++ woven (moved (latest_after latest line) reported) (drop 1 reported) [] bytes) in
+    ap (λ t. t ++ woven latest reported next bytes) e
+    ∙ ap (λ l. (ready ++ b ∷ []) ++ woven latest reported l bytes) n
     ∙ append_assoc ready (b ∷ []) on
     ∙ ap (λ t. ready ++ t) (sym (longer (b == 10) b lf on other))
 
@@ -63,11 +63,11 @@ pub begins : (known moments : Option (List ℕ)) (ready : List ℕ) (is_asked : 
     → is_asked ≡ false
     → line ≡ []
     → option_and_then (λ bytes. to_give ready is_asked latest line bytes moments) known
-    ≡ option_and_then (λ bytes. option_map (λ told. timed latest told bytes) moments) known
+    ≡ option_and_then (λ bytes. option_map (λ reported. timed latest reported bytes) moments) known
 begins None moments ready is_asked latest line r a l = refl
 begins (Some bytes) None ready is_asked latest line r a l = refl
-begins (Some bytes) (Some told) ready is_asked latest line r a l =
-    ap (λ t. Some (t ++ left_of is_asked latest told line bytes)) r
-    ∙ ap (λ t. Some (left_of t latest told line bytes)) a
-    ∙ ap (λ t. Some (left_of false latest told t bytes)) l
-    ∙ ap Some (sym (timed_is latest told bytes))
+begins (Some bytes) (Some reported) ready is_asked latest line r a l =
+    ap (λ t. Some (t ++ left_of is_asked latest reported line bytes)) r
+    ∙ ap (λ t. Some (left_of t latest reported line bytes)) a
+    ∙ ap (λ t. Some (left_of false latest reported t bytes)) l
+    ∙ ap Some (sym (timed_is latest reported bytes))

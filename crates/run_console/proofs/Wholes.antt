@@ -68,27 +68,27 @@ few_lines begun (x ∷ bytes) =
     grind (arith, few_lines [] bytes, few_lines (begun ++ x ∷ []) bytes)
 
 -- The lines up to some LF of a part, after those before it.
-lines_up_to : (xs front : List ℕ)
-    → lines_of (xs ++ front) ≡ whole_lines [] xs ++ lines_to (open_line [] xs) front
-lines_up_to xs front =
-    ap (λ l. l ++ open_line [] (xs ++ front) ∷ []) (whole_lines-append [] xs front)
-    ∙ ap (λ l. (whole_lines [] xs ++ whole_lines (open_line [] xs) front) ++ l ∷ [])
-    (open_line-append [] xs front)
-    ∙ append_assoc (whole_lines [] xs) (whole_lines (open_line [] xs) front)
-    (open_line (open_line [] xs) front ∷ [])
+lines_up_to : (xs prefix : List ℕ)
+    → lines_of (xs ++ prefix) ≡ whole_lines [] xs ++ lines_to (open_line [] xs) prefix
+lines_up_to xs prefix =
+    ap (λ l. l ++ open_line [] (xs ++ prefix) ∷ []) (whole_lines-append [] xs prefix)
+    ∙ ap (λ l. (whole_lines [] xs ++ whole_lines (open_line [] xs) prefix) ++ l ∷ [])
+    (open_line-append [] xs prefix)
+    ∙ append_assoc (whole_lines [] xs) (whole_lines (open_line [] xs) prefix)
+    (open_line (open_line [] xs) prefix ∷ [])
 
 -- An input up to some LF, and what comes after it.
-around : (xs part front behind : List ℕ)
-    → part ≡ front ++ 10 ∷ behind
-    → xs ++ part ≡ (xs ++ front) ++ 10 ∷ behind
-around xs part front behind e =
-    ap (λ t. xs ++ t) e ∙ sym (append_assoc xs front (10 ∷ behind))
+around : (xs part prefix behind : List ℕ)
+    → part ≡ prefix ++ 10 ∷ behind
+    → xs ++ part ≡ (xs ++ prefix) ++ 10 ∷ behind
+around xs part prefix behind e =
+    ap (λ t. xs ++ t) e ∙ sym (append_assoc xs prefix (10 ∷ behind))
 
 -- Of a part that was read at once little comes after an LF.
-few_after : (part front behind : List ℕ)
-    → part ≡ front ++ 10 ∷ behind → length part ≤ 4096 → length behind < 4096
-few_after part front behind e h =
-    omega (arith, ap length e, length-append front (10 ∷ behind), h)
+few_after : (part prefix behind : List ℕ)
+    → part ≡ prefix ++ 10 ∷ behind → length part ≤ 4096 → length behind < 4096
+few_after part prefix behind e h =
+    omega (arith, ap length e, length-append prefix (10 ∷ behind), h)
 
 -- ---- a run that stops
 
@@ -140,21 +140,21 @@ stopped_so fault.InputTooLong left h = tt
 stopped_so fault.Output left h = tt
 
 -- The closing line was told after these lines.
-end_told : {D : Type 0} {state : D → DiskState} {b d : BookView D} {lines : List (List ℕ)}
+end_reported : {D : Type 0} {state : D → DiskState} {b d : BookView D} {lines : List (List ℕ)}
     {g : List ℕ} {w0 w2 w3 : Option (List ℕ)}
     → Ran state lines b d [] g w0 w2
     → Buffered (closing d.session) g [] w2 w3
     → Appends w0 w3 (replies b.session lines ++ closing (after_lines b.session lines))
-end_told {b} {d} {lines} {g} {w0} {w2} {w3} ran told =
+end_reported {b} {d} {lines} {g} {w0} {w2} {w3} ran reported =
     let P : List ℕ → Type 0 = λ x. Appends w0 w3 x in
     let end = closing d.session in
     let text : replies b.session lines ++ closing (after_lines b.session lines)
-    ≡ ran.out ++ told.out =
+    ≡ ran.out ++ reported.out =
     ap (λ t. replies b.session lines ++ closing t) (sym ran.session)
     ∙ ap (λ x. x ++ end) ran.replied
     ∙ append_assoc ran.out g end
-    ∙ ap (λ x. ran.out ++ x) (told.parts ∙ append-nil told.out) in
-    subst P (sym text) (appends_then w0 w2 w3 ran.out told.out ran.written told.written)
+    ∙ ap (λ x. ran.out ++ x) (reported.parts ∙ append-nil reported.out) in
+    subst P (sym text) (appends_then w0 w2 w3 ran.out reported.out ran.written reported.written)
 
 -- What stopped in the end.
 end_stops : {D : Type 0} (why : RunFault) (e : BookView D) (end g : List ℕ)
@@ -321,25 +321,25 @@ module _ {D : Type 0} {state : D → DiskState} {until : Until} where
   stops_in_a_part {bytes} {part} {b} {c} {r0} {r2} r1 read more within few so_far cut =
       let s = b.session in
       let all = bytes ++ part in
-      let front = bytes ++ cut.front in
+      let prefix = bytes ++ cut.prefix in
       let before = whole_lines [] bytes in
-      let here = whole_lines (open_line [] bytes) cut.front in
-      let line = open_line (open_line [] bytes) cut.front in
-      let up_to = lines_up_to bytes cut.front in
-      let rest = lines_after until s (before ++ here) line front cut.behind
+      let here = whole_lines (open_line [] bytes) cut.prefix in
+      let line = open_line (open_line [] bytes) cut.prefix in
+      let up_to = lines_up_to bytes cut.prefix in
+      let rest = lines_after until s (before ++ here) line prefix cut.behind
       (search_on until c.session here so_far.ran.session so_far.clean ∙ cut.none)
       (up_to ∙ sym (append_assoc before here (line ∷ []))) in
       let tried = cut_then so_far.ran cut.cut in
-      let is_first = around bytes part cut.front cut.behind cut.part_is in
+      let is_first = around bytes part cut.prefix cut.behind cut.part_is in
       stops_of all rest.0 (consumes_then r0 r1 r2 bytes part read more) within
       (ap (λ l. lines_until until s (lines_of l)) is_first ∙ rest.1
       ∙ ap (λ l. l ++ rest.0) (append_assoc before here (line ∷ []))) tried
       (λ none. rest.2 (before ++ (here ++ line ∷ [])) all r2 none (record {
-        front = front;
+        prefix = prefix;
         behind = cut.behind;
         bytes_are = is_first;
         lines_are = up_to;
-        few_after = few_after part cut.front cut.behind cut.part_is few;
+        few_after = few_after part cut.prefix cut.behind cut.part_is few;
       }))
 
   -- The lines of a part were run, and what was buffered for them is cut.
@@ -396,14 +396,14 @@ module _ {D : Type 0} {state : D → DiskState} {until : Until} where
       rejected =
       let s = b.session in
       let all = bytes ++ part in
-      let front = bytes ++ rejected.front in
+      let prefix = bytes ++ rejected.prefix in
       let first = whole_lines [] bytes in
-      let next = lines_to (open_line [] bytes) rejected.front in
-      let is_first = around bytes part rejected.front rejected.behind rejected.part_is in
+      let next = lines_to (open_line [] bytes) rejected.prefix in
+      let is_first = around bytes part rejected.prefix rejected.behind rejected.part_is in
       let P : List (List ℕ) → Type 0 = λ lines. Found until 1 s lines rejection in
       let Q : List (List ℕ) → Type 0 = λ lines. Ran state lines b d [] g w0 w2 in
-      let lines = lines_up_to bytes rejected.front in
-      let both = ends_first until all front rejected.behind is_first (subst P (sym lines)
+      let lines = lines_up_to bytes rejected.prefix in
+      let both = ends_first until all prefix rejected.behind is_first (subst P (sym lines)
       (found_then until so_far.ran.session so_far.clean rejected.found)) in
       record {
         bytes = all;
@@ -411,11 +411,11 @@ module _ {D : Type 0} {state : D → DiskState} {until : Until} where
         rejection_is = sym both.0;
         read_for =
             read_first until 1 s (lines_of all) rejection both.0 _ all r2 (record {
-              front = front;
+              prefix = prefix;
               behind = rejected.behind;
               bytes_are = is_first;
               lines_are = sym both.1;
-              few_after = few_after part rejected.front rejected.behind rejected.part_is few;
+              few_after = few_after part rejected.prefix rejected.behind rejected.part_is few;
             });
         ended = λ e. absurd (grind (arith, e));
         within = within;
@@ -508,7 +508,7 @@ module _ {D : Type 0} {state : D → DiskState} {until : Until} where
         within = ran.within;
         session = same ∙ ran.ran.session;
         taken = takes_join state ran.ran.taken closes.taken;
-        written = end_told ran.ran closes.told;
+        written = end_reported ran.ran closes.reported;
         saved = closes.saved;
       }
 

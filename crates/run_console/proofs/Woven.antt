@@ -32,16 +32,16 @@ further_first : (latest : ℕ) (moments : List ℕ) (xs : List (List ℕ)) (y : 
 further_first latest moments [] y = refl
 further_first latest moments (x ∷ xs) y = refl
 
-none_told : (latest : ℕ) (xs : List (List ℕ)) (y : List ℕ)
+none_reported : (latest : ℕ) (xs : List (List ℕ)) (y : List ℕ)
     → first_timed latest [] (xs ++ y ∷ []) ≡ xs ++ y ∷ []
-none_told latest [] y = refl
-none_told latest (x ∷ xs) y = refl
+none_reported latest [] y = refl
+none_reported latest (x ∷ xs) y = refl
 
-one_told : (latest moment : ℕ) (moments : List ℕ) (xs : List (List ℕ)) (y : List ℕ)
+one_reported : (latest moment : ℕ) (moments : List ℕ) (xs : List (List ℕ)) (y : List ℕ)
     → timed_lines latest (moment ∷ moments) (xs ++ y ∷ [])
     ≡ advance_to latest moment ++ first_timed (max latest moment) moments (xs ++ y ∷ [])
-one_told latest moment moments [] y = refl
-one_told latest moment moments (x ∷ xs) y = refl
+one_reported latest moment moments [] y = refl
+one_reported latest moment moments (x ∷ xs) y = refl
 
 no_lines : (latest : ℕ) (moments : List ℕ) → timed_lines latest moments [] ≡ []
 no_lines latest [] = refl
@@ -70,8 +70,8 @@ before_input false moment lines text h e = e
 
 -- The lines after an LF, where those after it without their advance are known.
 behind : (latest : ℕ) (moments bytes : List ℕ)
-    → ((l : ℕ) (told : List ℕ)
-    → input_of (first_timed l told (lines_of bytes)) ≡ woven l told [] bytes)
+    → ((l : ℕ) (reported : List ℕ)
+    → input_of (first_timed l reported (lines_of bytes)) ≡ woven l reported [] bytes)
     → further (timed_lines latest moments (lines_of bytes))
     ≡ 10 ∷ (advance_text latest moments
     ++ woven (moved latest moments) (drop 1 moments) [] bytes)
@@ -79,12 +79,12 @@ behind latest [] bytes h =
     let xs = whole_lines [] bytes in
     let y = open_line [] bytes in
     further_all xs y
-    ∙ ap (λ t. 10 ∷ t) (ap input_of (sym (none_told latest xs y)) ∙ h latest [])
+    ∙ ap (λ t. 10 ∷ t) (ap input_of (sym (none_reported latest xs y)) ∙ h latest [])
 behind latest (moment ∷ moments) bytes h =
     let xs = whole_lines [] bytes in
     let y = open_line [] bytes in
     let l = max latest moment in
-    ap further (one_told latest moment moments xs y)
+    ap further (one_reported latest moment moments xs y)
     ∙ before_further (nat_lt latest moment) moment (first_timed l moments (xs ++ y ∷ []))
     (woven l moments [] bytes)
     (further_first l moments xs y ∙ ap (λ t. 10 ∷ t) (h l moments))
@@ -109,8 +109,8 @@ kept_on begun line b e = elim (cases_lt (length begun) (LONGEST_LINE + 1)) [
 -- An LF ends the line that was begun.
 line_ends : (latest : ℕ) (moments begun line bytes : List ℕ)
     → begun ≡ kept line
-    → ((l : ℕ) (told : List ℕ)
-    → input_of (first_timed l told (lines_of bytes)) ≡ woven l told [] bytes)
+    → ((l : ℕ) (reported : List ℕ)
+    → input_of (first_timed l reported (lines_of bytes)) ≡ woven l reported [] bytes)
     → line ++ further (timed_lines (latest_after latest line) moments (lines_of bytes))
     ≡ line ++ 10 ∷ (advance_text (latest_after latest begun) moments
     ++ woven (moved (latest_after latest begun) moments) (drop 1 moments) [] bytes)
@@ -150,7 +150,7 @@ woven_from latest moments begun line [] e =
 woven_from latest moments begun line (b ∷ bytes) e =
     by_byte (b == 10) latest moments begun line bytes b
     (line_ends latest moments begun line bytes e
-    (λ l told. woven_from l told [] [] bytes refl))
+    (λ l reported. woven_from l reported [] [] bytes refl))
     (woven_from latest moments (kept (begun ++ b ∷ [])) (line ++ b ∷ []) bytes
     (kept_on begun line b e))
 
@@ -160,12 +160,12 @@ pub timed_is : (latest : ℕ) (moments bytes : List ℕ)
 timed_is latest [] bytes =
     let xs = whole_lines [] bytes in
     let y = open_line [] bytes in
-    ap input_of (sym (none_told latest xs y)) ∙ woven_from latest [] [] [] bytes refl
+    ap input_of (sym (none_reported latest xs y)) ∙ woven_from latest [] [] [] bytes refl
 timed_is latest (moment ∷ moments) bytes =
     let xs = whole_lines [] bytes in
     let y = open_line [] bytes in
     let l = max latest moment in
-    ap input_of (one_told latest moment moments xs y)
+    ap input_of (one_reported latest moment moments xs y)
     ∙ before_input (nat_lt latest moment) moment (first_timed l moments (xs ++ y ∷ []))
     (woven l moments [] bytes) (further_first l moments xs y)
     (woven_from l moments [] [] bytes refl)

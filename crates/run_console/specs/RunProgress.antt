@@ -26,7 +26,7 @@ use Rattle.console_lines.specs.declared.rejections.RejectedLine.{RejectedLine}
 use Rattle.console_lines.specs.declared.rejections.Rejection.{Rejection}
 use Rattle.console_lines.specs.LineRequests.{request_of}
 use Rattle.console_lines.specs.Lines.{whole_lines, open_line, lines_of}
-use Rattle.console_lines.specs.Progress.{IsFront, WritesPart, kept}
+use Rattle.console_lines.specs.Progress.{IsPrefix, WritesPart, kept}
 use Rattle.console_lines.specs.Replies.{reply_line, reply_text, step_text}
 use Rattle.console_lines.specs.Strict.{ends_in_return, rejection_at, rejection_of}
 use Rattle.console_lines.specs.Script.{after_asked, after_line, after_lines, closing, replies}
@@ -46,8 +46,8 @@ Lasts b c = Stays b.state c.state
 -- After a text that was written, a prefix of the line of a trouble was written.
 abbrev pub WritesTrouble : Trouble → List ℕ → Option (List ℕ) → Option (List ℕ) → Type 0
 WritesTrouble why text old new =
-    (front : List ℕ) × IsFront front (reply_line (printed.Failed why))
-    × Appends old new (text ++ front)
+    (prefix : List ℕ) × IsPrefix prefix (reply_line (printed.Failed why))
+    × Appends old new (text ++ prefix)
 
 -- ---- a whole input, by what the reader had left and what the writer had taken
 
@@ -169,9 +169,9 @@ no_rejection (Err why) = Err why
 
 -- What was written of the line of a trouble: a prefix of it if the store stopped the run, and
 -- otherwise nothing.
-abbrev pub IsTold : RunFault → List ℕ → Type 0
-IsTold (fault.Store why) told = IsFront told (reply_line (printed.Failed why))
-IsTold _ told = told ≡ []
+abbrev pub IsReported : RunFault → List ℕ → Type 0
+IsReported (fault.Store why) reported = IsPrefix reported (reply_line (printed.Failed why))
+IsReported _ reported = reported ≡ []
 
 -- What was written for an input that should have been run as a whole is a prefix of its script. It
 -- is a prefix of the replies to the lines that an LF ended, or, if the input was read to its end,
@@ -181,12 +181,12 @@ pub record BeginsScript
     : Type 0 where
   pub bytes : List ℕ
   pub read : Consumes r0 r1 bytes
-  pub front : List ℕ
-  pub begins : IsFront front (replies b (whole_lines [] bytes))
-      ⊎ (IsAtEnd r1 × IsFront front (script b bytes))
-  pub told : List ℕ
-  pub trouble : IsTold why told
-  pub written : Appends w0 w1 (front ++ told)
+  pub prefix : List ℕ
+  pub begins : IsPrefix prefix (replies b (whole_lines [] bytes))
+      ⊎ (IsAtEnd r1 × IsPrefix prefix (script b bytes))
+  pub reported : List ℕ
+  pub trouble : IsReported why reported
+  pub written : Appends w0 w1 (prefix ++ reported)
 
 -- ---- one line
 
@@ -343,7 +343,7 @@ Troubled _ trouble before w0 w1 = ⊥
 pub record Closes {D : Type 0} (state : D → DiskState) (b c : BookView D) (before : List ℕ)
     (w0 w1 : Option (List ℕ))
     : Type 0 where
-  pub told : Buffered (closing b.session) before [] w0 w1
+  pub reported : Buffered (closing b.session) before [] w0 w1
   pub taken : TakesAll state b (step.Flush ∷ []) c
   pub saved : IsSaved c
 
@@ -374,8 +374,8 @@ pub record Found (until : Until) (n : ℕ) (s : Session) (lines : List (List ℕ
 
 -- The lines of a part up to some LF: those that end in this prefix of it, and the one that this LF
 -- ends.
-abbrev pub lines_to : (begun front : List ℕ) → List (List ℕ)
-lines_to begun front = whole_lines begun front ++ open_line begun front ∷ []
+abbrev pub lines_to : (begun prefix : List ℕ) → List (List ℕ)
+lines_to begun prefix = whole_lines begun prefix ++ open_line begun prefix ∷ []
 
 -- The lines that an LF ends were run, none of them ends the run, and this is kept of the line that
 -- is begun.
@@ -392,11 +392,11 @@ pub record PartRejected {D : Type 0} (state : D → DiskState) (until : Until)
     (rejection : RejectedLine) (n : ℕ) (begun part : List ℕ) (b c : BookView D)
     (before buffer : List ℕ) (w0 w1 : Option (List ℕ))
     : Type 0 where
-  pub front : List ℕ
+  pub prefix : List ℕ
   pub behind : List ℕ
-  pub part_is : part ≡ front ++ 10 ∷ behind
-  pub ran : Ran state (lines_to begun front) b c before buffer w0 w1
-  pub found : Found until n b.session (lines_to begun front) rejection
+  pub part_is : part ≡ prefix ++ 10 ∷ behind
+  pub ran : Ran state (lines_to begun prefix) b c before buffer w0 w1
+  pub found : Found until n b.session (lines_to begun prefix) rejection
 
 -- One of these two.
 abbrev pub PartRuns :
@@ -413,11 +413,11 @@ pub record PartCut {D : Type 0} (state : D → DiskState) (until : Until)
     (why : RunFault) (n : ℕ) (begun part : List ℕ) (b c : BookView D) (before : List ℕ)
     (w0 w1 : Option (List ℕ))
     : Type 0 where
-  pub front : List ℕ
+  pub prefix : List ℕ
   pub behind : List ℕ
-  pub part_is : part ≡ front ++ 10 ∷ behind
-  pub none : rejection_until until n b.session (whole_lines begun front) ≡ None
-  pub cut : Cut state why (lines_to begun front) b c before w0 w1
+  pub part_is : part ≡ prefix ++ 10 ∷ behind
+  pub none : rejection_until until n b.session (whole_lines begun prefix) ≡ None
+  pub cut : Cut state why (lines_to begun prefix) b c before w0 w1
 
 -- ---- an input, of which no line has a number yet
 

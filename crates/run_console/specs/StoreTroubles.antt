@@ -15,28 +15,28 @@ DeviceFails state old new =
     ⊎ ((state new.journal.disk).clock ≡ last_moment)
 
 -- The trouble is that no generation is left for a checkpoint, and the book isn't broken.
-pub record TellsSpent {D : Type 0} (why : Trouble) (new : BookView D) : Type 0 where
-  pub told : why ≡ Faulty NumbersSpent
+pub record ReportsSpent {D : Type 0} (why : Trouble) (new : BookView D) : Type 0 where
+  pub reported : why ≡ Faulty NumbersSpent
   pub sound : new.journal.broken ≡ false
   pub last : new.journal.generation ≡ 2 ^ 63 - 1
 
 -- The trouble is that a device call has failed since then, or that the disk is spent, and the book
 -- is broken.
-pub record TellsFailed {D : Type 0} (state : D → DiskState) (old : BookView D) (why : Trouble)
+pub record ReportsFailed {D : Type 0} (state : D → DiskState) (old : BookView D) (why : Trouble)
     (new : BookView D) : Type 0 where
-  pub told : why ≡ Faulty DiskFailed
+  pub reported : why ≡ Faulty DiskFailed
   pub broken : new.journal.broken ≡ true
   pub cause : DeviceFails state old new
 
 -- The trouble is one of these two.
-abbrev pub Tells : {D : Type 0} → (D → DiskState) → BookView D → Trouble → BookView D → Type 0
-Tells state old why new = TellsSpent why new ⊎ TellsFailed state old why new
+abbrev pub Reports : {D : Type 0} → (D → DiskState) → BookView D → Trouble → BookView D → Type 0
+Reports state old why new = ReportsSpent why new ⊎ ReportsFailed state old why new
 
 -- What a fault that stopped a run over a book that wasn't broken says about its store. A fault of
 -- the store gives its trouble. If the writer failed and the book is broken, the book had a trouble,
 -- too, whose line wasn't written. After any other fault the book isn't broken.
 abbrev pub Accounts :
     {D : Type 0} → (D → DiskState) → BookView D → RunFault → BookView D → Type 0
-Accounts state old (fault.Store why) new = Tells state old why new
+Accounts state old (fault.Store why) new = Reports state old why new
 Accounts state old fault.Output new = new.journal.broken ≡ true → DeviceFails state old new
 Accounts state old _ new = new.journal.broken ≡ false

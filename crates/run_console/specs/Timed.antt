@@ -53,4 +53,4 @@ timed latest moments bytes = input_of (timed_lines latest moments (lines_of byte
 -- The same, if the moments and the input are known.
 abbrev pub timed_known : ℕ → (moments bytes : Option (List ℕ)) → Option (List ℕ)
 timed_known latest moments bytes =
-    option_and_then (λ known. option_map (λ told. timed latest told known) moments) bytes
+    option_and_then (λ known. option_map (λ reported. timed latest reported known) moments) bytes

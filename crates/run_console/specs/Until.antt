@@ -24,10 +24,10 @@ lines_until FirstRejection s lines = strict_lines s lines
 -- What was read begins with these lines, with an LF after the last of them, and fewer bytes than
 -- this were read after it.
 pub record StandsFirst (lines : List (List ℕ)) (bytes : List ℕ) (few : ℕ) : Type 0 where
-  pub front : List ℕ
+  pub prefix : List ℕ
   pub behind : List ℕ
-  pub bytes_are : bytes ≡ front ++ 10 ∷ behind
-  pub lines_are : lines_of front ≡ lines
+  pub bytes_are : bytes ≡ prefix ++ 10 ∷ behind
+  pub lines_are : lines_of prefix ≡ lines
   pub few_after : length behind < few
 
 -- What was read for these lines: the whole input. If a rejected line ends the run, the input may

@@ -38,7 +38,8 @@ left_of false latest moments begun bytes =
 -- that it passes on for them.
 abbrev pub left_in : {C : Type 0} → (C → Option (List ℕ)) → Weave C → List ℕ → Option (List ℕ)
 left_in moments w bytes =
-    option_map (λ told. w.ready.items ++ left_of w.is_asked w.latest told w.line.items bytes)
+    option_map (λ reported. w.ready.items ++ left_of w.is_asked w.latest reported w.line.items
+    bytes)
     (moments w.clock)
 
 -- The rest of an input; none after its end.

@@ -30,7 +30,7 @@ use console_lines::{
 use run_book::Book;
 use run_disk::RunDisk;
 use run_model::{Refusal, Step, Trouble};
-use run_session::{LookView, State};
+use run_session::{ScopeStatusRef, State};
 use std::alloc::Allocator;
 use std::io::Write;
 
@@ -106,7 +106,7 @@ pub fn run_line<A: Allocator + Copy, W: Write, D: RunDisk, B: Allocator>(
         (W.contents output.old) (W.contents output.new) }
 {
     if bytes.starts_with(b"s")
-        && let Some(LookView { done, deadline }) = scope_asked(bytes, book.state())
+        && let Some(ScopeStatusRef { done, deadline }) = scope_asked(bytes, book.state())
     {
         make_room(buffer, output)?;
         append_scope(done, deadline, buffer);
@@ -183,11 +183,11 @@ fn run_request<A: Allocator + Copy, W: Write, D: RunDisk, B: Allocator>(
 
 /// The status of the scope that a line asks about, lent by the state, if there is such a scope.
 /// This is the most frequent request, so neither the name nor the cause is copied.
-fn scope_asked<'a, B: Allocator>(line: &[u8], state: &'a State<B>) -> Option<LookView<'a>>
+fn scope_asked<'a, B: Allocator>(line: &[u8], state: &'a State<B>) -> Option<ScopeStatusRef<'a>>
     ensures { IfSome result (λ view. IsAsked state.now line.now view) }
 {
     let scope = state.find_bytes(scope_word(line)?)?;
-    state.look_view(scope)
+    state.scope_status(scope)
 }
 
 /// Why this reply rejects its line, if it does.

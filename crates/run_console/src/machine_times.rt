@@ -1,7 +1,7 @@
 //! A [`MachineTime`] is a clock of the machine.
 
 ghost use Rattle.std.specs.Prelude.{List, None, Option, Some, ℕ};
-ghost use Rattle.run_console.specs.Times.{TellsNext};
+ghost use Rattle.run_console.specs.Times.{ReportsNext};
 
 use run_model::Moment;
 
@@ -13,7 +13,7 @@ pub trait MachineTime {
 
     /// The current moment, and `None` if it is unknown or out of range.
     fn now(&mut self) -> Option<Moment>
-        ensures { TellsNext (moments self.old) (moments self.new) result };
+        ensures { ReportsNext (moments self.old) (moments self.new) result };
 }
 
 impl MachineTime for &[Moment] {

@@ -246,15 +246,15 @@ module _ {A : Type 0} (step : A → Call → A → Type 0) where
       → had ≡ jobs → answered ≡ Some started → answer ≡ Ok event
       → after ≡ notes ++ record { event = event; task = started.info.task; outcome = how } ∷ []
       → Went step (IsBegun answered) a b → Went step (λ calls. IsRun had started.info calls how) b c
-      → step c (call.Finish started.info.task how answer) d → step e (call.Ring event) f
-      → step d (call.Tell started.info.task) e → Went step (TakesTask jobs true notes after) a f
+      → step c (call.Finish started.info.task how answer) d → step e (call.Wake event) f
+      → step d (call.Report started.info.task) e → Went step (TakesTask jobs true notes after) a f
   finished jobs had answered started how answer event notes after a b c d e f same some is
-      noted first behind finish ring tell =
+      noted first behind finish wake report =
       let begun = subst (λ s. Went step (IsBegun s) a b) some first in
       let run = subst (λ n. Went step (λ calls. IsRun n started.info calls how) b c) same behind in
       let task = started.info.task in
       let last : List Call =
-      call.Finish task how (Ok event) ∷ call.Tell task ∷ call.Ring event ∷ [] in (
+      call.Finish task how (Ok event) ∷ call.Report task ∷ call.Wake event ∷ [] in (
         task_calls started begun.1.0 run.0 last,
         (
           record { event = event; task = task; outcome = how },
@@ -264,7 +264,7 @@ module _ {A : Type 0} (step : A → Call → A → Type 0) where
         run_and started begun.1.0 begun.0 run.0 last a b c f begun.1.2 begun.2 run.2 (
           d,
           subst (λ x. step c (call.Finish task how x) d) is finish,
-          (e, tell, (f, ring, refl)),
+          (e, report, (f, wake, refl)),
         ),
       )
 

@@ -9,13 +9,13 @@ use Rattle.run_crew.specs.Nights.{OfDesk}
 use Rattle.run_crew.specs.Turns.{AreDone, WasDurable}
 
 pub starts_were_durable : {D J : Type 0} (state : D → DiskState) (lets : ℕ → ℕ → Bool → Type 0)
-    (told : ℕ → Type 0) (answers : J → List ℕ → Bool → Type 0)
+    (reported : ℕ → Type 0) (answers : J → List ℕ → Bool → Type 0)
     (turns : J → TaskInfo → ℕ → Bool → Turn → J → Type 0) (notes : List Note) (jobs : List J)
-    → AreDone answers turns (OfDesk state lets told) notes jobs
+    → AreDone answers turns (OfDesk state lets reported) notes jobs
     → All (λ note. WasDurable state note) notes
-starts_were_durable state lets told answers turns [] jobs are =
+starts_were_durable state lets reported answers turns [] jobs are =
     All-nil (λ note. WasDurable state note)
-starts_were_durable state lets told answers turns (note ∷ notes) jobs (left, is, are) =
+starts_were_durable state lets reported answers turns (note ∷ notes) jobs (left, is, are) =
     let desk = is.saved.0 in
     let was : WasDurable state note = record {
       started = is.started;
@@ -25,4 +25,4 @@ starts_were_durable state lets told answers turns (note ∷ notes) jobs (left, i
       durable = is.saved.1.1;
     } in
     All-cons (λ note. WasDurable state note) note notes was
-    (starts_were_durable state lets told answers turns notes left are)
+    (starts_were_durable state lets reported answers turns notes left are)

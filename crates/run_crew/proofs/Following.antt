@@ -73,8 +73,8 @@ one_follows before info (call.Handles place name answer) is same = tt
 one_follows before info (call.Gate task number answer) is same = tt
 one_follows before info (call.Scope task answer) is same = tt
 one_follows before info (call.Finish task how r) is same = tt
-one_follows before info (call.Tell task) is same = tt
-one_follows before info (call.Ring event) is same = tt
+one_follows before info (call.Report task) is same = tt
+one_follows before info (call.Wake event) is same = tt
 one_follows before info (call.Wait event r) is same = tt
 
 of_one_task : (before calls : List Call) (info : TaskInfo) → IsStarted before info
@@ -174,14 +174,14 @@ course_follows : (before : List Call) (jobs : ℕ) (calls : List Call) (note : N
     → IsCourse jobs calls note → EachFollows before calls
 course_follows before jobs calls note (started, durable, run, counted, is_run, task, is) =
     let finish : Call = call.Finish note.task note.outcome (Ok note.event) in
-    let tell : Call = call.Tell note.task in
-    let ring : Call = call.Ring note.event in
+    let report : Call = call.Report note.task in
+    let wake : Call = call.Wake note.event in
     subst (λ l. EachFollows before l) (sym is)
-    (task_follows before started durable run (finish ∷ tell ∷ ring ∷ []) counted
+    (task_follows before started durable run (finish ∷ report ∷ wake ∷ []) counted
     (run_of jobs started.info run note.outcome is_run)
-    (All-cons (IsOf started.info) finish (tell ∷ ring ∷ []) tt
-    (All-cons (IsOf started.info) tell (ring ∷ []) tt
-    (All-cons (IsOf started.info) ring [] tt (All-nil (IsOf started.info))))))
+    (All-cons (IsOf started.info) finish (report ∷ wake ∷ []) tt
+    (All-cons (IsOf started.info) report (wake ∷ []) tt
+    (All-cons (IsOf started.info) wake [] tt (All-nil (IsOf started.info))))))
 
 courses_follow : (before : List Call) (jobs : ℕ) (notes : List Note) (calls : List Call)
     → AreCourses jobs notes calls → EachFollows before calls

@@ -15,39 +15,42 @@ use Rattle.run_crew.proofs.Coursing.{all_answered}
 use Rattle.run_crew.proofs.Zipping.{all_of_zip}
 
 gates : {T : Type 0} (starts : T → Result Started Refusal → T → Type 0) (holds : T → ℕ → Type 0)
-    (flushes : T → Result ℕ Trouble → T → Type 0) (tells : T → ℕ → Bool → Type 0)
+    (flushes : T → Result ℕ Trouble → T → Type 0) (reports : T → ℕ → Bool → Type 0)
     (finishes : T → ℕ → Outcome → Result ℕ Refusal → T → Type 0)
-    (lets : ℕ → ℕ → Bool → Type 0) (told : ℕ → Type 0) (x : Call)
-    → IsAnswered starts holds flushes tells finishes lets told x → IsGates lets told x
-gates starts holds flushes tells finishes lets told (call.Start r) is = tt
-gates starts holds flushes tells finishes lets told (call.Save event r) is = tt
-gates starts holds flushes tells finishes lets told (call.Handles place name answer) is = is
-gates starts holds flushes tells finishes lets told (call.Gate task number answer) is = is
-gates starts holds flushes tells finishes lets told (call.Scope task answer) is = tt
-gates starts holds flushes tells finishes lets told (call.Make place info number done answer) is =
+    (lets : ℕ → ℕ → Bool → Type 0) (reported : ℕ → Type 0) (x : Call)
+    → IsAnswered starts holds flushes reports finishes lets reported x → IsGates lets reported x
+gates starts holds flushes reports finishes lets reported (call.Start r) is = tt
+gates starts holds flushes reports finishes lets reported (call.Save event r) is = tt
+gates starts holds flushes reports finishes lets reported (call.Handles place name answer) is = is
+gates starts holds flushes reports finishes lets reported (call.Gate task number answer) is = is
+gates starts holds flushes reports finishes lets reported (call.Scope task answer) is = tt
+gates starts holds flushes reports finishes lets reported
+    (call.Make place info number done answer) is =
     is
-gates starts holds flushes tells finishes lets told (call.Finish task how r) is = tt
-gates starts holds flushes tells finishes lets told (call.Tell task) is = is
-gates starts holds flushes tells finishes lets told (call.Ring event) is = is
-gates starts holds flushes tells finishes lets told (call.Wait event r) is = is
+gates starts holds flushes reports finishes lets reported (call.Finish task how r) is = tt
+gates starts holds flushes reports finishes lets reported (call.Report task) is = is
+gates starts holds flushes reports finishes lets reported (call.Wake event) is = is
+gates starts holds flushes reports finishes lets reported (call.Wait event r) is = is
 
 pub gated_shifts : {T J L : Type 0} (starts : T → Result Started Refusal → T → Type 0)
     (holds : T → ℕ → Type 0) (flushes : T → Result ℕ Trouble → T → Type 0)
-    (tells : T → ℕ → Bool → Type 0) (finishes : T → ℕ → Outcome → Result ℕ Refusal → T → Type 0)
-    (lets : ℕ → ℕ → Bool → Type 0) (told : ℕ → Type 0) (answers : J → List ℕ → Bool → Type 0)
+    (reports : T → ℕ → Bool → Type 0) (finishes : T → ℕ → Outcome → Result ℕ Refusal → T → Type 0)
+    (lets : ℕ → ℕ → Bool → Type 0) (reported : ℕ → Type 0) (answers : J → List ℕ → Bool → Type 0)
     (turns : J → TaskInfo → ℕ → Bool → Turn → J → Type 0) (items : L → List J) (jobs : List L)
     (lists : List (List Note))
     → AllZip (λ list notes. IsOfShift
-    (IsAnswered starts holds flushes tells finishes lets told) answers turns (items list) notes)
-    jobs lists → All (IsSomeShift (IsGates lets told)) lists
-gated_shifts starts holds flushes tells finishes lets told answers turns items jobs lists
+    (IsAnswered starts holds flushes reports finishes lets reported) answers turns
+    (items list) notes)
+    jobs lists → All (IsSomeShift (IsGates lets reported)) lists
+gated_shifts starts holds flushes reports finishes lets reported answers turns items jobs lists
     zip =
-    let Answered : Call → Type 0 = IsAnswered starts holds flushes tells finishes lets told in
+    let Answered : Call → Type 0 = IsAnswered starts holds flushes reports finishes lets reported in
     all_of_zip (λ list notes. IsOfShift Answered answers turns (items list) notes)
-    (IsSomeShift (IsGates lets told)) (λ list notes shift. (
+    (IsSomeShift (IsGates lets reported)) (λ list notes shift. (
       length (items list),
       shift.1.0,
       shift.1.1,
-      λ k d below. gates starts holds flushes tells finishes lets told _ (all_answered Answered
+      λ k d below. gates starts holds flushes reports finishes lets reported _
+          (all_answered Answered
           (StepsJobs answers turns) shift.1.0 (items list) shift.0 shift.1.2 k d below),
     )) jobs lists zip

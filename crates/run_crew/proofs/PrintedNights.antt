@@ -99,10 +99,10 @@ module _ {D : Type 0} (state : D → DiskState) (given : D) (b : BookView D)
             saved_stores state h x durable safe_night (acked ∙ counted) replays.replays image);
       }
 
-  pub acks_told : (left : D) (r : Result ℕ Trouble) → h.journal.disk ≡ left → Replays h.session
+  pub acks_reported : (left : D) (r : Result ℕ Trouble) → h.journal.disk ≡ left → Replays h.session
       → IsDurable state h
       → IfOk r (λ count. (count ≡ h.session.state.count) × (h.durable ≡ count))
       → IfOk r (λ n. AcksNight p h.session.history n (state left))
-  acks_told left (Ok n) is replays durable acked =
+  acks_reported left (Ok n) is replays durable acked =
       acks_night left n is replays durable acked.0 acked.1
-  acks_told left (Err why) is replays durable acked = tt
+  acks_reported left (Err why) is replays durable acked = tt

@@ -1,4 +1,4 @@
--- The effect of a start and a finish on a desk and on a seat.
+-- The effect of a start and a finish on a desk and on a thread's counts.
 use Rattle.run_model.proofs.Common.{◌≡◌, ℕ, ◌+◌, List, [], ◌∷◌, ◌++◌, Bool, true, false, Option}
 use Rattle.run_model.proofs.Common.{None, Some, refl, ap, sym, subst, ◌∙◌, arith, Result, Ok, Err}
 use Rattle.run_model.proofs.Common.{if◌then◌else◌, sum_by-append, sum_by-cons, Event, unless, cond}
@@ -25,7 +25,7 @@ use Rattle.run_session.specs.Lasting.{Stays}
 use Rattle.book_model.specs.Books.{BookView, CarriesOn}
 use Rattle.book_model.specs.Steps.{AnswersStep}
 use Rattle.run_crew.specs.Desks.{DeskView, finishes_of, starts_of}
-use Rattle.run_crew.specs.Seats.{SeatView, one_finish, one_start}
+use Rattle.run_crew.specs.OwnCounts.{OwnCountsView, one_finish, one_start}
 use Rattle.run_crew.specs.Steps.{TakesStep}
 
 pub takes_step :
@@ -49,31 +49,33 @@ pub counts_one : {X : Type 0} (r : Result X Refusal) (ok : Bool) (n : ℕ)
 counts_one (Ok x) ok n is as_byte = as_byte ∙ ap bool_byte is
 counts_one (Err why) ok n is as_byte = as_byte ∙ ap bool_byte is
 
-pub start_counted : {X : Type 0} (r : Result X Refusal) (seat old : SeatView) (parts amount n : ℕ)
-    → seat ≡ old → parts ≡ seat.start_parts → amount ≡ seat.starts + n → CountsOne r n
-    → MatchResult r (λ _. record seat { start_parts = parts; starts = amount } ≡ one_start old)
-    (λ _. record seat { start_parts = parts; starts = amount } ≡ old)
-start_counted (Ok x) seat old parts amount n same as_parts more one =
-    ap (λ p. record seat { start_parts = p; starts = amount }) as_parts
-    ∙ ap (λ a. record seat { starts = a }) (more ∙ ap (λ k. seat.starts + k) one)
+pub start_counted : {X : Type 0} (r : Result X Refusal) (own old : OwnCountsView)
+    (parts amount n : ℕ)
+    → own ≡ old → parts ≡ own.start_parts → amount ≡ own.starts + n → CountsOne r n
+    → MatchResult r (λ _. record own { start_parts = parts; starts = amount } ≡ one_start old)
+    (λ _. record own { start_parts = parts; starts = amount } ≡ old)
+start_counted (Ok x) own old parts amount n same as_parts more one =
+    ap (λ p. record own { start_parts = p; starts = amount }) as_parts
+    ∙ ap (λ a. record own { starts = a }) (more ∙ ap (λ k. own.starts + k) one)
     ∙ ap one_start same
-start_counted (Err why) seat old parts amount n same as_parts more none =
-    let a : amount ≡ seat.starts = omega arith in
-    ap (λ p. record seat { start_parts = p; starts = amount }) as_parts
-    ∙ ap (λ k. record seat { starts = k }) a ∙ same
+start_counted (Err why) own old parts amount n same as_parts more none =
+    let a : amount ≡ own.starts = omega arith in
+    ap (λ p. record own { start_parts = p; starts = amount }) as_parts
+    ∙ ap (λ k. record own { starts = k }) a ∙ same
 
-pub finish_counted : {X : Type 0} (r : Result X Refusal) (seat old : SeatView) (parts amount n : ℕ)
-    → seat ≡ old → parts ≡ seat.finish_parts → amount ≡ seat.finishes + n → CountsOne r n
-    → MatchResult r (λ _. record seat { finish_parts = parts; finishes = amount } ≡ one_finish old)
-    (λ _. record seat { finish_parts = parts; finishes = amount } ≡ old)
-finish_counted (Ok x) seat old parts amount n same as_parts more one =
-    ap (λ p. record seat { finish_parts = p; finishes = amount }) as_parts
-    ∙ ap (λ a. record seat { finishes = a }) (more ∙ ap (λ k. seat.finishes + k) one)
+pub finish_counted : {X : Type 0} (r : Result X Refusal) (own old : OwnCountsView)
+    (parts amount n : ℕ)
+    → own ≡ old → parts ≡ own.finish_parts → amount ≡ own.finishes + n → CountsOne r n
+    → MatchResult r (λ _. record own { finish_parts = parts; finishes = amount } ≡ one_finish old)
+    (λ _. record own { finish_parts = parts; finishes = amount } ≡ old)
+finish_counted (Ok x) own old parts amount n same as_parts more one =
+    ap (λ p. record own { finish_parts = p; finishes = amount }) as_parts
+    ∙ ap (λ a. record own { finishes = a }) (more ∙ ap (λ k. own.finishes + k) one)
     ∙ ap one_finish same
-finish_counted (Err why) seat old parts amount n same as_parts more none =
-    let a : amount ≡ seat.finishes = omega arith in
-    ap (λ p. record seat { finish_parts = p; finishes = amount }) as_parts
-    ∙ ap (λ k. record seat { finishes = k }) a ∙ same
+finish_counted (Err why) own old parts amount n same as_parts more none =
+    let a : amount ≡ own.finishes = omega arith in
+    ap (λ p. record own { finish_parts = p; finishes = amount }) as_parts
+    ∙ ap (λ k. record own { finishes = k }) a ∙ same
 
 -- ---- the totals
 
@@ -100,10 +102,10 @@ one_made : {X : Type 0} (test : Event → Bool) (e : Event) (k : Bool)
     → LeadsTo e d → Ok x ≡ (if k then Err Broken else and_then d f)
     → count_by test (if k then [] else option_to_list (result_unwrap_or d None))
     ≡ count_by test (e ∷ [])
-one_made test e true d f x is told = absurd (let h : Ok x ≡ Err Broken = told in cc)
-one_made test e false (Err why) f x is told = absurd (let h : Ok x ≡ Err why = told in cc)
-one_made test e false (Ok None) f x is told = absurd is
-one_made test e false (Ok (Some made)) f x is told = ap (λ m. count_by test (m ∷ [])) is
+one_made test e true d f x is reported = absurd (let h : Ok x ≡ Err Broken = reported in cc)
+one_made test e false (Err why) f x is reported = absurd (let h : Ok x ≡ Err why = reported in cc)
+one_made test e false (Ok None) f x is reported = absurd is
+one_made test e false (Ok (Some made)) f x is reported = ap (λ m. count_by test (m ∷ [])) is
 
 pub total_is : {D X : Type 0} (test : Event → Bool) (e : Event) (b new : BookView D)
     (d : Result (Option Event) Refusal) (f : Option Event → Result X Refusal)
@@ -115,18 +117,18 @@ pub total_is : {D X : Type 0} (test : Event → Bool) (e : Event) (b new : BookV
     → MatchResult r (λ _. n ≡ count_by test (e ∷ [])) (λ _. n ≡ 0)
     → total ≡ count_by test b.session.history
     → total + n ≡ count_by test new.session.history
-total_is test e b new d f (Ok x) total n is told refused grown one had =
+total_is test e b new d f (Ok x) total n is reported refused grown one had =
     let added : List Event =
     if b.journal.broken then [] else option_to_list (result_unwrap_or d None) in
     let made : count_by test added ≡ count_by test (e ∷ []) =
-    one_made test e b.journal.broken d f x is told in
+    one_made test e b.journal.broken d f x is reported in
     let both : count_by test (b.session.history ++ added)
     ≡ count_by test b.session.history + count_by test added =
     sum_by-append (λ e. cond (test e) 1 0) b.session.history added in
     let same : count_by test new.session.history ≡ count_by test (b.session.history ++ added) =
     ap (λ es. count_by test es) grown in
     omega arith
-total_is test e b new d f (Err why) total n is told refused grown none had =
+total_is test e b new d f (Err why) total n is reported refused grown none had =
     let same : count_by test new.session.history ≡ count_by test b.session.history =
     ap (λ (v : BookView _). count_by test v.session.history) refused in
     omega arith
@@ -158,19 +160,20 @@ pub start_totals : {D : Type 0} (b new : BookView D) (r : Result Started Refusal
     → starts ≡ starts_of b.session.history → finishes ≡ finishes_of b.session.history
     → (starts + n ≡ starts_of new.session.history)
     × (finishes ≡ finishes_of new.session.history)
-start_totals b new r starts finishes n told refused grown one had other =
+start_totals b new r starts finishes n reported refused grown one had other =
     let p = b.session.state in
     let e : Event = start_of p in
     let leads : LeadsTo e (decide_start p b.session.log) =
     unless_leads (refusals p e) (if_room p b.session.log e) e (room_leads p b.session.log e) in
     let counted = one_of is_start e true refl in
     let not_counted = one_of is_finish e false refl in (
-      total_is is_start e b new (decide_start p b.session.log) _ r starts n leads told refused grown
+      total_is is_start e b new
+          (decide_start p b.session.log) _ r starts n leads reported refused grown
           (match_ones r n 1 (count_by is_start (e ∷ [])) one counted) had,
       omega (
         arith,
         total_is is_finish e b new (decide_start p b.session.log) _ r finishes 0 leads
-            told refused grown
+            reported refused grown
             (match_none r 0 (count_by is_finish (e ∷ [])) refl not_counted) other,
       ),
     )
@@ -184,7 +187,7 @@ pub finish_totals : {D : Type 0} (b new : BookView D) (task : ℕ) (how : Outcom
     → starts ≡ starts_of b.session.history → finishes ≡ finishes_of b.session.history
     → (starts ≡ starts_of new.session.history)
     × (finishes + n ≡ finishes_of new.session.history)
-finish_totals b new task how r starts finishes n told refused grown one other had =
+finish_totals b new task how r starts finishes n reported refused grown one other had =
     let p = b.session.state in
     let e : Event = event.Finish task how in
     let leads : LeadsTo e (decide_finish p task how) =
@@ -194,8 +197,10 @@ finish_totals b new task how r starts finishes n told refused grown one other ha
       omega (
         arith,
         total_is is_start e b new (decide_finish p task how) _ r starts 0 leads
-            told refused grown (match_none r 0 (count_by is_start (e ∷ [])) refl not_counted) other,
+            reported refused grown
+            (match_none r 0 (count_by is_start (e ∷ [])) refl not_counted) other,
       ),
-      total_is is_finish e b new (decide_finish p task how) _ r finishes n leads told refused grown
+      total_is is_finish e b new
+          (decide_finish p task how) _ r finishes n leads reported refused grown
           (match_ones r n 1 (count_by is_finish (e ∷ [])) one counted) had,
     )

@@ -217,7 +217,7 @@ module _ {J : Type 0} (answers : J → List ℕ → Bool → Type 0)
   is_done n calls note jobs left counts (started, durable, run, counted, is_run, task, is) path =
       let went = subst (λ l. Walk l jobs left) is path in
       let both = path_split Steps run (call.Finish note.task note.outcome (Ok note.event)
-      ∷ call.Tell note.task ∷ call.Ring note.event ∷ []) went.2.0 left went.2.2 in
+      ∷ call.Report note.task ∷ call.Wake note.event ∷ []) went.2.0 left went.2.2 in
       let begun : went.2.0 ≡ jobs = went.2.1.1 ∙ went.1.1 in
       let fin = both.2 in
       let ended : left ≡ both.0 = sym fin.2.2.2 ∙ (fin.2.2.1.1 ∙ (fin.2.1.1 ∙ fin.1.1)) in

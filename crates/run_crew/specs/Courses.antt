@@ -31,11 +31,11 @@ pub data Call : Type 0 where
   -- under the lock, this task is finished
   Finish : ℕ → Outcome → Result ℕ Refusal → Call
   -- the gate is informed that this task was finished
-  Tell : ℕ → Call
-  -- the bell is rung for this event
-  Ring : ℕ → Call
-  -- a wait until the bell was rung for a later event than this, which returns that event, or
-  -- nothing if the bell is closed
+  Report : ℕ → Call
+  -- the flusher is woken for this event
+  Wake : ℕ → Call
+  -- a wait until the flusher was woken for a later event than this, which returns that event, or
+  -- nothing if the signal is closed
   Wait : ℕ → Option ℕ → Call
 
 -- ---- the calls between two moments
@@ -127,7 +127,7 @@ IsCourse jobs calls note =
     (started : Started) × (durable : ℕ) × (run : List Call) × (started.event ≤ durable)
     × IsRun jobs started.info run note.outcome × (note.task ≡ started.info.task)
     × (calls ≡ task_calls started durable run
-    (Finish note.task note.outcome (Ok note.event) ∷ Tell note.task ∷ Ring note.event ∷ []))
+    (Finish note.task note.outcome (Ok note.event) ∷ Report note.task ∷ Wake note.event ∷ []))
 
 -- A course that ends early, because its start is refused or isn't durable, or because its finish is
 -- refused.
@@ -170,9 +170,9 @@ IsShift jobs notes calls =
 
 -- ---- the flusher
 
--- This many rounds of the flusher, the last of which is for this event. Each round waits until the
--- bell was rung for a later event than that of the round before, and then until this event is
--- durable or a flush is refused.
+-- This many rounds of the flusher, the last of which is for this event. Each round waits until
+-- the flusher was woken for a later event than that of the round before, and then until this event
+-- is durable or a flush is refused.
 abbrev pub AreSaves : ℕ → ℕ → List Call → Type 0
 AreSaves zero heard calls = (heard ≡ 0) × (calls ≡ [])
 AreSaves (suc rounds) heard calls =
@@ -180,7 +180,7 @@ AreSaves (suc rounds) heard calls =
     × (was < heard) × IfOk r (λ durable. heard ≤ durable)
     × (calls ≡ before ++ Wait was (Some heard) ∷ Save heard r ∷ [])
 
--- All calls of the flusher: rounds, until the bell is closed.
+-- All calls of the flusher: rounds, until the signal is closed.
 abbrev pub IsFlusherRun : List Call → Type 0
 IsFlusherRun calls =
     (rounds : ℕ) × (heard : ℕ) × (before : List Call) × AreSaves rounds heard before
@@ -191,17 +191,17 @@ IsFlusherRun calls =
 -- The answer to a wait for durable events: some value of the type under the lock has this many
 -- durable events, or refused a flush. It may be another value than the one that the lock held at
 -- that moment.
-abbrev pub IsTold
+abbrev pub IsReported
     : {T : Type 0} → (T → ℕ → Type 0) → (T → Result ℕ Trouble → T → Type 0) → Result ℕ Trouble
     → Type 0
-IsTold holds flushes (Ok durable) = (d : _) × holds d durable
-IsTold holds flushes (Err why) = (d : _) × (e : _) × flushes d (Err why) e
+IsReported holds flushes (Ok durable) = (d : _) × holds d durable
+IsReported holds flushes (Err why) = (d : _) × (e : _) × flushes d (Err why) e
 
 -- The gate may give this answer to a call of it, or was informed of this.
 abbrev pub IsGates : (ℕ → ℕ → Bool → Type 0) → (ℕ → Type 0) → Call → Type 0
-IsGates lets told (Gate task turn answer) = lets task turn answer
-IsGates lets told (Tell task) = told task
-IsGates lets told _ = ⊤
+IsGates lets reported (Gate task turn answer) = lets task turn answer
+IsGates lets reported (Report task) = reported task
+IsGates lets reported _ = ⊤
 
 -- The one that was called may give this answer: some value of the type under the lock, according to
 -- what a start, a flush, a finish and its questions may return, or the gate.
@@ -210,14 +210,15 @@ abbrev pub IsAnswered
     → (T → Result ℕ Trouble → T → Type 0) → (T → ℕ → Bool → Type 0)
     → (T → ℕ → Outcome → Result ℕ Refusal → T → Type 0) → (ℕ → ℕ → Bool → Type 0)
     → (ℕ → Type 0) → Call → Type 0
-IsAnswered starts holds flushes tells finishes lets told (Start r) =
+IsAnswered starts holds flushes reports finishes lets reported (Start r) =
     (d : _) × (e : _) × starts d r e
-IsAnswered starts holds flushes tells finishes lets told (Save event r) = IsTold holds flushes r
-IsAnswered starts holds flushes tells finishes lets told (Scope task answer) =
-    (d : _) × tells d task answer
-IsAnswered starts holds flushes tells finishes lets told (Finish task how r) =
+IsAnswered starts holds flushes reports finishes lets reported
+    (Save event r) = IsReported holds flushes r
+IsAnswered starts holds flushes reports finishes lets reported (Scope task answer) =
+    (d : _) × reports d task answer
+IsAnswered starts holds flushes reports finishes lets reported (Finish task how r) =
     (d : _) × (e : _) × finishes d task how r e
-IsAnswered starts holds flushes tells finishes lets told call = IsGates lets told call
+IsAnswered starts holds flushes reports finishes lets reported call = IsGates lets reported call
 
 -- These are the notes of a shift with some number of jobs, each of whose calls has such an answer.
 abbrev pub IsSomeShift : (Call → Type 0) → List Note → Type 0

@@ -5,7 +5,7 @@ pub mod Desks
 pub mod Nights
 pub mod Notes
 pub mod Openings
-pub mod Seats
+pub mod OwnCounts
 pub mod Shifts
 pub mod Steps
 pub mod Turns

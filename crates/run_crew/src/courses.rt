@@ -5,12 +5,12 @@ ghost use Rattle.std.specs.Prelude.{◌≡◌, ◌⊎◌, ◌<◌, ◌≤◌, �
 ghost use Rattle.run_model.specs.declared.tasks.Outcome.TheVariants as outcome;
 ghost use Rattle.run_model.specs.Texts.{IsText};
 ghost use Rattle.run_crew.specs.Courses.{AreTurns, IsBegun, IsRun, IsShift, TakesTask, Went};
-ghost use Rattle.run_crew.specs.Seats.{one_part, one_start};
+ghost use Rattle.run_crew.specs.OwnCounts.{one_part, one_start};
 ghost use Rattle.run_crew.specs.Shifts.{AfterTask};
 
 use crate::jobs::Turn;
 use crate::notes::{Note, WorkerNotes};
-use crate::seats::Seat;
+use crate::own_counts::OwnCounts;
 use crate::worker_calls::WorkerCalls;
 use run_model::{Outcome, Started, TaskInfo, Text};
 use std::sync::Wait;
@@ -23,19 +23,19 @@ const MOST_TURNS: u32 = 1_000;
 pub fn take_tasks<S: Ledger, F: Ledger, W: WorkerCalls<S, F>, R: Wait>(
     rt: &R,
     worker: &mut W,
-    seat: &mut Seat<S, F>,
+    own: &mut OwnCounts<S, F>,
     notes: &mut WorkerNotes,
 )
-    requires seat { seat.old ≡ one_part }
+    requires own { own.old ≡ one_part }
     requires notes { notes.old ≡ [] }
-    ensures parts { (seat.new.start_parts ≡ 1) × (seat.new.finish_parts ≡ 1) }
-    ensures finishes { seat.new.finishes ≡ length notes.new }
-    ensures starts { (length notes.new ≤ seat.new.starts)
-        × (seat.new.starts ≤ length notes.new + 1) }
+    ensures parts { (own.new.start_parts ≡ 1) × (own.new.finish_parts ≡ 1) }
+    ensures finishes { own.new.finishes ≡ length notes.new }
+    ensures starts { (length notes.new ≤ own.new.starts)
+        × (own.new.starts ≤ length notes.new + 1) }
     ensures calls { Went W.step (IsShift (W.jobs worker.old) notes.new) worker.old worker.new }
 {
     for _ in rt.forever() {
-        if !take_task(worker, seat, notes) {
+        if !take_task(worker, own, notes) {
             return;
         }
     }
@@ -46,11 +46,11 @@ pub fn take_tasks<S: Ledger, F: Ledger, W: WorkerCalls<S, F>, R: Wait>(
 /// done. It isn't if the notes are full, or if the start, its flush or the finish fails.
 pub fn take_task<S: Ledger, F: Ledger, W: WorkerCalls<S, F>>(
     worker: &mut W,
-    seat: &mut Seat<S, F>,
+    own: &mut OwnCounts<S, F>,
     notes: &mut WorkerNotes,
 ) -> bool
-    requires parts { (0 < seat.old.start_parts) × (0 < seat.old.finish_parts) }
-    ensures seat { AfterTask result seat.old seat.new (length notes.old) (length notes.new) }
+    requires parts { (0 < own.old.start_parts) × (0 < own.old.finish_parts) }
+    ensures own { AfterTask result own.old own.new (length notes.old) (length notes.new) }
     ensures jobs { W.jobs worker.new ≡ W.jobs worker.old }
     ensures calls { Went W.step (TakesTask (W.jobs worker.old) result notes.old notes.new)
         worker.old worker.new }
@@ -58,12 +58,12 @@ pub fn take_task<S: Ledger, F: Ledger, W: WorkerCalls<S, F>>(
     if notes.is_full() {
         return false;
     }
-    let Some(started) = start(worker, seat) else {
+    let Some(started) = start(worker, own) else {
         return false;
     };
     let task = started.info.task;
     let outcome = run(worker, &started.info);
-    let Ok(event) = worker.finish(seat, task, &outcome) else {
+    let Ok(event) = worker.finish(own, task, &outcome) else {
         return false;
     };
     notes.note(Note {
@@ -71,8 +71,8 @@ pub fn take_task<S: Ledger, F: Ledger, W: WorkerCalls<S, F>>(
         task,
         outcome,
     });
-    worker.tell(task);
-    worker.ring(event);
+    worker.report(task);
+    worker.wake(event);
     true
 }
 
@@ -80,15 +80,15 @@ pub fn take_task<S: Ledger, F: Ledger, W: WorkerCalls<S, F>>(
 /// `None` if one of the two fails.
 fn start<S: Ledger, F: Ledger, W: WorkerCalls<S, F>>(
     worker: &mut W,
-    seat: &mut Seat<S, F>,
+    own: &mut OwnCounts<S, F>,
 ) -> Option<Started>
-    requires part { 0 < seat.old.start_parts }
-    ensures seat { MatchOption result ((seat.new ≡ seat.old) ⊎ (seat.new ≡ one_start seat.old))
-        (λ _. seat.new ≡ one_start seat.old) }
+    requires part { 0 < own.old.start_parts }
+    ensures own { MatchOption result ((own.new ≡ own.old) ⊎ (own.new ≡ one_start own.old))
+        (λ _. own.new ≡ one_start own.old) }
     ensures jobs { W.jobs worker.new ≡ W.jobs worker.old }
     ensures calls { Went W.step (IsBegun result) worker.old worker.new }
 {
-    let Ok(started) = worker.start(seat) else {
+    let Ok(started) = worker.start(own) else {
         return None;
     };
     match worker.save(started.event) {

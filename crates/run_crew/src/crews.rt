@@ -47,7 +47,7 @@ pub fn crew<D: RunDisk + Drop + Send, G: Gate + Sync, R: Threads + Wait + Sync, 
     gate: &G,
     output: &mut W,
 ) -> Result<bool, RunFault>
-    ensures { (left : D) × CrewEnds D.state (IsGates (G.lets gate.now) (G.told gate.now)) disk
+    ensures { (left : D) × CrewEnds D.state (IsGates (G.lets gate.now) (G.reported gate.now)) disk
         (vec_len jobs) result left (W.contents output.old) (W.contents output.new) }
 {
     let (done, _) = crew_over(rt, alloc, disk, jobs, gate, output);
@@ -65,7 +65,7 @@ pub fn crew_over<D: RunDisk + Drop + Send, G: Gate + Sync, R: Threads + Wait + S
     gate: &G,
     output: &mut W,
 ) -> (Result<bool, RunFault>, D)
-    ensures { CrewEnds D.state (IsGates (G.lets gate.now) (G.told gate.now)) disk
+    ensures { CrewEnds D.state (IsGates (G.lets gate.now) (G.reported gate.now)) disk
         (vec_len jobs) result.0 result.1 (W.contents output.old) (W.contents output.new) }
 {
     let book = match Book::open(alloc, disk) {
@@ -120,13 +120,13 @@ fn work<
     requires begun { book.session ≡ begun_at book.session.start }
     requires carries { Carries O.opening D.state book }
     ensures worked { MatchResult result.0 (λ report. IsWorked D.state O.opening
-        (IsGates (G.lets gate.now) (G.told gate.now)) (vec_len jobs) report.audited report.starts
-        report.finishes report.flushed result.1) (λ fault. fault ≡ Memory) }
+        (IsGates (G.lets gate.now) (G.reported gate.now)) (vec_len jobs) report.audited
+        report.starts report.finishes report.flushed result.1) (λ fault. fault ≡ Memory) }
     ensures left { WasLeft D.state O.opening result.1 }
 {
-    let (desk, mut seat) = Desk::<D, S, F, O>::new(book, starts, finishes);
+    let (desk, mut own) = Desk::<D, S, F, O>::new(book, starts, finishes);
     let shared = Mutex::new(desk);
-    let lists = run_shifts(rt, alloc, &shared, &mut seat, jobs, gate);
+    let lists = run_shifts(rt, alloc, &shared, &mut own, jobs, gate);
     let mut desk = shared.into_inner();
     let flushed = desk.flush();
     let lists = match lists {
@@ -135,7 +135,7 @@ fn work<
     };
     let _book = desk.book();
     let audited = audit(&desk, lists.as_slice());
-    let (starts, finishes) = desk.settle(&mut seat);
+    let (starts, finishes) = desk.settle(&mut own);
     let report = CrewReport {
         audited,
         starts,

@@ -1,7 +1,7 @@
 //! A [`Desk`] is a [`Place`], which is how the threads see it.
 
 ghost use Rattle.std.specs.Prelude.{◌≡◌};
-ghost use Rattle.run_model.specs.declared.answers.Reply.TheVariants as told;
+ghost use Rattle.run_model.specs.declared.answers.Reply.TheVariants as reported;
 ghost use Rattle.run_model.specs.declared.commands.Step.TheVariants as step;
 ghost use Rattle.run_model.specs.Session.{replied};
 ghost use Rattle.book_model.specs.Books.{Flushes, IsDurable};
@@ -10,8 +10,8 @@ ghost use Rattle.run_crew.specs.Steps.{TakesStep};
 
 use crate::desks::Desk;
 use crate::openings::Opening;
+use crate::own_counts::OwnCounts;
 use crate::places::{CountedPlace, Place};
-use crate::seats::Seat;
 use run_disk::RunDisk;
 use run_model::{Outcome, Refusal, Started, Trouble};
 use std::sync::ledger::Ledger;
@@ -21,7 +21,7 @@ impl<D: RunDisk, S: Ledger, F: Ledger, O: Opening> Place for Desk<D, S, F, O> {
 
     ghost flushes = { λ d r e. Flushes D.state d.book r e.book };
 
-    ghost tells = { λ d task answer. answer ≡ is_done_for d.book.session.state task };
+    ghost reports = { λ d task answer. answer ≡ is_done_for d.book.session.state task };
 
     fn durable(&self) -> u64 {
         self.book().durable()
@@ -37,21 +37,21 @@ impl<D: RunDisk, S: Ledger, F: Ledger, O: Opening> Place for Desk<D, S, F, O> {
 }
 
 impl<D: RunDisk, S: Ledger, F: Ledger, O: Opening> CountedPlace<S, F> for Desk<D, S, F, O> {
-    ghost starts = { λ d r e. TakesStep D.state d step.Start (replied told.Started r) e };
+    ghost starts = { λ d r e. TakesStep D.state d step.Start (replied reported.Started r) e };
 
     ghost finishes = { λ d task how r e.
-        TakesStep D.state d (step.Finish task how) (replied told.Finished r) e };
+        TakesStep D.state d (step.Finish task how) (replied reported.Finished r) e };
 
-    fn start_as(&mut self, seat: &mut Seat<S, F>) -> Result<Started, Refusal> {
-        Desk::start_as(self, seat)
+    fn start_as(&mut self, own: &mut OwnCounts<S, F>) -> Result<Started, Refusal> {
+        Desk::start_as(self, own)
     }
 
     fn finish_as(
         &mut self,
-        seat: &mut Seat<S, F>,
+        own: &mut OwnCounts<S, F>,
         task: u16,
         outcome: &Outcome,
     ) -> Result<u64, Refusal> {
-        Desk::finish_as(self, seat, task, outcome)
+        Desk::finish_as(self, own, task, outcome)
     }
 }

@@ -2,7 +2,7 @@
 
 ghost use Rattle.std.specs.Prelude.{◌≡◌, ◌<◌, ◌≤◌, ◌+◌, ◌^◌, ℕ, List, length, MatchResult};
 ghost use Rattle.std.specs.Prelude.{OnErr, OnOk, Some};
-ghost use Rattle.run_model.specs.declared.answers.Reply.TheVariants as told;
+ghost use Rattle.run_model.specs.declared.answers.Reply.TheVariants as reported;
 ghost use Rattle.run_model.specs.declared.commands.Step.TheVariants as step;
 ghost use Rattle.run_model.specs.Allowed.{run};
 ghost use Rattle.run_model.specs.Replies.{reply, reply_finish, reply_start};
@@ -14,12 +14,12 @@ ghost use Rattle.run_book.specs.Views.{unless_broken, with_session};
 ghost use Rattle.run_crew.specs.Desks.{DeskView, finishes_of, is_done_for, starts_of};
 ghost use Rattle.run_crew.specs.Nights.{FlushesNight};
 ghost use Rattle.run_crew.specs.Openings.{Carries};
-ghost use Rattle.run_crew.specs.Seats.{one_finish, one_start};
+ghost use Rattle.run_crew.specs.OwnCounts.{one_finish, one_start};
 ghost use Rattle.run_crew.specs.Steps.{TakesStep};
 
 use crate::counts::counts_of;
 use crate::openings::{AnyBook, Obeys, Opening};
-use crate::seats::Seat;
+use crate::own_counts::OwnCounts;
 use run_book::Book;
 use run_disk::RunDisk;
 use run_model::{Answer, Command, Outcome, Refusal, Started, Trouble};
@@ -57,15 +57,15 @@ impl<D: RunDisk, S: Ledger, F: Ledger, O: Opening> Model for Desk<D, S, F, O> {
 }
 
 impl<D: RunDisk, S: Ledger, F: Ledger, O: Opening> Desk<D, S, F, O> {
-    /// Returns a desk over a book, and a seat that has every part of both shares. The seat has
+    /// Returns a desk over a book, and counts that have every part of both shares. They have
     /// counted the starts and finishes that are already in the history of the book.
-    pub fn new(book: Book<D>, starts: Blank, finishes: Blank) -> (Desk<D, S, F, O>, Seat<S, F>)
+    pub fn new(book: Book<D>, starts: Blank, finishes: Blank) -> (Desk<D, S, F, O>, OwnCounts<S, F>)
         requires starts { (starts.name ≡ S.name) × (starts.parts ≡ S.parts) × (0 < S.parts) }
         requires finishes { (finishes.name ≡ F.name) × (finishes.parts ≡ F.parts)
             × (0 < F.parts) }
         requires carries { Carries O.opening D.state book }
         ensures desk { result.0 ≡ record { book = book; since = book.session.state.count } }
-        ensures seat { result.1 ≡ record {
+        ensures own { result.1 ≡ record {
           start_parts = S.parts;
           starts = starts_of book.session.history;
           finish_parts = F.parts;
@@ -84,55 +84,54 @@ impl<D: RunDisk, S: Ledger, F: Ledger, O: Opening> Desk<D, S, F, O> {
             finishes: finish_total,
             opening: PhantomData,
         };
-        let seat = Seat {
+        let own = OwnCounts {
             starts: start_share,
             finishes: finish_share,
         };
-        (desk, seat)
+        (desk, own)
     }
 
     /// Starts the ready task with the lowest number, as [`Book::start`] does. If the start is
-    /// accepted, the seat counts one more start.
-    pub fn start_as(&mut self, seat: &mut Seat<S, F>) -> Result<Started, Refusal>
-        requires part { 0 < seat.old.start_parts }
+    /// accepted, the counts have one more start.
+    pub fn start_as(&mut self, own: &mut OwnCounts<S, F>) -> Result<Started, Refusal>
+        requires part { 0 < own.old.start_parts }
         ensures reply { result ≡ unless_broken self.old.book
             (reply_start self.old.book.session.state self.old.book.session.log) }
         ensures after { self.new.book
             ≡ with_session self.old.book (after_step self.old.book.session step.Start) }
-        ensures step { TakesStep D.state self.old step.Start (replied told.Started result)
+        ensures step { TakesStep D.state self.old step.Start (replied reported.Started result)
             self.new }
         ensures refused { OnErr result (self.new.book ≡ self.old.book) }
-        ensures seat { MatchResult result (λ _. seat.new ≡ one_start seat.old)
-            (λ _. seat.new ≡ seat.old) }
+        ensures own { MatchResult result (λ _. own.new ≡ one_start own.old)
+            (λ _. own.new ≡ own.old) }
     {
         let started = self.book.start();
-        self.starts
-            .add(&mut seat.starts, u64::from(started.is_ok()));
+        self.starts.add(&mut own.starts, u64::from(started.is_ok()));
         started
     }
 
     /// Ends a running task with this outcome, as [`Book::finish`] does. If the finish is accepted,
-    /// the seat counts one more finish.
+    /// the counts have one more finish.
     pub fn finish_as(
         &mut self,
-        seat: &mut Seat<S, F>,
+        own: &mut OwnCounts<S, F>,
         task: u16,
         outcome: &Outcome,
     ) -> Result<u64, Refusal>
-        requires part { 0 < seat.old.finish_parts }
+        requires part { 0 < own.old.finish_parts }
         ensures reply { result ≡ unless_broken self.old.book
             (reply_finish self.old.book.session.state task outcome.now) }
         ensures after { self.new.book ≡ with_session self.old.book
             (after_step self.old.book.session (step.Finish task outcome.now)) }
         ensures step { TakesStep D.state self.old (step.Finish task outcome.now)
-            (replied told.Finished result) self.new }
+            (replied reported.Finished result) self.new }
         ensures refused { OnErr result (self.new.book ≡ self.old.book) }
-        ensures seat { MatchResult result (λ _. seat.new ≡ one_finish seat.old)
-            (λ _. seat.new ≡ seat.old) }
+        ensures own { MatchResult result (λ _. own.new ≡ one_finish own.old)
+            (λ _. own.new ≡ own.old) }
     {
         let number = self.book.finish(task, outcome);
         self.finishes
-            .add(&mut seat.finishes, u64::from(number.is_ok()));
+            .add(&mut own.finishes, u64::from(number.is_ok()));
         number
     }
 
@@ -150,13 +149,13 @@ impl<D: RunDisk, S: Ledger, F: Ledger, O: Opening> Desk<D, S, F, O> {
     }
 
     /// Flushes, as [`Desk::flush`] does. The flushed history contains each start and finish that
-    /// the seat has counted.
-    pub(crate) fn flush_as(&mut self, seat: &mut Seat<S, F>) -> Result<u64, Trouble>
-        ensures flushes { FlushesNight D.state O.opening seat.old result }
-        ensures same { seat.new ≡ seat.old }
+    /// the counts hold.
+    pub(crate) fn flush_as(&mut self, own: &mut OwnCounts<S, F>) -> Result<u64, Trouble>
+        ensures flushes { FlushesNight D.state O.opening own.old result }
+        ensures same { own.new ≡ own.old }
     {
-        self.starts.audit(&mut seat.starts);
-        self.finishes.audit(&mut seat.finishes);
+        self.starts.audit(&mut own.starts);
+        self.finishes.audit(&mut own.finishes);
         self.flush()
     }
 
@@ -173,17 +172,17 @@ impl<D: RunDisk, S: Ledger, F: Ledger, O: Opening> Desk<D, S, F, O> {
         self.book.checkpoint()
     }
 
-    /// Returns how many starts and finishes are in the history of the book. A seat with every part
+    /// Returns how many starts and finishes are in the history of the book. Counts with every part
     /// has counted the same numbers.
-    pub fn settle(&mut self, seat: &mut Seat<S, F>) -> (u64, u64)
-        requires parts { (seat.old.start_parts ≡ S.parts) × (seat.old.finish_parts ≡ F.parts) }
-        ensures same { (self.new ≡ self.old) × (seat.new ≡ seat.old) }
-        ensures counted { (result.0 ≡ seat.old.starts) × (result.1 ≡ seat.old.finishes) }
+    pub fn settle(&mut self, own: &mut OwnCounts<S, F>) -> (u64, u64)
+        requires parts { (own.old.start_parts ≡ S.parts) × (own.old.finish_parts ≡ F.parts) }
+        ensures same { (self.new ≡ self.old) × (own.new ≡ own.old) }
+        ensures counted { (result.0 ≡ own.old.starts) × (result.1 ≡ own.old.finishes) }
         ensures history { (result.0 ≡ starts_of self.old.book.session.history)
             × (result.1 ≡ finishes_of self.old.book.session.history) }
     {
-        self.starts.audit(&mut seat.starts);
-        self.finishes.audit(&mut seat.finishes);
+        self.starts.audit(&mut own.starts);
+        self.finishes.audit(&mut own.finishes);
         let counts = counts_of(&self.book);
         (counts.starts, counts.finishes)
     }
@@ -244,7 +243,7 @@ impl<D: RunDisk, S: Ledger, F: Ledger, O: Obeys> Desk<D, S, F, O> {
         ensures after { self.new.book ≡ with_session self.old.book
             (after_step self.old.book.session (step.Command call.now)) }
         ensures step { TakesStep D.state self.old (step.Command call.now)
-            (replied told.Answer result) self.new }
+            (replied reported.Answer result) self.new }
         ensures refused { OnErr result (self.new.book ≡ self.old.book) }
     {
         self.book.command(call)

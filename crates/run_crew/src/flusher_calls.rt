@@ -1,11 +1,11 @@
-//! [`FlusherCalls`] lists the calls that the flusher makes: it waits for the bell, and flushes.
+//! [`FlusherCalls`] lists the calls that the flusher makes: it waits for the signal, and flushes.
 
 ghost use Rattle.std.specs.Prelude.{◌≡◌, ◌<◌, ◌≤◌, ⊤, IfOk, IfSome};
 ghost use Rattle.run_crew.specs.Courses.{Call, IsAnswered, IsFlusherRun, Went};
 ghost use Rattle.run_crew.specs.Courses as call;
 
 use crate::arrivals::Arrivals;
-use crate::bells::Bell;
+use crate::flush_signals::FlushSignal;
 use crate::places::Place;
 use crate::saves::save;
 use run_model::Trouble;
@@ -17,8 +17,8 @@ pub trait FlusherCalls {
     /// the state after it.
     ghost step: { Self → Call → Self → Type 0 };
 
-    /// Waits until the bell was rung for a later event than `heard`, and returns that event; `None`
-    /// if the bell is closed.
+    /// Waits until the flusher was woken for a later event than `heard`, and returns that event;
+    /// `None` if the signal is closed.
     fn wait(&mut self, heard: u64) -> Option<u64>
         ensures step { step self.old (call.Wait heard result) self.new }
         ensures later { IfSome result (λ event. heard < event) };
@@ -30,9 +30,9 @@ pub trait FlusherCalls {
         ensures reached { IfOk result (λ durable. event ≤ durable) };
 }
 
-/// Makes each event durable for which the bell is rung, until the bell is closed. It continues
+/// Makes each event durable for which it is woken, until the signal is closed. It continues
 /// after a refused flush.
-pub fn save_rings<W: FlusherCalls, R: Wait>(rt: &R, flusher: &mut W)
+pub fn save_wakes<W: FlusherCalls, R: Wait>(rt: &R, flusher: &mut W)
     ensures calls { Went W.step IsFlusherRun flusher.old flusher.new }
 {
     let mut heard = 0;
@@ -46,14 +46,14 @@ pub fn save_rings<W: FlusherCalls, R: Wait>(rt: &R, flusher: &mut W)
     unreachable!()
 }
 
-/// The calls of a flusher in a crew. They go to the bell, and to the value under the lock, which is
-/// released after each call.
+/// The calls of a flusher in a crew. They go to the signal, and to the value under the lock, which
+/// is released after each call.
 #[derive(Drop)]
 pub struct ThreadFlusher<'a, T, R> {
     pub rt: &'a R,
     pub shared: &'a Mutex<T>,
     pub arrivals: &'a Arrivals,
-    pub bell: &'a Bell,
+    pub signal: &'a FlushSignal,
 }
 
 impl<'a, T: Place, R: Wait> FlusherCalls for ThreadFlusher<'a, T, R> {
@@ -61,7 +61,7 @@ impl<'a, T: Place, R: Wait> FlusherCalls for ThreadFlusher<'a, T, R> {
         (λ _ _ _ _ _. ⊤) (λ _ _ _. ⊤) (λ _. ⊤) call };
 
     fn wait(&mut self, heard: u64) -> Option<u64> {
-        self.bell.wait(self.rt, heard)
+        self.signal.wait(self.rt, heard)
     }
 
     fn save(&mut self, event: u64) -> Result<u64, Trouble> {

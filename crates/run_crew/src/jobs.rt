@@ -59,7 +59,7 @@ pub trait Gate {
     ghost lets: { Self → ℕ → ℕ → Bool → Type 0 } = { λ _ _ _ _. ⊤ };
 
     /// The gate was informed that this task was finished.
-    ghost told: { Self → ℕ → Type 0 } = { λ _ _. ⊤ };
+    ghost reported: { Self → ℕ → Type 0 } = { λ _ _. ⊤ };
 
     /// Returns whether a worker may make this turn of a task. If not, the task ends with the
     /// failure `gate`.
@@ -68,7 +68,7 @@ pub trait Gate {
 
     /// Informs the gate that a task was finished.
     fn finished(&self, task: u16)
-        ensures { told self.now task };
+        ensures { reported self.now task };
 }
 
 /// A gate that lets each turn pass.

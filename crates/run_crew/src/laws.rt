@@ -16,8 +16,8 @@ use run_disk::RunDisk;
 /// had left it.
 pub fn notes_are_what_the_jobs_answered<D: RunDisk, G: Gate, J: Job>()
     ensures { (gate : G) (jobs : List J) (notes : List Note)
-        → IsOfShift (OfDesk D.state (G.lets gate) (G.told gate)) J.answers J.turns jobs notes
-        → AreDone J.answers J.turns (OfDesk D.state (G.lets gate) (G.told gate)) notes jobs }
+        → IsOfShift (OfDesk D.state (G.lets gate) (G.reported gate)) J.answers J.turns jobs notes
+        → AreDone J.answers J.turns (OfDesk D.state (G.lets gate) (G.reported gate)) notes jobs }
 {}
 
 /// A worker makes no turn of a task before it has learned that the task's start is durable. By then
@@ -26,6 +26,6 @@ pub fn each_start_is_durable_before_its_turns<D: RunDisk, G: Gate, J: Job>()
     ensures order { (jobs : ℕ) (notes : List Note) (calls : List Call) → IsShift jobs notes calls
         → TurnsFollow calls }
     ensures desk { (gate : G) (jobs : List J) (notes : List Note)
-        → IsOfShift (OfDesk D.state (G.lets gate) (G.told gate)) J.answers J.turns jobs notes
+        → IsOfShift (OfDesk D.state (G.lets gate) (G.reported gate)) J.answers J.turns jobs notes
         → All (λ note. WasDurable D.state note) notes }
 {}

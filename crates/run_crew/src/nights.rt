@@ -7,17 +7,17 @@ ghost use Rattle.std.specs.List.{AllZip};
 ghost use Rattle.run_crew.specs.Courses.{IsAnswered, IsGates, IsOfShift, IsSomeShift};
 ghost use Rattle.run_crew.specs.Nights.{FlushesNight, OfDesk};
 ghost use Rattle.run_crew.specs.Notes.{noted};
-ghost use Rattle.run_crew.specs.Seats.{CountsNight, CountsSame, GivesParts, JoinsShifts};
+ghost use Rattle.run_crew.specs.OwnCounts.{CountsNight, CountsSame, GivesParts, JoinsShifts};
 
 use crate::arrivals::Arrivals;
-use crate::bells::Bell;
 use crate::desks::Desk;
-use crate::flusher_calls::{ThreadFlusher, save_rings};
+use crate::flush_signals::FlushSignal;
+use crate::flusher_calls::{ThreadFlusher, save_wakes};
 use crate::jobs::{Gate, Job};
 use crate::notes::WorkerNotes;
 use crate::openings::Opening;
+use crate::own_counts::OwnCounts;
 use crate::places::{CountedPlace, Place};
-use crate::seats::Seat;
 use crate::workers::{ShiftOf, WorkerEnd, WorkerStart};
 use run_disk::RunDisk;
 use run_model::{Fault, Trouble};
@@ -30,7 +30,7 @@ use std::thread;
 use std::thread::{PromisedHandle, Scope, Threads};
 
 /// Runs the ready tasks of the book under the lock, by one thread for each list of jobs, and then
-/// flushes. The seat must have one part for each list, and one more for the thread that makes
+/// flushes. The counts must have one part for each list, and one more for the thread that makes
 /// finishes durable. Returns the notes of the workers, in the order of the lists, and the result of
 /// the last flush.
 ///
@@ -42,7 +42,7 @@ use std::thread::{PromisedHandle, Scope, Threads};
 /// job or the gate runs.
 ///
 /// `Memory` if memory or the start of a thread was refused. Even then every thread that was started
-/// has been joined; the seat may lack some parts.
+/// has been joined; the counts may lack some parts.
 pub fn run_night<
     D: RunDisk + Send,
     S: Ledger + Send + Sync,
@@ -54,24 +54,24 @@ pub fn run_night<
     rt: &R,
     alloc: Global,
     shared: &Mutex<Desk<D, S, F, O>>,
-    seat: &mut Seat<S, F>,
+    own: &mut OwnCounts<S, F>,
     jobs: Vec<Vec<Box<dyn Job + Send>>>,
     gate: &G,
 ) -> Result<(Vec<WorkerNotes>, Result<u64, Trouble>), Fault>
-    requires start_parts { vec_len jobs < seat.old.start_parts }
-    requires finish_parts { vec_len jobs < seat.old.finish_parts }
+    requires start_parts { vec_len jobs < own.old.start_parts }
+    requires finish_parts { vec_len jobs < own.old.finish_parts }
     ensures workers { IfOk result (λ r. vec_len r.0 ≡ vec_len jobs) }
-    ensures seat { IfOk result (λ r.
-        CountsNight (vec_len jobs) (noted r.0.items) seat.old seat.new) }
+    ensures own { IfOk result (λ r.
+        CountsNight (vec_len jobs) (noted r.0.items) own.old own.new) }
     ensures shifts { IfOk result (λ r. AllZip (λ list notes.
-        IsOfShift (OfDesk D.state (G.lets gate.now) (G.told gate.now))
+        IsOfShift (OfDesk D.state (G.lets gate.now) (G.reported gate.now))
         ⟦<Box<dyn Job + Send> as Job>⟧.answers ⟦<Box<dyn Job + Send> as Job>⟧.turns
         list.items notes) jobs.items r.0.items) }
-    ensures flushed { IfOk result (λ r. FlushesNight D.state O.opening seat.new r.1) }
+    ensures flushed { IfOk result (λ r. FlushesNight D.state O.opening own.new r.1) }
     ensures fault { IfErr result (λ fault. fault ≡ Memory) }
 {
-    let lists = run_shifts(rt, alloc, shared, seat, jobs, gate);
-    let last = shared.lock(rt).flush_as(seat);
+    let lists = run_shifts(rt, alloc, shared, own, jobs, gate);
+    let last = shared.lock(rt).flush_as(own);
     Ok((lists?, last))
 }
 
@@ -87,48 +87,48 @@ pub fn run_shifts<
     rt: &R,
     alloc: Global,
     shared: &Mutex<T>,
-    seat: &mut Seat<S, F>,
+    own: &mut OwnCounts<S, F>,
     jobs: Vec<Vec<J>>,
     gate: &G,
 ) -> Result<Vec<WorkerNotes>, Fault>
-    requires start_parts { vec_len jobs < seat.old.start_parts }
-    requires finish_parts { vec_len jobs < seat.old.finish_parts }
+    requires start_parts { vec_len jobs < own.old.start_parts }
+    requires finish_parts { vec_len jobs < own.old.finish_parts }
     ensures workers { IfOk result (λ lists. vec_len lists ≡ vec_len jobs) }
-    ensures seat { IfOk result (λ lists.
-        CountsNight (vec_len jobs) (noted lists.items) seat.old seat.new) }
+    ensures own { IfOk result (λ lists.
+        CountsNight (vec_len jobs) (noted lists.items) own.old own.new) }
     ensures gate { IfOk result (λ lists.
-        All (IsSomeShift (IsGates (G.lets gate.now) (G.told gate.now))) lists.items) }
+        All (IsSomeShift (IsGates (G.lets gate.now) (G.reported gate.now))) lists.items) }
     ensures shifts { IfOk result (λ lists. AllZip (λ list notes. IsOfShift
-        (IsAnswered T.starts T.holds T.flushes T.tells T.finishes
-        (G.lets gate.now) (G.told gate.now)) J.answers J.turns list.items notes)
+        (IsAnswered T.starts T.holds T.flushes T.reports T.finishes
+        (G.lets gate.now) (G.reported gate.now)) J.answers J.turns list.items notes)
         jobs.items lists.items) }
     ensures fault { IfErr result (λ fault. fault ≡ Memory) }
 {
     let Ok(mut notes) = Vec::with_capacity(alloc, jobs.len()) else {
         return Err(Fault::Memory);
     };
-    let Ok(workers) = workers_of(alloc, seat, jobs) else {
+    let Ok(workers) = workers_of(alloc, own, jobs) else {
         return Err(Fault::Memory);
     };
     let Ok(shifts) = shifts_of(rt, alloc, shared, workers, gate) else {
         return Err(Fault::Memory);
     };
-    gather(seat, shifts, &mut notes);
+    gather(own, shifts, &mut notes);
     Ok(notes)
 }
 
-/// Returns what each worker begins with: its list of jobs, and one part of the seat.
+/// Returns what each worker begins with: its list of jobs, and one part of the counts.
 fn workers_of<S: Ledger, F: Ledger, J: Job>(
     alloc: Global,
-    seat: &mut Seat<S, F>,
+    own: &mut OwnCounts<S, F>,
     jobs: Vec<Vec<J>>,
 ) -> Result<Vec<WorkerStart<S, F, J>>, Fault>
-    requires start_parts { vec_len jobs < seat.old.start_parts }
-    requires finish_parts { vec_len jobs < seat.old.finish_parts }
+    requires start_parts { vec_len jobs < own.old.start_parts }
+    requires finish_parts { vec_len jobs < own.old.finish_parts }
     ensures len { IfOk result (λ v. vec_len v ≡ vec_len jobs) }
     ensures jobs { IfOk result (λ v. map (λ worker. worker.jobs) v.items ≡ jobs.items) }
-    ensures parts { OnOk result (GivesParts (vec_len jobs) seat.old seat.new) }
-    ensures counts { CountsSame seat.old seat.new }
+    ensures parts { OnOk result (GivesParts (vec_len jobs) own.old own.new) }
+    ensures counts { CountsSame own.old own.new }
     ensures fault { IfErr result (λ fault. fault ≡ Memory) }
 {
     let Ok(mut workers) = Vec::with_capacity(alloc, jobs.len()) else {
@@ -136,7 +136,7 @@ fn workers_of<S: Ledger, F: Ledger, J: Job>(
     };
     for list in jobs {
         let notes = WorkerNotes::with_room(alloc)?;
-        workers.push_reserved(WorkerStart::new(list, seat.split_one(), notes));
+        workers.push_reserved(WorkerStart::new(list, own.split_one(), notes));
     }
     Ok(workers)
 }
@@ -159,15 +159,15 @@ fn shifts_of<
 ) -> Result<Vec<WorkerEnd<S, F>>, AllocError>
     ensures len { IfOk result (λ v. vec_len v ≡ vec_len workers) }
     ensures shifts { IfOk result (λ v. AllZip (λ worker end. IsOfShift
-        (IsAnswered T.starts T.holds T.flushes T.tells T.finishes
-        (G.lets gate.now) (G.told gate.now)) J.answers J.turns worker.jobs.items end.notes)
+        (IsAnswered T.starts T.holds T.flushes T.reports T.finishes
+        (G.lets gate.now) (G.reported gate.now)) J.answers J.turns worker.jobs.items end.notes)
         workers.items v.items) }
 {
     let count = workers.len();
     let mut handles = Vec::with_capacity(alloc, count)?;
     let shifts = Vec::with_capacity(alloc, count)?;
-    let bell = Bell::new();
-    let bell = &bell;
+    let signal = FlushSignal::new();
+    let signal = &signal;
     let arrivals = Arrivals::new();
     let arrivals = &arrivals;
     thread::scope(
@@ -179,23 +179,23 @@ fn shifts_of<
             requires shifts { (vec_len shifts ≡ 0) × (count ≤ vec_capacity shifts) }
             ensures len { IfOk result (λ v. vec_len v ≡ count) }
             ensures shifts { IfOk result (λ v. AllZip (λ worker end. IsOfShift
-                (IsAnswered T.starts T.holds T.flushes T.tells T.finishes
-                (G.lets gate.entry.now) (G.told gate.entry.now)) J.answers J.turns
+                (IsAnswered T.starts T.holds T.flushes T.reports T.finishes
+                (G.lets gate.entry.now) (G.reported gate.entry.now)) J.answers J.turns
                 worker.jobs.items end.notes) workers.items v.items) }
         {
-            let flusher = scope.spawn(move || save_at(rt, shared, arrivals, bell))?;
+            let flusher = scope.spawn(move || save_at(rt, shared, arrivals, signal))?;
             start_each(
                 scope,
                 rt,
                 shared,
                 arrivals,
-                bell,
+                signal,
                 gate,
                 workers,
                 &mut handles,
             );
             let left = joined(rt, gate, handles, shifts, count);
-            bell.close(rt);
+            signal.close(rt);
             flusher.join(rt);
             left
         },
@@ -218,7 +218,7 @@ fn start_each<
     rt: &'s R,
     shared: &'s Mutex<T>,
     arrivals: &'s Arrivals,
-    bell: &'s Bell,
+    signal: &'s FlushSignal,
     gate: &'g G,
     workers: Vec<WorkerStart<S, F, J>>,
     handles: &mut Vec<PromisedHandle<WorkerEnd<S, F>, ShiftOf<'g, T, G, J>>>,
@@ -240,10 +240,10 @@ fn start_each<
         match scope.spawn_with(
             promise,
             move || -> WorkerEnd<S, F>
-                ensures { IsOfShift (IsAnswered T.starts T.holds T.flushes T.tells T.finishes
-                    (G.lets gate.entry.now) (G.told gate.entry.now)) J.answers J.turns
+                ensures { IsOfShift (IsAnswered T.starts T.holds T.flushes T.reports T.finishes
+                    (G.lets gate.entry.now) (G.reported gate.entry.now)) J.answers J.turns
                     worker.jobs.items result.notes }
-            { worker.work(rt, shared, arrivals, bell, gate) },
+            { worker.work(rt, shared, arrivals, signal, gate) },
         ) {
             Ok(handle) => handles.push_reserved(handle),
             // a refused thread leaves no handle
@@ -266,9 +266,9 @@ fn joined<S: Ledger, F: Ledger, T: CountedPlace<S, F>, G: Gate, J: Job, R: Threa
     requires gate { All (λ h. h.promise.gate.now ≡ gate.now) handles.items }
     ensures len { IfOk result (λ v. vec_len v ≡ count) }
     ensures shifts { IfOk result (λ v. AllZip (λ h end. IsOfShift
-        (IsAnswered T.starts T.holds T.flushes T.tells T.finishes
-        (G.lets gate.now) (G.told gate.now)) J.answers J.turns h.promise.jobs.value.items end.notes)
-        handles.entry.items v.items) }
+        (IsAnswered T.starts T.holds T.flushes T.reports T.finishes
+        (G.lets gate.now) (G.reported gate.now)) J.answers J.turns h.promise.jobs.value.items
+        end.notes) handles.entry.items v.items) }
 {
     for handle in handles {
         shifts.push_reserved(handle.join(rt));
@@ -279,21 +279,26 @@ fn joined<S: Ledger, F: Ledger, T: CountedPlace<S, F>, G: Gate, J: Job, R: Threa
     Ok(shifts)
 }
 
-/// Makes each event durable for which the bell is rung, until the bell is closed.
-fn save_at<T: Place, R: Wait>(rt: &R, shared: &Mutex<T>, arrivals: &Arrivals, bell: &Bell) {
+/// Makes each event durable for which it is woken, until the signal is closed.
+fn save_at<T: Place, R: Wait>(
+    rt: &R,
+    shared: &Mutex<T>,
+    arrivals: &Arrivals,
+    signal: &FlushSignal,
+) {
     let mut flusher = ThreadFlusher {
         rt,
         shared,
         arrivals,
-        bell,
+        signal,
     };
-    save_rings(rt, &mut flusher);
+    save_wakes(rt, &mut flusher);
 }
 
 /// Takes the parts back, and moves the notes of the shifts into a list, which must have the
 /// capacity.
 fn gather<S: Ledger, F: Ledger>(
-    seat: &mut Seat<S, F>,
+    own: &mut OwnCounts<S, F>,
     shifts: Vec<WorkerEnd<S, F>>,
     notes: &mut Vec<WorkerNotes>,
 )
@@ -301,14 +306,14 @@ fn gather<S: Ledger, F: Ledger>(
     requires room { vec_len shifts ≤ vec_capacity notes.old }
     ensures len { vec_len notes.new ≡ vec_len shifts }
     ensures notes { notes.new.items ≡ map (λ shift. shift.notes) shifts.items }
-    ensures seat { JoinsShifts (vec_len notes.new) (noted notes.new.items) seat.old seat.new }
+    ensures own { JoinsShifts (vec_len notes.new) (noted notes.new.items) own.old own.new }
 {
     for shift in shifts {
         let WorkerEnd {
-            seat: part,
+            own: part,
             notes: list,
         } = shift;
-        seat.join(part);
+        own.join(part);
         notes.push_reserved(list);
     }
 }

@@ -5,13 +5,13 @@ ghost use Rattle.run_model.specs.declared.answers.Started.{Started};
 ghost use Rattle.run_model.specs.declared.faults.Trouble.{Trouble};
 ghost use Rattle.run_model.specs.declared.refusals.Refusal.{Refusal};
 ghost use Rattle.run_model.specs.declared.tasks.Outcome.{Outcome};
-ghost use Rattle.run_crew.specs.Seats.{one_finish, one_start};
+ghost use Rattle.run_crew.specs.OwnCounts.{one_finish, one_start};
 
-use crate::seats::Seat;
+use crate::own_counts::OwnCounts;
 use run_model::{Outcome, Refusal, Started, Trouble};
 use std::sync::ledger::Ledger;
 
-/// The calls that aren't counted in a seat.
+/// The calls that aren't counted.
 pub trait Place {
     /// This many events are durable.
     ghost holds: { Self → ℕ → Type 0 };
@@ -20,7 +20,7 @@ pub trait Place {
     ghost flushes: { Self → Result ℕ Trouble → Self → Type 0 };
 
     /// What the place may answer about the scope of a task.
-    ghost tells: { Self → ℕ → Bool → Type 0 };
+    ghost reports: { Self → ℕ → Bool → Type 0 };
 
     /// Returns the number of durable events.
     fn durable(&self) -> u64
@@ -32,10 +32,10 @@ pub trait Place {
 
     /// Returns whether the scope of a task is done.
     fn is_done(&self, task: u16) -> bool
-        ensures { tells self.now task result };
+        ensures { reports self.now task result };
 }
 
-/// The calls that are counted in the seat of the thread that makes them.
+/// The calls that the thread that makes them counts.
 pub trait CountedPlace<S: Ledger, F: Ledger>: Place {
     /// What a start may return and leave.
     ghost starts: { Self → Result Started Refusal → Self → Type 0 };
@@ -44,21 +44,21 @@ pub trait CountedPlace<S: Ledger, F: Ledger>: Place {
     ghost finishes: { Self → ℕ → Outcome → Result ℕ Refusal → Self → Type 0 };
 
     /// Starts a task.
-    fn start_as(&mut self, seat: &mut Seat<S, F>) -> Result<Started, Refusal>
-        requires part { 0 < seat.old.start_parts }
+    fn start_as(&mut self, own: &mut OwnCounts<S, F>) -> Result<Started, Refusal>
+        requires part { 0 < own.old.start_parts }
         ensures starts { starts self.old result self.new }
-        ensures seat { MatchResult result (λ _. seat.new ≡ one_start seat.old)
-            (λ _. seat.new ≡ seat.old) };
+        ensures own { MatchResult result (λ _. own.new ≡ one_start own.old)
+            (λ _. own.new ≡ own.old) };
 
     /// Ends a task.
     fn finish_as(
         &mut self,
-        seat: &mut Seat<S, F>,
+        own: &mut OwnCounts<S, F>,
         task: u16,
         outcome: &Outcome,
     ) -> Result<u64, Refusal>
-        requires part { 0 < seat.old.finish_parts }
+        requires part { 0 < own.old.finish_parts }
         ensures finishes { finishes self.old task outcome.now result self.new }
-        ensures seat { MatchResult result (λ _. seat.new ≡ one_finish seat.old)
-            (λ _. seat.new ≡ seat.old) };
+        ensures own { MatchResult result (λ _. own.new ≡ one_finish own.old)
+            (λ _. own.new ≡ own.old) };
 }

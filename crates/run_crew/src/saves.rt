@@ -1,7 +1,7 @@
 //! A thread makes an event durable by a flush of its own, or by the flush of another thread.
 
 ghost use Rattle.std.specs.Prelude.{◌≤◌, IfOk};
-ghost use Rattle.run_crew.specs.Courses.{IsTold};
+ghost use Rattle.run_crew.specs.Courses.{IsReported};
 
 use crate::arrivals::Arrivals;
 use crate::places::Place;
@@ -19,7 +19,7 @@ pub fn save<T: Place, R: Wait>(
     event: u64,
 ) -> Result<u64, Trouble>
     ensures reached { IfOk result (λ durable. event ≤ durable) }
-    ensures told { IsTold T.holds T.flushes result }
+    ensures reported { IsReported T.holds T.flushes result }
 {
     let mut place = shared.lock(rt);
     for _ in rt.forever() {

@@ -4,24 +4,25 @@ ghost use Rattle.std.specs.Prelude.{◌≡◌, vec_len};
 ghost use Rattle.run_crew.specs.Courses.{IsAnswered, StepsJobs};
 
 use crate::arrivals::Arrivals;
-use crate::bells::Bell;
+use crate::flush_signals::FlushSignal;
 use crate::jobs::{Gate, Job, Turn};
+use crate::own_counts::OwnCounts;
 use crate::places::CountedPlace;
 use crate::saves::save;
-use crate::seats::Seat;
 use crate::worker_calls::WorkerCalls;
 use run_model::{Name, Outcome, Refusal, Started, TaskInfo, Trouble};
 use std::sync::ledger::Ledger;
 use std::sync::{Mutex, Wait};
 
 /// The calls of a worker in a thread. Each goes to the value under the lock, which is released
-/// after it, to the gate, which stays the same, to one of the worker's own jobs, or to the bell.
+/// after it, to the gate, which stays the same, to one of the worker's own jobs, or to the signal of
+/// the flusher.
 #[derive(Drop)]
 pub struct ThreadCalls<'a, T, G, R, J> {
     pub rt: &'a R,
     pub shared: &'a Mutex<T>,
     pub arrivals: &'a Arrivals,
-    pub bell: &'a Bell,
+    pub signal: &'a FlushSignal,
     pub gate: &'a G,
     pub jobs: Vec<J>,
 }
@@ -29,8 +30,8 @@ pub struct ThreadCalls<'a, T, G, R, J> {
 impl<'a, S: Ledger, F: Ledger, T: CountedPlace<S, F>, G: Gate, R: Wait, J: Job> WorkerCalls<S, F>
     for ThreadCalls<'a, T, G, R, J> {
     ghost step = { λ from call to. (to.gate.now ≡ from.gate.now)
-        × IsAnswered T.starts T.holds T.flushes T.tells T.finishes
-        (G.lets from.gate.now) (G.told from.gate.now) call
+        × IsAnswered T.starts T.holds T.flushes T.reports T.finishes
+        (G.lets from.gate.now) (G.reported from.gate.now) call
         × StepsJobs J.answers J.turns from.jobs.items call to.jobs.items };
 
     ghost jobs = { λ place. vec_len place.jobs };
@@ -39,10 +40,10 @@ impl<'a, S: Ledger, F: Ledger, T: CountedPlace<S, F>, G: Gate, R: Wait, J: Job> 
         self.jobs.len()
     }
 
-    fn start(&mut self, seat: &mut Seat<S, F>) -> Result<Started, Refusal> {
+    fn start(&mut self, own: &mut OwnCounts<S, F>) -> Result<Started, Refusal> {
         self.arrivals.come();
         let mut place = self.shared.lock(self.rt);
-        let started = place.start_as(seat);
+        let started = place.start_as(own);
         if started.is_err() {
             self.arrivals.go();
         }
@@ -71,22 +72,22 @@ impl<'a, S: Ledger, F: Ledger, T: CountedPlace<S, F>, G: Gate, R: Wait, J: Job> 
 
     fn finish(
         &mut self,
-        seat: &mut Seat<S, F>,
+        own: &mut OwnCounts<S, F>,
         task: u16,
         outcome: &Outcome,
     ) -> Result<u64, Refusal> {
         self.arrivals.come();
         let mut place = self.shared.lock(self.rt);
-        let finished = place.finish_as(seat, task, outcome);
+        let finished = place.finish_as(own, task, outcome);
         self.arrivals.go();
         finished
     }
 
-    fn tell(&mut self, task: u16) {
+    fn report(&mut self, task: u16) {
         self.gate.finished(task);
     }
 
-    fn ring(&mut self, event: u64) {
-        self.bell.ring(self.rt, event);
+    fn wake(&mut self, event: u64) {
+        self.signal.wake(self.rt, event);
     }
 }

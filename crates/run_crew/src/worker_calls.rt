@@ -3,10 +3,10 @@
 ghost use Rattle.std.specs.Prelude.{◌≡◌, ◌<◌, ◌≤◌, ℕ, IfOk, MatchResult};
 ghost use Rattle.run_crew.specs.Courses.{Call};
 ghost use Rattle.run_crew.specs.Courses as call;
-ghost use Rattle.run_crew.specs.Seats.{one_finish, one_start};
+ghost use Rattle.run_crew.specs.OwnCounts.{one_finish, one_start};
 
 use crate::jobs::Turn;
-use crate::seats::Seat;
+use crate::own_counts::OwnCounts;
 use run_model::{Name, Outcome, Refusal, Started, TaskInfo, Trouble};
 use std::sync::ledger::Ledger;
 
@@ -25,12 +25,12 @@ pub trait WorkerCalls<S: Ledger, F: Ledger> {
         ensures { result ≡ jobs self.now };
 
     /// Starts a task, under the lock.
-    fn start(&mut self, seat: &mut Seat<S, F>) -> Result<Started, Refusal>
-        requires part { 0 < seat.old.start_parts }
+    fn start(&mut self, own: &mut OwnCounts<S, F>) -> Result<Started, Refusal>
+        requires part { 0 < own.old.start_parts }
         ensures step { step self.old (call.Start result) self.new }
         ensures jobs { jobs self.new ≡ jobs self.old }
-        ensures seat { MatchResult result (λ _. seat.new ≡ one_start seat.old)
-            (λ _. seat.new ≡ seat.old) };
+        ensures own { MatchResult result (λ _. own.new ≡ one_start own.old)
+            (λ _. own.new ≡ own.old) };
 
     /// Waits until all events up to this one are durable, whichever thread flushes, and returns the
     /// number of durable events.
@@ -64,23 +64,23 @@ pub trait WorkerCalls<S: Ledger, F: Ledger> {
     /// Ends a task, under the lock.
     fn finish(
         &mut self,
-        seat: &mut Seat<S, F>,
+        own: &mut OwnCounts<S, F>,
         task: u16,
         outcome: &Outcome,
     ) -> Result<u64, Refusal>
-        requires part { 0 < seat.old.finish_parts }
+        requires part { 0 < own.old.finish_parts }
         ensures step { step self.old (call.Finish task outcome.now result) self.new }
         ensures jobs { jobs self.new ≡ jobs self.old }
-        ensures seat { MatchResult result (λ _. seat.new ≡ one_finish seat.old)
-            (λ _. seat.new ≡ seat.old) };
+        ensures own { MatchResult result (λ _. own.new ≡ one_finish own.old)
+            (λ _. own.new ≡ own.old) };
 
     /// Informs the gate that a task was finished.
-    fn tell(&mut self, task: u16)
-        ensures step { step self.old (call.Tell task) self.new }
+    fn report(&mut self, task: u16)
+        ensures step { step self.old (call.Report task) self.new }
         ensures jobs { jobs self.new ≡ jobs self.old };
 
-    /// Rings the bell for an event.
-    fn ring(&mut self, event: u64)
-        ensures step { step self.old (call.Ring event) self.new }
+    /// Wakes the flusher for an event.
+    fn wake(&mut self, event: u64)
+        ensures step { step self.old (call.Wake event) self.new }
         ensures jobs { jobs self.new ≡ jobs self.old };
 }

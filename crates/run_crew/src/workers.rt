@@ -3,15 +3,15 @@
 
 ghost use Rattle.std.specs.Prelude.{◌≡◌, ◌+◌, ◌≤◌, [], length};
 ghost use Rattle.run_crew.specs.Courses.{IsAnswered, IsOfShift};
-ghost use Rattle.run_crew.specs.Seats.{one_part};
+ghost use Rattle.run_crew.specs.OwnCounts.{one_part};
 
 use crate::arrivals::Arrivals;
-use crate::bells::Bell;
 use crate::courses::take_tasks;
+use crate::flush_signals::FlushSignal;
 use crate::jobs::{Gate, Job};
 use crate::notes::WorkerNotes;
+use crate::own_counts::OwnCounts;
 use crate::places::CountedPlace;
-use crate::seats::Seat;
 use crate::thread_calls::ThreadCalls;
 use std::marker::PhantomData;
 use std::snapshot::Snapshot;
@@ -23,12 +23,12 @@ use std::thread::Promise;
 #[derive(Drop)]
 pub struct WorkerStart<S: Ledger, F: Ledger, J> {
     pub jobs: Vec<J>,
-    seat: Seat<S, F>,
+    own: OwnCounts<S, F>,
     notes: WorkerNotes,
-    ghost has_start_part: { seat.start_parts ≡ 1 },
-    ghost has_finish_part: { seat.finish_parts ≡ 1 },
-    ghost no_starts: { seat.starts ≡ 0 },
-    ghost no_finishes: { seat.finishes ≡ 0 },
+    ghost has_start_part: { own.start_parts ≡ 1 },
+    ghost has_finish_part: { own.finish_parts ≡ 1 },
+    ghost no_starts: { own.starts ≡ 0 },
+    ghost no_finishes: { own.finishes ≡ 0 },
     ghost no_notes: { length notes ≡ 0 },
 }
 
@@ -36,13 +36,13 @@ pub struct WorkerStart<S: Ledger, F: Ledger, J> {
 /// or one more.
 #[derive(Drop)]
 pub struct WorkerEnd<S: Ledger, F: Ledger> {
-    pub seat: Seat<S, F>,
+    pub own: OwnCounts<S, F>,
     pub notes: WorkerNotes,
-    pub ghost has_start_part: { seat.start_parts ≡ 1 },
-    pub ghost has_finish_part: { seat.finish_parts ≡ 1 },
-    pub ghost each_is_noted: { seat.finishes ≡ length notes },
-    pub ghost each_was_started: { length notes ≤ seat.starts },
-    pub ghost one_more_at_most: { seat.starts ≤ length notes + 1 },
+    pub ghost has_start_part: { own.start_parts ≡ 1 },
+    pub ghost has_finish_part: { own.finish_parts ≡ 1 },
+    pub ghost each_is_noted: { own.finishes ≡ length notes },
+    pub ghost each_was_started: { length notes ≤ own.starts },
+    pub ghost one_more_at_most: { own.starts ≤ length notes + 1 },
 }
 
 /// Promises that a worker leaves the notes of a shift with these jobs, at this gate and at a lock
@@ -56,18 +56,19 @@ pub struct ShiftOf<'a, T, G, J> {
 
 impl<'a, S: Ledger, F: Ledger, T: CountedPlace<S, F>, G: Gate, J: Job> Promise<WorkerEnd<S, F>>
     for ShiftOf<'a, T, G, J> {
-    ghost kept_by = { λ p end. IsOfShift (IsAnswered T.starts T.holds T.flushes T.tells T.finishes
-        (G.lets p.gate.now) (G.told p.gate.now)) J.answers J.turns p.jobs.value.items end.notes };
+    ghost kept_by = { λ p end. IsOfShift (IsAnswered T.starts T.holds T.flushes T.reports
+        T.finishes (G.lets p.gate.now) (G.reported p.gate.now)) J.answers J.turns
+        p.jobs.value.items end.notes };
 }
 
 impl<S: Ledger, F: Ledger, J: Job> WorkerStart<S, F, J> {
     /// Returns what a worker with these jobs begins with.
-    pub fn new(jobs: Vec<J>, seat: Seat<S, F>, notes: WorkerNotes) -> WorkerStart<S, F, J>
-        requires seat { seat ≡ one_part }
+    pub fn new(jobs: Vec<J>, own: OwnCounts<S, F>, notes: WorkerNotes) -> WorkerStart<S, F, J>
+        requires own { own ≡ one_part }
         requires notes { notes ≡ [] }
         ensures jobs { result.jobs ≡ jobs }
     {
-        WorkerStart { jobs, seat, notes }
+        WorkerStart { jobs, own, notes }
     }
 
     /// Takes tasks until one of them isn't finished and noted, for example because no task is
@@ -77,26 +78,27 @@ impl<S: Ledger, F: Ledger, J: Job> WorkerStart<S, F, J> {
         rt: &R,
         shared: &Mutex<T>,
         arrivals: &Arrivals,
-        bell: &Bell,
+        signal: &FlushSignal,
         gate: &G,
     ) -> WorkerEnd<S, F>
-        ensures { IsOfShift (IsAnswered T.starts T.holds T.flushes T.tells T.finishes
-            (G.lets gate.now) (G.told gate.now)) J.answers J.turns self.jobs.items result.notes }
+        ensures { IsOfShift (IsAnswered T.starts T.holds T.flushes T.reports T.finishes
+            (G.lets gate.now) (G.reported gate.now)) J.answers J.turns self.jobs.items
+            result.notes }
     {
         let WorkerStart {
             jobs,
-            mut seat,
+            mut own,
             mut notes,
         } = self;
         let mut place = ThreadCalls {
             rt,
             shared,
             arrivals,
-            bell,
+            signal,
             gate,
             jobs,
         };
-        take_tasks(rt, &mut place, &mut seat, &mut notes);
-        WorkerEnd { seat, notes }
+        take_tasks(rt, &mut place, &mut own, &mut notes);
+        WorkerEnd { own, notes }
     }
 }

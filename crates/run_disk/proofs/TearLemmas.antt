@@ -4,7 +4,7 @@ use Rattle.run_model.proofs.Common.{sym, ◌∙◌, ap, inl, inr, arith, unwrap_
 use Rattle.run_model.proofs.Common.{lt-ltb, le-leb, length-replicate, length-take, All-weaker}
 use Rattle.std.proofs.lemmas.Bool.{cases_Bool}
 use Rattle.run_disk.specs.declared.tears.Torn.{Torn}
-use Rattle.run_disk.specs.declared.tears.Torn.TheVariants.{Keep, Take, Fill, Front}
+use Rattle.run_disk.specs.declared.tears.Torn.TheVariants.{Keep, Take, Fill, Prefix}
 use Rattle.run_disk.specs.Writes.{Write, History}
 use Rattle.run_disk.specs.History.{IsImage, IsTornImage, byte_put, left_of, torn_bytes, is_synced}
 use Rattle.run_disk.specs.History.{covers}
@@ -17,7 +17,7 @@ torn_bytes-short : (torn : Torn) (bytes : List ℕ) → length (torn_bytes torn 
 torn_bytes-short Keep bytes = omega arith
 torn_bytes-short Take bytes = omega arith
 torn_bytes-short (Fill value) bytes = omega (arith, length-replicate (length bytes) value)
-torn_bytes-short (Front n) bytes = omega (arith, length-take n bytes)
+torn_bytes-short (Prefix n) bytes = omega (arith, length-take n bytes)
 
 -- a place that a write doesn't cover lies before its range or after it
 uncovered : (i : ℕ) (w : Write) → covers i w ≡ false

@@ -8,7 +8,7 @@ use Rattle.std.specs.Option.{option_or}
 use Rattle.std.specs.List.{list_any, range_with_len}
 use Rattle.run_disk.specs.Writes.{Write, History}
 use Rattle.run_disk.specs.declared.tears.Torn.{Torn}
-use Rattle.run_disk.specs.declared.tears.Torn.TheVariants.{Keep, Take, Fill, Front}
+use Rattle.run_disk.specs.declared.tears.Torn.TheVariants.{Keep, Take, Fill, Prefix}
 
 -- A sync was made after this moment, among the first k calls.
 abbrev pub is_synced : List ℕ → ℕ → ℕ → Bool
@@ -20,7 +20,7 @@ abbrev pub torn_bytes : Torn → List ℕ → List ℕ
 torn_bytes Keep bytes = []
 torn_bytes Take bytes = bytes
 torn_bytes (Fill value) bytes = replicate (length bytes) value
-torn_bytes (Front n) bytes = take n bytes
+torn_bytes (Prefix n) bytes = take n bytes
 
 -- After the first k calls these bytes of a write are left: none if the write comes later, all if a
 -- sync followed it, and otherwise those that the tearing leaves.

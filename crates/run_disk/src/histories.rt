@@ -62,7 +62,7 @@ fn tear(window: &mut [u8], from: usize, at: usize, bytes: &[u8], torn: Torn)
         Torn::Keep => {}
         Torn::Take => put(window, from, at, bytes),
         Torn::Fill(value) => put_value(window, from, at, bytes.len(), value),
-        Torn::Front(count) => put(window, from, at, &bytes[..count.min(bytes.len())]),
+        Torn::Prefix(count) => put(window, from, at, &bytes[..count.min(bytes.len())]),
     }
 }
 

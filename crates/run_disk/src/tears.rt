@@ -10,5 +10,5 @@ pub enum Torn {
     /// This value in each of its bytes.
     Fill(u8),
     /// A prefix of the write with this number of bytes; all of it if it is shorter.
-    Front(usize),
+    Prefix(usize),
 }

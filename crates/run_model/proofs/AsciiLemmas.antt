@@ -44,5 +44,6 @@ name_is_ascii bytes h =
 -- A reader that fails only if bytes aren't UTF-8 doesn't fail for ASCII.
 pub ascii_is_read : {X E : Type 0} (P : X → Type 0) (Q : E → Type 0) (bytes : List ℕ)
     (r : Result X E) → MatchResult r P (λ e. ¬ (IsUtf8 bytes) × Q e) → IsAscii bytes → IsOk r
-ascii_is_read P Q bytes (Ok text) told ascii = refl
-ascii_is_read P Q bytes (Err why) told ascii = absurd (told.0 (IsUtf8-from_ascii bytes ascii))
+ascii_is_read P Q bytes (Ok text) reported ascii = refl
+ascii_is_read P Q bytes (Err why) reported ascii = absurd
+    (reported.0 (IsUtf8-from_ascii bytes ascii))

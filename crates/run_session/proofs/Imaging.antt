@@ -96,10 +96,10 @@ written p old first second third e one two end three room =
     let groups = flat_map group_bytes p.work.groups in
     let tasks = flat_map (task_bytes Two) p.work.tasks in
     let size : length head ≡ 23 = refl in
-    let front : second ≡ put_at old 0 (head ++ scopes) =
+    let prefix : second ≡ put_at old 0 (head ++ scopes) =
     two ∙ ap (λ o. put_at o 23 scopes) one
     ∙ put_then old 0 23 head scopes (omega (arith, size)) (omega (arith, room, end)) in
-    three ∙ ap (λ o. put_at o e (groups ++ tasks)) front
+    three ∙ ap (λ o. put_at o e (groups ++ tasks)) prefix
     ∙ put_then old 0 e (head ++ scopes) (groups ++ tasks)
     (omega (arith, end, size, length-append head scopes)) room
     ∙ ap (put_at old 0) (sym (append_assoc (head ++ scopes) groups tasks))

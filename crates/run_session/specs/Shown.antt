@@ -4,7 +4,7 @@ use Rattle.std.specs.Option.{option_map}
 use Rattle.std.specs.Prelude.{◌+◌, ◌*◌, ◌-◌, ℕ, List, Option, length}
 use Rattle.run_model.specs.State.{State, TreeState, WorkState}
 use Rattle.run_model.specs.declared.scopes.Reason.{Reason}
-use Rattle.run_session.specs.declared.questions.LookView.{LookView}
+use Rattle.run_session.specs.declared.questions.ScopeStatusRef.{ScopeStatusRef}
 
 -- The state that consists of a count, a tree and groups.
 abbrev pub shown : ℕ → TreeState → WorkState → State
@@ -22,5 +22,5 @@ ending_of ending = (ending.0, ending.1.now)
 
 -- What a view shows of a scope: the reason and the cause if it is done, and its deadline if it has
 -- one.
-abbrev pub shown_by : LookView → Option (Reason × List ℕ) × Option ℕ
+abbrev pub shown_by : ScopeStatusRef → Option (Reason × List ℕ) × Option ℕ
 shown_by view = (option_map ending_of view.done, view.deadline)

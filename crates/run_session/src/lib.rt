@@ -23,6 +23,6 @@ mod sessions;
 mod states;
 mod wishes;
 
-pub use questions::LookView;
+pub use questions::ScopeStatusRef;
 pub use sessions::Session;
 pub use states::State;

@@ -11,7 +11,7 @@ use Rattle.std.proofs.lemmas.List.{get_or-replicate}
 use Rattle.run_model.specs.declared.bounds.TheConstants.{MOST_SCOPES}
 use Rattle.scope_tree.specs.declared.indexes.chains.TheConstants.{CHAINS}
 use Rattle.scope_tree.specs.Chains.{Places, IsLast, IsChained, head_of, hung}
-use Rattle.scope_tree.proofs.Fronts.{given_back}
+use Rattle.scope_tree.proofs.Prefixes.{given_back}
 
 -- How many places a walk along a chain has before it at most.
 abbrev pub left : Option ℕ → ℕ

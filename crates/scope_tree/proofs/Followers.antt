@@ -216,16 +216,16 @@ more_are count clock (suc n) rows bytes x rules e =
 abbrev pub AreAllKept : List Scope → Type 0
 AreAllKept rows = AllByRecursion (λ row. IsTrue (is_kept_scope row)) rows
 
-found_left : (front more : List Scope) (s : ℕ) (row : Scope) → slice_get front s ≡ Some row
-    → slice_get (front ++ more) s ≡ Some row
+found_left : (prefix more : List Scope) (s : ℕ) (row : Scope) → slice_get prefix s ≡ Some row
+    → slice_get (prefix ++ more) s ≡ Some row
 found_left [] more s row found = absurd (none-some row found)
-found_left (r ∷ front) more zero row found = found
-found_left (r ∷ front) more (suc s) row found = found_left front more s row found
+found_left (r ∷ prefix) more zero row found = found
+found_left (r ∷ prefix) more (suc s) row found = found_left prefix more s row found
 
-found_seam : (front : List Scope) (row : Scope) (back : List Scope)
-    → slice_get (front ++ row ∷ back) (length front) ≡ Some row
+found_seam : (prefix : List Scope) (row : Scope) (back : List Scope)
+    → slice_get (prefix ++ row ∷ back) (length prefix) ≡ Some row
 found_seam [] row back = refl
-found_seam (r ∷ front) row back = found_seam front row back
+found_seam (r ∷ prefix) row back = found_seam prefix row back
 
 reason_right : (reason : Reason) (deadline : Option ℕ) (moment : ℕ)
     → (reason ≡ DeadlineExceeded → deadline ≡ Some moment)
@@ -259,40 +259,40 @@ fits_again count clock kind None hits come = by_deadline (own_deadline kind) (λ
         by_test true is = late m refl (leb-true m clock is)
         by_test false is = refl
 
-can_follow_in : (count clock : ℕ) (front : List Scope) (row : Scope) (back : List Scope)
-    → AreScopeRules count clock (front ++ row ∷ back) → 1 ≤ length front
-    → is_root row.kind ≡ false → can_follow count clock front row ≡ true
-can_follow_in count clock front row back rules some below =
-    let here = found_seam front row back in
+can_follow_in : (count clock : ℕ) (prefix : List Scope) (row : Scope) (back : List Scope)
+    → AreScopeRules count clock (prefix ++ row ∷ back) → 1 ≤ length prefix
+    → is_root row.kind ≡ false → can_follow count clock prefix row ≡ true
+can_follow_in count clock prefix row back rules some below =
+    let here = found_seam prefix row back in
     and_from _ _
     (and_from _ _
-    (lt-ltb row.parent (length front) (rules.ordered (length front) row here below))
-    (unpassed root (λ r. bytes_eq row.name r.name) front
+    (lt-ltb row.parent (length prefix) (rules.ordered (length prefix) row here below))
+    (unpassed root (λ r. bytes_eq row.name r.name) prefix
     (λ s a found same.
-    let left = found_left front (row ∷ back) s a found in
+    let left = found_left prefix (row ∷ back) s a found in
     let named : row.name ≡ a.name = (bytes_eq-Decides row.name a.name).0 same in
-    let place : s ≡ length front = rules.names s (length front) a row left here (sym named) in
-    let less : s < length front = slice_get_within front s a found in
+    let place : s ≡ length prefix = rules.names s (length prefix) a row left here (sym named) in
+    let less : s < length prefix = slice_get_within prefix s a found in
     absurd (omega arith))))
     (fits_again count clock row.kind row.hit
-    (λ hit has. rules.hits (length front) row hit here has)
-    (λ moment due less. rules.come (length front) moment row here due less))
+    (λ hit has. rules.hits (length prefix) row hit here has)
+    (λ moment due less. rules.come (length prefix) moment row here due less))
 
-pub more_again : (count clock : ℕ) (front back : List Scope) (rest : List ℕ)
-    → AreScopeRules count clock (front ++ back) → 1 ≤ length front → AreAllKept back
-    → more_rows_at count clock (length back) front (flat_map scope_bytes back ++ rest)
-    ≡ Some (front ++ back, rest)
-more_again count clock front [] rest rules some kept =
-    ap (λ r. Some (r, rest)) (sym (append-nil front))
-more_again count clock front (row ∷ back) rest rules some kept =
+pub more_again : (count clock : ℕ) (prefix back : List Scope) (rest : List ℕ)
+    → AreScopeRules count clock (prefix ++ back) → 1 ≤ length prefix → AreAllKept back
+    → more_rows_at count clock (length back) prefix (flat_map scope_bytes back ++ rest)
+    ≡ Some (prefix ++ back, rest)
+more_again count clock prefix [] rest rules some kept =
+    ap (λ r. Some (r, rest)) (sym (append-nil prefix))
+more_again count clock prefix (row ∷ back) rest rules some kept =
     let below : is_root row.kind ≡ false =
     kept_below_root row.kind (second_true _ _ (first_true _ _ kept.0)) in
-    let can : can_follow count clock front row ≡ true =
-    can_follow_in count clock front row back rules some below in
-    let whole = append_assoc front (row ∷ []) back in
-    let others = more_again count clock (front ++ row ∷ []) back rest
+    let can : can_follow count clock prefix row ≡ true =
+    can_follow_in count clock prefix row back rules some below in
+    let whole = append_assoc prefix (row ∷ []) back in
+    let others = more_again count clock (prefix ++ row ∷ []) back rest
     (subst (AreScopeRules count clock) (sym whole) rules)
-    (omega (arith, length-append front (row ∷ []))) kept.1 in
+    (omega (arith, length-append prefix (row ∷ []))) kept.1 in
     rw (
       append_assoc (scope_bytes row) (flat_map scope_bytes back) rest,
       scope_row.again row (flat_map scope_bytes back ++ rest) kept.0,

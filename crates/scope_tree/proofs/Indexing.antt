@@ -15,7 +15,7 @@ use Rattle.scope_tree.specs.Marks.{AreMarked, AreKept, IsMark}
 use Rattle.scope_tree.specs.Reaches.{AreReached, AreReaches}
 use Rattle.scope_tree.specs.IndexedRows.{Numbered, IsIndexed}
 use Rattle.scope_tree.specs.declared.indexes.reaches.Reach.{Reach}
-use Rattle.scope_tree.proofs.Fronts.{given_back}
+use Rattle.scope_tree.proofs.Prefixes.{given_back}
 use Rattle.scope_tree.proofs.Growing.{ordered_pushed, marked_pushed}
 use Rattle.scope_tree.proofs.Nearing.{AreAgain, reaches_again}
 use Rattle.scope_tree.proofs.Waiting.{has_deadline}

@@ -5,7 +5,7 @@ pub mod EventRanges
 pub mod Events
 pub mod Expiring
 pub mod Followers
-pub mod Fronts
+pub mod Prefixes
 pub mod Growing
 pub mod HeapSteps
 pub mod Heaps

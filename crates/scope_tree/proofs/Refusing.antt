@@ -6,17 +6,17 @@ use Rattle.run_model.specs.declared.refusals.Refusal.{Refusal}
 use Rattle.run_model.specs.declared.refusals.Refusal.TheVariants as refusal
 
 -- the result of one test
-pub one_told : (holds is : Bool) (why : Refusal) → is ≡ holds
+pub one_reported : (holds is : Bool) (why : Refusal) → is ≡ holds
     → (if holds then Err why else Ok tt) ≡ tested ((is, why) ∷ [])
-one_told holds is why same = rw same refl
+one_reported holds is why same = rw same refl
 
 -- the result of the test of a name, if the parent exists
-pub name_told : (t : TreeState) (name : List ℕ) (parent : ℕ) (taken : Bool)
+pub name_reported : (t : TreeState) (name : List ℕ) (parent : ℕ) (taken : Bool)
     → parent < length t.scopes → is_some (scope_named t name) ≡ taken
     → (if taken then Err refusal.NameTaken else Ok tt)
     ≡ tested ((not (has_row t.scopes parent), refusal.NoSuchScope)
     ∷ (not (is_none (scope_named t name)), refusal.NameTaken) ∷ [])
-name_told t name parent taken known is =
+name_reported t name parent taken known is =
     rw (lt-ltb parent (length t.scopes) known) (by (scope_named t name) taken is)
   where
     by : (found : Option ℕ) (b : Bool) → is_some found ≡ b

@@ -163,10 +163,10 @@ hit_text (Some x) hit ok has =
 
 kept_typed : (row : Scope) → IsTrue (is_kept_scope row) → IsTypedScope row
 kept_typed row ok =
-    let front = first_true _ _ ok in
+    let prefix = first_true _ _ ok in
     record {
-      name = first_true _ _ (first_true _ _ front);
-      kind = λ other. second_true _ _ front;
+      name = first_true _ _ (first_true _ _ prefix);
+      kind = λ other. second_true _ _ prefix;
       cause = λ hit has. hit_text row.hit hit (second_true _ _ ok) has;
     }
 

@@ -10,14 +10,25 @@ use Rattle.run_model.specs.declared.scopes.Hit.{Hit}
 use Rattle.run_model.specs.declared.scopes.Scope.{Scope}
 use Rattle.run_model.specs.declared.tasks.Phase.{Phase}
 use Rattle.run_model.specs.declared.tasks.Task.{Task}
-use Rattle.state_renewal.specs.Renewed.{new_number, Part, group_anew, scope_anew, state_anew}
-use Rattle.state_renewal.specs.Renewed.{task_anew}
-use Rattle.state_renewal.specs.Alike.{GoOnAlike, group_look_anew, task_look_anew}
-use Rattle.state_renewal.proofs.Chains.{deadline_told, ending_told, line_told, scopes_anew}
-use Rattle.state_renewal.proofs.Chains.{value_told}
+use Rattle.state_renewal.specs.Renewed.{
+  new_number,
+  Part,
+  group_renumbered,
+  scope_renumbered,
+  state_renumbered,
+}
+use Rattle.state_renewal.specs.Renewed.{task_renumbered}
+use Rattle.state_renewal.specs.Alike.{GoOnAlike, group_look_renumbered, task_look_renumbered}
+use Rattle.state_renewal.proofs.Chains.{
+  deadline_renewed,
+  ending_renewed,
+  line_renewed,
+  scopes_renumbered,
+}
+use Rattle.state_renewal.proofs.Chains.{value_renewed}
 use Rattle.state_renewal.proofs.Goes.{Goes, hangs}
-use Rattle.state_renewal.proofs.RowsAnew.{anew_get, row_anew}
-use Rattle.state_renewal.proofs.Works.{admitted_anew, first_anew, unfinished_same}
+use Rattle.state_renewal.proofs.RowsRenumbered.{renumbered_get, row_renumbered}
+use Rattle.state_renewal.proofs.Works.{admitted_renumbered, first_renumbered, unfinished_same}
 use Rattle.task_group.specs.Questions.{look_by}
 
 -- ---- scopes
@@ -30,25 +41,25 @@ look name end deadline = record {
 }
 
 looks_alike : (part : Part) (p : State) → AreOrdered p.tree.scopes
-    → AreOrdered (state_anew part p).tree.scopes → Goes part p → (s : ℕ)
+    → AreOrdered (state_renumbered part p).tree.scopes → Goes part p → (s : ℕ)
     → part.scopes s ≡ true
-    → look_of (state_anew part p) (new_number part.scopes s) ≡ look_of p s
-looks_alike part p ordered anew go s is =
-    row_anew (option_map (λ row. look row.name (ending rows new) (deadline_of rows new)))
+    → look_of (state_renumbered part p) (new_number part.scopes s) ≡ look_of p s
+looks_alike part p ordered renumbered go s is =
+    row_renumbered (option_map (λ row. look row.name (ending rows new) (deadline_of rows new)))
     (option_map (λ row. look row.name (ending p.tree.scopes s) (deadline_of p.tree.scopes s)))
-    part.scopes (scope_anew part) p.tree.scopes s refl
+    part.scopes (scope_renumbered part) p.tree.scopes s refl
     (λ row at.
-    let told = line_told part p.tree.scopes ordered anew go.scopes.each s row at is in
+    let restated = line_renewed part p.tree.scopes ordered renumbered go.scopes.each s row at is in
     ap (λ o. Some (look row.name o (deadline_of rows new)))
-    (ending_told part p.tree.scopes s told)
+    (ending_renewed part p.tree.scopes s restated)
     ∙ ap (λ o. Some (look row.name (ending p.tree.scopes s) o))
-    (deadline_told part p.tree.scopes s told)) is
+    (deadline_renewed part p.tree.scopes s restated)) is
   where
     new : ℕ
     new = new_number part.scopes s
 
     rows : List Scope
-    rows = scopes_anew part p.tree.scopes
+    rows = scopes_renumbered part p.tree.scopes
 
 no_value : (rows : List Scope) (s : ℕ) (key : List ℕ) → slice_get rows s ≡ None
     → value_of rows s key ≡ None
@@ -57,36 +68,36 @@ no_value rows s key at =
     (upwards (line_within s rows) s o)) 0) at
 
 values_alike : (part : Part) (p : State) → AreOrdered p.tree.scopes
-    → AreOrdered (state_anew part p).tree.scopes → Goes part p → (s : ℕ) (key : List ℕ)
+    → AreOrdered (state_renumbered part p).tree.scopes → Goes part p → (s : ℕ) (key : List ℕ)
     → part.scopes s ≡ true
-    → value_of (state_anew part p).tree.scopes (new_number part.scopes s) key
+    → value_of (state_renumbered part p).tree.scopes (new_number part.scopes s) key
     ≡ value_of p.tree.scopes s key
-values_alike part p ordered anew go s key is = by_row (slice_get p.tree.scopes s) refl
+values_alike part p ordered renumbered go s key is = by_row (slice_get p.tree.scopes s) refl
   where
     by_row : (o : Option Scope) → slice_get p.tree.scopes s ≡ o
-        → value_of (state_anew part p).tree.scopes (new_number part.scopes s) key
+        → value_of (state_renumbered part p).tree.scopes (new_number part.scopes s) key
         ≡ value_of p.tree.scopes s key
     by_row None at =
-        no_value (state_anew part p).tree.scopes (new_number part.scopes s) key
-        (anew_get part.scopes (scope_anew part) p.tree.scopes s is
-        ∙ ap (option_map (scope_anew part)) at)
+        no_value (state_renumbered part p).tree.scopes (new_number part.scopes s) key
+        (renumbered_get part.scopes (scope_renumbered part) p.tree.scopes s is
+        ∙ ap (option_map (scope_renumbered part)) at)
         ∙ sym (no_value p.tree.scopes s key at)
     by_row (Some row) at =
-        value_told part p.tree.scopes s key
-        (line_told part p.tree.scopes ordered anew go.scopes.each s row at is)
+        value_renewed part p.tree.scopes s key
+        (line_renewed part p.tree.scopes ordered renumbered go.scopes.each s row at is)
 
 -- ---- groups and tasks
 
 groups_alike : (part : Part) (p : State) → Goes part p → (g : ℕ) → part.groups g ≡ true
-    → group_look_of (state_anew part p) (new_number part.groups g)
-    ≡ option_map (group_look_anew part) (group_look_of p g)
+    → group_look_of (state_renumbered part p) (new_number part.groups g)
+    ≡ option_map (group_look_renumbered part) (group_look_of p g)
 groups_alike part p go g is =
     ap (λ k. option_map (look_by k)
-    (slice_get (state_anew part p).work.groups (new_number part.groups g)))
+    (slice_get (state_renumbered part p).work.groups (new_number part.groups g)))
     (unfinished_same part p.work g go.work.tasks.each is)
-    ∙ row_anew (option_map (look_by unfinished))
-    (λ o. option_map (group_look_anew part) (option_map (look_by unfinished) o)) part.groups
-    (group_anew part) p.work.groups g refl (λ row at. refl) is
+    ∙ row_renumbered (option_map (look_by unfinished))
+    (λ o. option_map (group_look_renumbered part) (option_map (look_by unfinished) o)) part.groups
+    (group_renumbered part) p.work.groups g refl (λ row at. refl) is
   where
     unfinished : ℕ
     unfinished = unfinished_in g p.work.tasks
@@ -101,25 +112,26 @@ task_look phase row = record {
 }
 
 tasks_alike : (part : Part) (p : State) → Goes part p → (n : ℕ) → part.tasks n ≡ true
-    → task_look_of (state_anew part p) (new_number part.tasks n)
-    ≡ option_map (task_look_anew part) (task_look_of p n)
+    → task_look_of (state_renumbered part p) (new_number part.tasks n)
+    ≡ option_map (task_look_renumbered part) (task_look_of p n)
 tasks_alike part p go n is =
-    row_anew
+    row_renumbered
     (option_map (λ row. task_look
-    (phase_by (is_admitted (state_anew part p).work (new_number part.tasks n) row) row.stage) row))
-    (λ o. option_map (task_look_anew part)
+    (phase_by (is_admitted (state_renumbered part p).work (new_number part.tasks n) row) row.stage)
+    row))
+    (λ o. option_map (task_look_renumbered part)
     (option_map (λ row. task_look (phase_by (is_admitted p.work n row) row.stage) row) o))
-    part.tasks (task_anew part) p.work.tasks n refl
+    part.tasks (task_renumbered part) p.work.tasks n refl
     (λ row at.
-    ap (λ b. Some (task_look (phase_by b row.stage) (task_anew part row)))
-    (admitted_anew part p.work n row go.work.tasks.each at is)) is
+    ap (λ b. Some (task_look (phase_by b row.stage) (task_renumbered part row)))
+    (admitted_renumbered part p.work n row go.work.tasks.each at is)) is
 
-pub alike : (part : Part) (p : State) → IsConsistent p → IsConsistent (state_anew part p)
-    → Goes part p → GoOnAlike part p (state_anew part p)
-alike part p consistent anew go = record {
-  scopes = looks_alike part p consistent.numbered.ordered anew.numbered.ordered go;
-  values = values_alike part p consistent.numbered.ordered anew.numbered.ordered go;
+pub alike : (part : Part) (p : State) → IsConsistent p → IsConsistent (state_renumbered part p)
+    → Goes part p → GoOnAlike part p (state_renumbered part p)
+alike part p consistent renumbered go = record {
+  scopes = looks_alike part p consistent.numbered.ordered renumbered.numbered.ordered go;
+  values = values_alike part p consistent.numbered.ordered renumbered.numbered.ordered go;
   groups = groups_alike part p go;
   tasks = tasks_alike part p go;
-  next = first_anew part p consistent (hangs part p go).work;
+  next = first_renumbered part p consistent (hangs part p go).work;
 }

@@ -4,13 +4,24 @@ use Rattle.run_model.proofs.Common.{slice_get, false, true, refl, sym, ap, ◌�
 use Rattle.run_model.proofs.Common.{slice_get_within, same_Some, root, IsConsistent, HasRow}
 use Rattle.run_model.proofs.Common.{is_root, State}
 use Rattle.run_model.specs.declared.scopes.Scope.{Scope}
-use Rattle.state_renewal.specs.Renewed.{group_told, keeps_group, keeps_scope, keeps_task, kept}
-use Rattle.state_renewal.specs.Renewed.{new_number, renewed, scope_told, task_told, group_anew}
-use Rattle.state_renewal.specs.Renewed.{rows_anew, scope_anew, state_anew, task_anew}
+use Rattle.state_renewal.specs.Renewed.{group_renewed, keeps_group, keeps_scope, keeps_task, kept}
+use Rattle.state_renewal.specs.Renewed.{
+  new_number,
+  renewed,
+  scope_renewed,
+  task_renewed,
+  group_renumbered,
+}
+use Rattle.state_renewal.specs.Renewed.{
+  rows_renumbered,
+  scope_renumbered,
+  state_renumbered,
+  task_renumbered,
+}
 use Rattle.state_renewal.specs.GoingOn.{going_on, goes_on}
 use Rattle.state_renewal.proofs.Goes.{goes_before}
 use Rattle.state_renewal.proofs.Twice.{same_rows}
-use Rattle.state_renewal.proofs.RowsAnew.{kept_same, number_agrees, told_same}
+use Rattle.state_renewal.proofs.RowsRenumbered.{kept_same, number_agrees, restated_same}
 
 -- A row before the end, or the end, has the number that the renewal gives it.
 number_first : (many : ℕ) (keeps : ℕ → Bool) (n : ℕ) → n ≤ many
@@ -19,13 +30,13 @@ number_first many keeps n less =
     number_agrees (goes_on many keeps) keeps n
     (λ k before. goes_before many keeps k (omega (arith, before, less)))
 
-rows_first : {X : Type 0} (keeps : ℕ → Bool) (tell told : X → X) (rows : List X)
-    → ((n : ℕ) (row : X) → slice_get rows n ≡ Some row → tell row ≡ told row)
-    → rows_anew (goes_on (length rows) keeps) tell rows ≡ map told (kept keeps rows)
-rows_first keeps tell told rows same =
-    ap (map tell)
+rows_first : {X : Type 0} (keeps : ℕ → Bool) (renumber restated : X → X) (rows : List X)
+    → ((n : ℕ) (row : X) → slice_get rows n ≡ Some row → renumber row ≡ restated row)
+    → rows_renumbered (goes_on (length rows) keeps) renumber rows ≡ map restated (kept keeps rows)
+rows_first keeps renumber restated rows same =
+    ap (map renumber)
     (kept_same (goes_on (length rows) keeps) keeps rows (goes_before (length rows) keeps))
-    ∙ told_same keeps tell told rows same
+    ∙ restated_same keeps renumber restated rows same
 
 parent_within : (p : State) → IsConsistent p → (s : ℕ) (row : Scope) → HasRow p.tree.scopes s row
     → row.parent < length p.tree.scopes
@@ -53,25 +64,25 @@ link_first many keeps (Some m) within =
     let less = within m refl in
     ap Some (number_first many keeps m (omega (arith, less)))
 
-pub begins : (p : State) → IsConsistent p → state_anew (going_on p) p ≡ renewed p
+pub begins : (p : State) → IsConsistent p → state_renumbered (going_on p) p ≡ renewed p
 begins p consistent =
-    same_rows p (rows_anew (going_on p).scopes (scope_anew (going_on p)) p.tree.scopes)
-    (map (scope_told p) (kept (keeps_scope p) p.tree.scopes))
-    (rows_anew (going_on p).groups (group_anew (going_on p)) p.work.groups)
-    (map (group_told p) (kept (keeps_group p) p.work.groups))
-    (rows_anew (going_on p).tasks (task_anew (going_on p)) p.work.tasks)
-    (map (task_told p) (kept (keeps_task p) p.work.tasks))
-    (rows_first (keeps_scope p) (scope_anew (going_on p)) (scope_told p) p.tree.scopes
+    same_rows p (rows_renumbered (going_on p).scopes (scope_renumbered (going_on p)) p.tree.scopes)
+    (map (scope_renewed p) (kept (keeps_scope p) p.tree.scopes))
+    (rows_renumbered (going_on p).groups (group_renumbered (going_on p)) p.work.groups)
+    (map (group_renewed p) (kept (keeps_group p) p.work.groups))
+    (rows_renumbered (going_on p).tasks (task_renumbered (going_on p)) p.work.tasks)
+    (map (task_renewed p) (kept (keeps_task p) p.work.tasks))
+    (rows_first (keeps_scope p) (scope_renumbered (going_on p)) (scope_renewed p) p.tree.scopes
     (λ s row found.
     let less = parent_within p consistent s row found in
     ap (λ n. record row { parent = n })
     (number_first (length p.tree.scopes) (keeps_scope p) row.parent (omega (arith, less)))))
-    (rows_first (keeps_group p) (group_anew (going_on p)) (group_told p) p.work.groups
+    (rows_first (keeps_group p) (group_renumbered (going_on p)) (group_renewed p) p.work.groups
     (λ g row found.
     let less = consistent.numbered.scopes g row found in
     ap (λ n. record row { scope = n })
     (number_first (length p.tree.scopes) (keeps_scope p) row.scope (omega (arith, less)))))
-    (rows_first (keeps_task p) (task_anew (going_on p)) (task_told p) p.work.tasks
+    (rows_first (keeps_task p) (task_renumbered (going_on p)) (task_renewed p) p.work.tasks
     (λ n row found.
     let less = consistent.numbered.groups n row found in
     ap (λ k. record row {

@@ -14,105 +14,117 @@ use Rattle.run_model.specs.declared.scopes.Kind.{Kind}
 use Rattle.run_model.specs.declared.scopes.Scope.{Scope}
 use Rattle.run_model.specs.Scopes.{first_of, least_moment}
 use Rattle.model_laws.proofs.Lines.{line_up}
-use Rattle.state_renewal.specs.Renewed.{new_number, Part, rows_anew, scope_anew, state_anew}
-use Rattle.state_renewal.specs.Renewed.{tree_anew}
+use Rattle.state_renewal.specs.Renewed.{
+  new_number,
+  Part,
+  rows_renumbered,
+  scope_renumbered,
+  state_renumbered,
+}
+use Rattle.state_renewal.specs.Renewed.{tree_renumbered}
 use Rattle.state_renewal.proofs.Numbers.{less_same, same_number}
 use Rattle.state_renewal.proofs.Keeps.{parent_there}
 use Rattle.state_renewal.proofs.Hangs.{AreBoth, ScopesHang}
-use Rattle.state_renewal.proofs.RowsAnew.{anew_get, test_anew}
+use Rattle.state_renewal.proofs.RowsRenumbered.{renumbered_get, test_renumbered}
 use Rattle.model_laws.proofs.Reaches.{before_all}
 
 -- The scopes that go on, by the new numbers.
-abbrev pub scopes_anew : Part → List Scope → List Scope
-scopes_anew part rows = rows_anew part.scopes (scope_anew part) rows
+abbrev pub scopes_renumbered : Part → List Scope → List Scope
+scopes_renumbered part rows = rows_renumbered part.scopes (scope_renumbered part) rows
 
 -- ---- the line
 
 -- A row of a line, by the new numbers.
-abbrev pub told_at : Part → ℕ × Scope → ℕ × Scope
-told_at part r = (new_number part.scopes r.0, scope_anew part r.1)
+abbrev pub renewed_at : Part → ℕ × Scope → ℕ × Scope
+renewed_at part r = (new_number part.scopes r.0, scope_renumbered part r.1)
 
 -- All scopes of these rows go on.
 abbrev pub AllGo : Part → List (ℕ × Scope) → Type 0
 AllGo part rows = AllByRecursion (λ r. part.scopes r.0 ≡ true) rows
 
 -- The line of a scope that goes on is the old one by the new numbers, and all scopes on it go on.
-pub record IsLineTold (part : Part) (old : List Scope) (s : ℕ) : Type 0 where
-  pub is : line (scopes_anew part old) (new_number part.scopes s)
-      ≡ map (told_at part) (line old s)
+pub record IsLineRenewed (part : Part) (old : List Scope) (s : ℕ) : Type 0 where
+  pub is : line (scopes_renumbered part old) (new_number part.scopes s)
+      ≡ map (renewed_at part) (line old s)
   pub all : AllGo part (line old s)
 
-told_above : (part : Part) (old : List Scope) (row : Scope) (b : Bool)
-    → (b ≡ false → IsLineTold part old row.parent)
-    → (cond b [] (line (scopes_anew part old) (new_number part.scopes row.parent))
-    ≡ map (told_at part) (cond b [] (line old row.parent)))
+renewed_above : (part : Part) (old : List Scope) (row : Scope) (b : Bool)
+    → (b ≡ false → IsLineRenewed part old row.parent)
+    → (cond b [] (line (scopes_renumbered part old) (new_number part.scopes row.parent))
+    ≡ map (renewed_at part) (cond b [] (line old row.parent)))
     × AllGo part (cond b [] (line old row.parent))
-told_above part old row true up = (refl, tt)
-told_above part old row false up = ((up refl).is, (up refl).all)
+renewed_above part old row true up = (refl, tt)
+renewed_above part old row false up = ((up refl).is, (up refl).all)
 
-line_told_below : (part : Part) (old : List Scope) → AreOrdered old
-    → AreOrdered (scopes_anew part old) → ScopesHang part old → (t s : ℕ) (row : Scope) → s < t
-    → slice_get old s ≡ Some row → part.scopes s ≡ true → IsLineTold part old s
-line_told_below part old ordered anew go zero s row less found is = absurd (omega (arith, less))
-line_told_below part old ordered anew go (suc t) s row less found is =
+line_renewed_below : (part : Part) (old : List Scope) → AreOrdered old
+    → AreOrdered (scopes_renumbered part old) → ScopesHang part old → (t s : ℕ) (row : Scope)
+    → s < t
+    → slice_get old s ≡ Some row → part.scopes s ≡ true → IsLineRenewed part old s
+line_renewed_below part old ordered renumbered go zero s row less found is = absurd
+    (omega (arith, less))
+line_renewed_below part old ordered renumbered go (suc t) s row less found is =
     let was = line_up old s row ordered found in
     let now =
-    line_up (scopes_anew part old) (new_number part.scopes s) (scope_anew part row) anew
-    (anew_get part.scopes (scope_anew part) old s is ∙ ap (option_map (scope_anew part)) found) in
+    line_up (scopes_renumbered part old) (new_number part.scopes s)
+    (scope_renumbered part row) renumbered
+    (renumbered_get part.scopes (scope_renumbered part) old s is
+    ∙ ap (option_map (scope_renumbered part)) found) in
     let above =
-    told_above part old row (is_root row.kind)
+    renewed_above part old row (is_root row.kind)
     (λ below.
     let lower = ordered s row found below in
     let up = parent_there old ordered s row found below in
-    line_told_below part old ordered anew go t row.parent up.0 (omega (arith, less, lower)) up.1
+    line_renewed_below part old ordered renumbered go t row.parent up.0
+    (omega (arith, less, lower)) up.1
     (go s row found below is)) in
     record {
       is =
           now
-          ∙ ap (λ rest. (new_number part.scopes s, scope_anew part row) ∷ rest) above.0
-          ∙ sym (ap (map (told_at part)) was);
+          ∙ ap (λ rest. (new_number part.scopes s, scope_renumbered part row) ∷ rest) above.0
+          ∙ sym (ap (map (renewed_at part)) was);
       all = subst (AllGo part) (sym was) (is, above.1);
     }
 
-pub line_told : (part : Part) (old : List Scope) → AreOrdered old
-    → AreOrdered (scopes_anew part old) → ScopesHang part old → (s : ℕ) (row : Scope)
-    → slice_get old s ≡ Some row → part.scopes s ≡ true → IsLineTold part old s
-line_told part old ordered anew go s row found is =
-    line_told_below part old ordered anew go (suc s) s row (omega arith) found is
+pub line_renewed : (part : Part) (old : List Scope) → AreOrdered old
+    → AreOrdered (scopes_renumbered part old) → ScopesHang part old → (s : ℕ) (row : Scope)
+    → slice_get old s ≡ Some row → part.scopes s ≡ true → IsLineRenewed part old s
+line_renewed part old ordered renumbered go s row found is =
+    line_renewed_below part old ordered renumbered go (suc s) s row (omega arith) found is
 
 pub both_lines : (part : Part) (p : State) → AreBoth part p → (s : ℕ) (row : Scope)
-    → HasRow p.tree.scopes s row → part.scopes s ≡ true → IsLineTold part p.tree.scopes s
+    → HasRow p.tree.scopes s row → part.scopes s ≡ true → IsLineRenewed part p.tree.scopes s
 both_lines part p both s row found is =
-    line_told part p.tree.scopes both.old.numbered.ordered both.new.numbered.ordered
+    line_renewed part p.tree.scopes both.old.numbered.ordered both.new.numbered.ordered
     both.hangs.scopes s row found is
 
 -- ---- the chain
 
-cut_told : (part : Part) (rows : List (ℕ × Scope))
-    → before_detached (map (told_at part) rows) ≡ map (told_at part) (before_detached rows)
-cut_told part [] = refl
-cut_told part (r ∷ rows) = by_kind (is_detached r.1.kind) (cut_told part rows)
+cut_renewed : (part : Part) (rows : List (ℕ × Scope))
+    → before_detached (map (renewed_at part) rows) ≡ map (renewed_at part) (before_detached rows)
+cut_renewed part [] = refl
+cut_renewed part (r ∷ rows) = by_kind (is_detached r.1.kind) (cut_renewed part rows)
   where
     by_kind : (b : Bool)
-        → before_detached (map (told_at part) rows) ≡ map (told_at part) (before_detached rows)
-        → cond b [] (told_at part r ∷ before_detached (map (told_at part) rows))
-        ≡ map (told_at part) (cond b [] (r ∷ before_detached rows))
+        → before_detached (map (renewed_at part) rows) ≡ map (renewed_at part)
+        (before_detached rows)
+        → cond b [] (renewed_at part r ∷ before_detached (map (renewed_at part) rows))
+        ≡ map (renewed_at part) (cond b [] (r ∷ before_detached rows))
     by_kind true rest = refl
-    by_kind false rest = ap (λ rs. told_at part r ∷ rs) rest
+    by_kind false rest = ap (λ rs. renewed_at part r ∷ rs) rest
 
-chain_told : (part : Part) (old : List Scope) (s : ℕ) → IsLineTold part old s
-    → chain (scopes_anew part old) (new_number part.scopes s)
-    ≡ map (told_at part) (chain old s)
-chain_told part old s told = ap before_detached told.is ∙ cut_told part (line old s)
+chain_renewed : (part : Part) (old : List Scope) (s : ℕ) → IsLineRenewed part old s
+    → chain (scopes_renumbered part old) (new_number part.scopes s)
+    ≡ map (renewed_at part) (chain old s)
+chain_renewed part old s restated = ap before_detached restated.is ∙ cut_renewed part (line old s)
 
 -- ---- the first hit
 
 -- A hit with its scope's new number.
-abbrev hit_told : Part → ℕ × Hit → ℕ × Hit
-hit_told part a = (new_number part.scopes a.0, a.1)
+abbrev hit_renewed : Part → ℕ × Hit → ℕ × Hit
+hit_renewed part a = (new_number part.scopes a.0, a.1)
 
 before_same : (part : Part) (a b : ℕ × Hit) → part.scopes a.0 ≡ true → part.scopes b.0 ≡ true
-    → comes_before (hit_told part a) (hit_told part b) ≡ comes_before a b
+    → comes_before (hit_renewed part a) (hit_renewed part b) ≡ comes_before a b
 before_same part a b is_a is_b =
     ap (λ c. is_lt (ordering_then (nat_cmp a.1.event b.1.event)
     (ordering_then (nat_cmp a.1.moment b.1.moment) (cond c Less
@@ -129,47 +141,50 @@ IsOfPart part None = Unit
 IsOfPart part (Some a) = part.scopes a.0 ≡ true
 
 -- The least of these hits, by the new numbers, is the least of them by the new numbers.
-record IsLeastTold (part : Part) (hits : List (ℕ × Hit)) : Type 0 where
-  told : least_hit (map (hit_told part) hits) ≡ option_map (hit_told part) (least_hit hits)
+record IsLeastRenewed (part : Part) (hits : List (ℕ × Hit)) : Type 0 where
+  restated : least_hit (map (hit_renewed part) hits) ≡ option_map (hit_renewed part)
+      (least_hit hits)
   of_part : IsOfPart part (least_hit hits)
 
-first_told : (part : Part) (o : Option (ℕ × Hit)) (a : ℕ × Hit) → IsOfPart part o
+first_renewed : (part : Part) (o : Option (ℕ × Hit)) (a : ℕ × Hit) → IsOfPart part o
     → part.scopes a.0 ≡ true
-    → (first_of (option_map (hit_told part) o) (hit_told part a) ≡ hit_told part (first_of o a))
+    → (first_of (option_map (hit_renewed part) o) (hit_renewed part a) ≡ hit_renewed part
+    (first_of o a))
     × (part.scopes (first_of o a).0 ≡ true)
-first_told part None a of is = (refl, is)
-first_told part (Some b) a of is = by_order (comes_before a b) (before_same part a b is of)
+first_renewed part None a of is = (refl, is)
+first_renewed part (Some b) a of is = by_order (comes_before a b) (before_same part a b is of)
   where
-    by_order : (c : Bool) → comes_before (hit_told part a) (hit_told part b) ≡ c
-        → (cond (comes_before (hit_told part a) (hit_told part b)) (hit_told part a)
-        (hit_told part b)
-        ≡ hit_told part (cond c a b))
+    by_order : (c : Bool) → comes_before (hit_renewed part a) (hit_renewed part b) ≡ c
+        → (cond (comes_before (hit_renewed part a) (hit_renewed part b)) (hit_renewed part a)
+        (hit_renewed part b)
+        ≡ hit_renewed part (cond c a b))
         × (part.scopes (cond c a b).0 ≡ true)
-    by_order true e = (ap (λ d. cond d (hit_told part a) (hit_told part b)) e, is)
-    by_order false e = (ap (λ d. cond d (hit_told part a) (hit_told part b)) e, of)
+    by_order true e = (ap (λ d. cond d (hit_renewed part a) (hit_renewed part b)) e, is)
+    by_order false e = (ap (λ d. cond d (hit_renewed part a) (hit_renewed part b)) e, of)
 
-least_told : (part : Part) (hits : List (ℕ × Hit))
-    → AllByRecursion (λ a. part.scopes a.0 ≡ true) hits → IsLeastTold part hits
-least_told part [] all = record { told = refl; of_part = tt }
-least_told part (a ∷ hits) all =
-    let rest = least_told part hits all.1 in
-    let first = first_told part (least_hit hits) a rest.of_part all.0 in
+least_renewed : (part : Part) (hits : List (ℕ × Hit))
+    → AllByRecursion (λ a. part.scopes a.0 ≡ true) hits → IsLeastRenewed part hits
+least_renewed part [] all = record { restated = refl; of_part = tt }
+least_renewed part (a ∷ hits) all =
+    let rest = least_renewed part hits all.1 in
+    let first = first_renewed part (least_hit hits) a rest.of_part all.0 in
     record {
-      told = ap (λ o. Some (first_of o (hit_told part a))) rest.told ∙ ap Some first.0;
+      restated = ap (λ o. Some (first_of o (hit_renewed part a))) rest.restated ∙ ap Some first.0;
       of_part = first.1;
     }
 
-hits_told : (part : Part) (rows : List (ℕ × Scope))
-    → filter_map hit_at (map (told_at part) rows) ≡ map (hit_told part) (filter_map hit_at rows)
-hits_told part [] = refl
-hits_told part (r ∷ rows) = by_hit r.1.hit (hits_told part rows)
+hits_renewed : (part : Part) (rows : List (ℕ × Scope))
+    → filter_map hit_at (map (renewed_at part) rows) ≡ map (hit_renewed part)
+    (filter_map hit_at rows)
+hits_renewed part [] = refl
+hits_renewed part (r ∷ rows) = by_hit r.1.hit (hits_renewed part rows)
   where
     by_hit : (o : Option Hit)
-        → filter_map hit_at (map (told_at part) rows)
-        ≡ map (hit_told part) (filter_map hit_at rows)
+        → filter_map hit_at (map (renewed_at part) rows)
+        ≡ map (hit_renewed part) (filter_map hit_at rows)
         → cons_option (option_map (λ hit. (new_number part.scopes r.0, hit)) o)
-        (filter_map hit_at (map (told_at part) rows))
-        ≡ map (hit_told part)
+        (filter_map hit_at (map (renewed_at part) rows))
+        ≡ map (hit_renewed part)
         (cons_option (option_map (λ hit. (r.0, hit)) o) (filter_map hit_at rows))
     by_hit None rest = rest
     by_hit (Some hit) rest = ap (λ hits. (new_number part.scopes r.0, hit) ∷ hits) rest
@@ -186,79 +201,82 @@ hits_go part (r ∷ rows) all = by_hit r.1.hit (hits_go part rows all.1)
     by_hit None rest = rest
     by_hit (Some hit) rest = (all.0, rest)
 
-untold : (part : Part) (o : Option (ℕ × Hit))
-    → option_map (λ a. a.1) (option_map (hit_told part) o) ≡ option_map (λ a. a.1) o
-untold part None = refl
-untold part (Some a) = refl
+unreported : (part : Part) (o : Option (ℕ × Hit))
+    → option_map (λ a. a.1) (option_map (hit_renewed part) o) ≡ option_map (λ a. a.1) o
+unreported part None = refl
+unreported part (Some a) = refl
 
-pub ending_told : (part : Part) (old : List Scope) (s : ℕ) → IsLineTold part old s
-    → ending (scopes_anew part old) (new_number part.scopes s) ≡ ending old s
-ending_told part old s told =
+pub ending_renewed : (part : Part) (old : List Scope) (s : ℕ) → IsLineRenewed part old s
+    → ending (scopes_renumbered part old) (new_number part.scopes s) ≡ ending old s
+ending_renewed part old s restated =
     let rows = chain old s in
-    let all = before_all (λ r. part.scopes r.0 ≡ true) (line old s) told.all in
+    let all = before_all (λ r. part.scopes r.0 ≡ true) (line old s) restated.all in
     ap (λ rs. option_map (λ a. a.1) (least_hit (filter_map hit_at rs)))
-    (chain_told part old s told)
-    ∙ ap (λ hits. option_map (λ a. a.1) (least_hit hits)) (hits_told part rows)
+    (chain_renewed part old s restated)
+    ∙ ap (λ hits. option_map (λ a. a.1) (least_hit hits)) (hits_renewed part rows)
     ∙ ap (option_map (λ a. a.1))
-    (least_told part (filter_map hit_at rows) (hits_go part rows all)).told
-    ∙ untold part (first_hit old s)
+    (least_renewed part (filter_map hit_at rows) (hits_go part rows all)).restated
+    ∙ unreported part (first_hit old s)
 
 -- ---- kinds, and what is done
 
-pub kind_anew : (test : Kind → Bool) (part : Part) (t : TreeState) (s : ℕ) → part.scopes s ≡ true
-    → has_kind test (tree_anew part t) (new_number part.scopes s) ≡ has_kind test t s
-kind_anew test part t s is =
-    test_anew (λ row. test row.kind) part.scopes (scope_anew part) t.scopes s (λ row. refl) is
+pub kind_renumbered : (test : Kind → Bool) (part : Part) (t : TreeState) (s : ℕ)
+    → part.scopes s ≡ true
+    → has_kind test (tree_renumbered part t) (new_number part.scopes s) ≡ has_kind test t s
+kind_renumbered test part t s is =
+    test_renumbered (λ row. test row.kind) part.scopes (scope_renumbered part) t.scopes s
+    (λ row. refl) is
 
 not_done : (rows : List Scope) (s : ℕ) → slice_get rows s ≡ None → is_done rows s ≡ false
 not_done rows s at =
     ap (λ o. is_some (option_map (λ a. a.1)
     (least_hit (filter_map hit_at (before_detached (upwards (line_within s rows) s o)))))) at
 
-pub done_anew : (part : Part) (p : State) → AreBoth part p → (s : ℕ) → part.scopes s ≡ true
-    → is_done (state_anew part p).tree.scopes (new_number part.scopes s)
+pub done_renumbered : (part : Part) (p : State) → AreBoth part p → (s : ℕ) → part.scopes s ≡ true
+    → is_done (state_renumbered part p).tree.scopes (new_number part.scopes s)
     ≡ is_done p.tree.scopes s
-done_anew part p both s is = by_row (slice_get p.tree.scopes s) refl
+done_renumbered part p both s is = by_row (slice_get p.tree.scopes s) refl
   where
     by_row : (o : Option Scope) → slice_get p.tree.scopes s ≡ o
-        → is_done (scopes_anew part p.tree.scopes) (new_number part.scopes s)
+        → is_done (scopes_renumbered part p.tree.scopes) (new_number part.scopes s)
         ≡ is_done p.tree.scopes s
     by_row None at =
-        not_done (scopes_anew part p.tree.scopes) (new_number part.scopes s)
-        (anew_get part.scopes (scope_anew part) p.tree.scopes s is
-        ∙ ap (option_map (scope_anew part)) at)
+        not_done (scopes_renumbered part p.tree.scopes) (new_number part.scopes s)
+        (renumbered_get part.scopes (scope_renumbered part) p.tree.scopes s is
+        ∙ ap (option_map (scope_renumbered part)) at)
         ∙ sym (not_done p.tree.scopes s at)
     by_row (Some row) at =
         ap is_some
-        (ending_told part p.tree.scopes s (both_lines part p both s row at is))
+        (ending_renewed part p.tree.scopes s (both_lines part p both s row at is))
 
 -- ---- deadlines and values
 
-deadlines_told : (part : Part) (rows : List (ℕ × Scope))
-    → filter_map (λ r. own_deadline r.1.kind) (map (told_at part) rows)
+deadlines_renewed : (part : Part) (rows : List (ℕ × Scope))
+    → filter_map (λ r. own_deadline r.1.kind) (map (renewed_at part) rows)
     ≡ filter_map (λ r. own_deadline r.1.kind) rows
-deadlines_told part [] = refl
-deadlines_told part (r ∷ rows) =
-    ap (cons_option (own_deadline r.1.kind)) (deadlines_told part rows)
+deadlines_renewed part [] = refl
+deadlines_renewed part (r ∷ rows) =
+    ap (cons_option (own_deadline r.1.kind)) (deadlines_renewed part rows)
 
-pub deadline_told : (part : Part) (old : List Scope) (s : ℕ) → IsLineTold part old s
-    → deadline_of (scopes_anew part old) (new_number part.scopes s)
+pub deadline_renewed : (part : Part) (old : List Scope) (s : ℕ) → IsLineRenewed part old s
+    → deadline_of (scopes_renumbered part old) (new_number part.scopes s)
     ≡ deadline_of old s
-deadline_told part old s told =
+deadline_renewed part old s restated =
     ap (λ rs. least_moment (filter_map (λ r. own_deadline r.1.kind) rs))
-    (chain_told part old s told)
-    ∙ ap least_moment (deadlines_told part (chain old s))
+    (chain_renewed part old s restated)
+    ∙ ap least_moment (deadlines_renewed part (chain old s))
 
-texts_told : (part : Part) (key : List ℕ) (rows : List (ℕ × Scope))
-    → filter_map (λ r. text_under key r.1.kind) (map (told_at part) rows)
+texts_renewed : (part : Part) (key : List ℕ) (rows : List (ℕ × Scope))
+    → filter_map (λ r. text_under key r.1.kind) (map (renewed_at part) rows)
     ≡ filter_map (λ r. text_under key r.1.kind) rows
-texts_told part key [] = refl
-texts_told part key (r ∷ rows) =
-    ap (cons_option (text_under key r.1.kind)) (texts_told part key rows)
+texts_renewed part key [] = refl
+texts_renewed part key (r ∷ rows) =
+    ap (cons_option (text_under key r.1.kind)) (texts_renewed part key rows)
 
-pub value_told : (part : Part) (old : List Scope) (s : ℕ) (key : List ℕ) → IsLineTold part old s
-    → value_of (scopes_anew part old) (new_number part.scopes s) key
+pub value_renewed : (part : Part) (old : List Scope) (s : ℕ) (key : List ℕ)
+    → IsLineRenewed part old s
+    → value_of (scopes_renumbered part old) (new_number part.scopes s) key
     ≡ value_of old s key
-value_told part old s key told =
-    ap (λ rs. slice_get (filter_map (λ r. text_under key r.1.kind) rs) 0) told.is
-    ∙ ap (λ texts. slice_get texts 0) (texts_told part key (line old s))
+value_renewed part old s key restated =
+    ap (λ rs. slice_get (filter_map (λ r. text_under key r.1.kind) rs) 0) restated.is
+    ∙ ap (λ texts. slice_get texts 0) (texts_renewed part key (line old s))

@@ -14,46 +14,53 @@ use Rattle.run_model.specs.declared.refusals.Refusal.TheVariants as refusal
 use Rattle.run_model.specs.Event as event
 use Rattle.run_model.proofs.Lengths.{record_len_is}
 use Rattle.run_model.specs.Replies.{has_waited}
-use Rattle.state_renewal.specs.Renewed.{Part, group_anew, state_anew, task_anew, work_anew}
-use Rattle.state_renewal.specs.Told.{event_anew, has_place, names_part}
-use Rattle.state_renewal.specs.Answered.{reply_anew, calls_part, command_anew}
-use Rattle.state_renewal.proofs.Refusals.{refusals_anew}
+use Rattle.state_renewal.specs.Renewed.{
+  Part,
+  group_renumbered,
+  state_renumbered,
+  task_renumbered,
+  work_renumbered,
+}
+use Rattle.state_renewal.specs.PartEvents.{event_renumbered, has_place, names_part}
+use Rattle.state_renewal.specs.Answered.{reply_renumbered, calls_part, command_renumbered}
+use Rattle.state_renewal.proofs.Refusals.{refusals_renumbered}
 use Rattle.state_renewal.proofs.Goes.{hangs}
 use Rattle.state_renewal.proofs.Runs.{Both, are_both, both_step}
-use Rattle.state_renewal.proofs.Steps.{step_anew}
+use Rattle.state_renewal.proofs.Steps.{step_renumbered}
 use Rattle.state_renewal.proofs.Hangs.{WorkHangs}
 use Rattle.state_renewal.proofs.Named.{group_on}
-use Rattle.state_renewal.proofs.PassAnew.{count_all_anew}
-use Rattle.state_renewal.proofs.RowsAnew.{test_anew}
+use Rattle.state_renewal.proofs.PassRenumbered.{count_all_renumbered}
+use Rattle.state_renewal.proofs.RowsRenumbered.{test_renumbered}
 use Rattle.state_renewal.proofs.Works.{gone_ended}
 use Rattle.model_laws.proofs.Admission.{running_unfinished}
 
 -- ---- repeated waits
 
 pub repeated_same : (part : Part) (p : State) (call : Command)
-    → IsConsistent (state_anew part p) → calls_part part p call ≡ true
-    → is_repeated (state_anew part p) (command_anew part call) ≡ is_repeated p call
-repeated_same part p (command.Derive name parent wish) anew is = refl
-repeated_same part p (command.Cancel scope cause) anew is = refl
-repeated_same part p (command.Advance moment) anew is = refl
-repeated_same part p (command.Group name parent) anew is = refl
-repeated_same part p (command.Bare name scope) anew is = refl
-repeated_same part p (command.SetLimit group limit) anew is = refl
-repeated_same part p (command.Go group job argument) anew is = refl
-repeated_same part p (command.TryGo group job argument) anew is = refl
-repeated_same part p (command.Retry n) anew is = refl
-repeated_same part p (command.Wait group) anew is =
-    let on = group_on part p group anew is in
-    ap (has_waited (state_anew part p).work) on.1
-    ∙ test_anew (λ row. row.waited) part.groups (group_anew part) p.work.groups (group_of p group)
+    → IsConsistent (state_renumbered part p) → calls_part part p call ≡ true
+    → is_repeated (state_renumbered part p) (command_renumbered part call) ≡ is_repeated p call
+repeated_same part p (command.Derive name parent wish) renumbered is = refl
+repeated_same part p (command.Cancel scope cause) renumbered is = refl
+repeated_same part p (command.Advance moment) renumbered is = refl
+repeated_same part p (command.Group name parent) renumbered is = refl
+repeated_same part p (command.Bare name scope) renumbered is = refl
+repeated_same part p (command.SetLimit group limit) renumbered is = refl
+repeated_same part p (command.Go group job argument) renumbered is = refl
+repeated_same part p (command.TryGo group job argument) renumbered is = refl
+repeated_same part p (command.Retry n) renumbered is = refl
+repeated_same part p (command.Wait group) renumbered is =
+    let on = group_on part p group renumbered is in
+    ap (has_waited (state_renumbered part p).work) on.1
+    ∙ test_renumbered (λ row. row.waited) part.groups (group_renumbered part) p.work.groups
+    (group_of p group)
     (λ row. refl) on.0
 
 -- ---- the free bytes of the log
 
 running_same : (part : Part) (p : State) → IsConsistent p → WorkHangs part p.work
-    → running_count (work_anew part p.work).tasks ≡ running_count p.work.tasks
+    → running_count (work_renumbered part p.work).tasks ≡ running_count p.work.tasks
 running_same part p consistent go =
-    count_all_anew part.tasks (task_anew part) (λ task. is_running task.stage)
+    count_all_renumbered part.tasks (task_renumbered part) (λ task. is_running task.stage)
     (λ task. is_running task.stage) p.work.tasks
     (record {
       on = λ n x found goes. refl;
@@ -65,39 +72,40 @@ running_same part p consistent go =
           (running_unfinished x.stage runs));
     })
 
-fields_anew : (part : Part) (e : Event) → body_len (event_anew part e) ≡ body_len e
-fields_anew part (event.Derive name parent kind) = refl
-fields_anew part (event.Cancel s cause) = refl
-fields_anew part (event.Advance moment) = refl
-fields_anew part (event.Group name parent) = refl
-fields_anew part (event.Bare name s) = refl
-fields_anew part (event.SetLimit g limit) = refl
-fields_anew part (event.Go g job argument) = refl
-fields_anew part (event.TryGo g job argument) = refl
-fields_anew part (event.Retry n) = refl
-fields_anew part (event.Start n) = refl
-fields_anew part (event.Finish n outcome) = refl
-fields_anew part (event.Wait g) = refl
-fields_anew part event.Restart = refl
+fields_renumbered : (part : Part) (e : Event) → body_len (event_renumbered part e) ≡ body_len e
+fields_renumbered part (event.Derive name parent kind) = refl
+fields_renumbered part (event.Cancel s cause) = refl
+fields_renumbered part (event.Advance moment) = refl
+fields_renumbered part (event.Group name parent) = refl
+fields_renumbered part (event.Bare name s) = refl
+fields_renumbered part (event.SetLimit g limit) = refl
+fields_renumbered part (event.Go g job argument) = refl
+fields_renumbered part (event.TryGo g job argument) = refl
+fields_renumbered part (event.Retry n) = refl
+fields_renumbered part (event.Start n) = refl
+fields_renumbered part (event.Finish n outcome) = refl
+fields_renumbered part (event.Wait g) = refl
+fields_renumbered part event.Restart = refl
 
 -- The record is as long in both logs.
-len_anew : (part : Part) (e : Event) → record_len (event_anew part e) ≡ record_len e
-len_anew part e =
-    record_len_is (event_anew part e) ∙ ap (λ n. 3 + n) (fields_anew part e)
+len_renumbered : (part : Part) (e : Event) → record_len (event_renumbered part e) ≡ record_len e
+len_renumbered part e =
+    record_len_is (event_renumbered part e) ∙ ap (λ n. 3 + n) (fields_renumbered part e)
     ∙ sym (record_len_is e)
 
 abbrev full_at : ℕ → ℕ → ℕ → Bool
 full_at log len running = nat_lt SESSION_LEN (log + len + FINISH_ROOM * running)
 
-full_anew : (part : Part) (p : State) (log : ℕ) (e : Event) → Both part p
+full_renumbered : (part : Part) (p : State) (log : ℕ) (e : Event) → Both part p
     → names_part part e ≡ true → allowed p e ≡ true
-    → is_full (state_anew part p) log (event_anew part e) ≡ is_full p log e
-full_anew part p log e both is may =
+    → is_full (state_renumbered part p) log (event_renumbered part e) ≡ is_full p log e
+full_renumbered part p log e both is may =
     let behind = both_step part p e both is may in
     ap (λ len. full_at log len
-    (running_count (step (state_anew part p) (event_anew part e)).work.tasks)) (len_anew part e)
+    (running_count (step (state_renumbered part p) (event_renumbered part e)).work.tasks))
+    (len_renumbered part e)
     ∙ ap (λ q. full_at log (record_len e) (running_count q.work.tasks))
-    (step_anew part p e both.old both.go is)
+    (step_renumbered part p e both.old both.go is)
     ∙ ap (full_at log (record_len e))
     (running_same part (step p e) behind.old (hangs part (step p e) behind.go).work)
 
@@ -105,47 +113,51 @@ full_anew part p log e both is may =
 
 -- If two events have the same result and are decided by the same tests, the decisions have the same
 -- result.
-pub tests_alike : {X : Type 0} (tell : X → X) (tests : List (Bool × Refusal)) (full_new full : Bool)
+pub tests_alike : {X : Type 0} (renumber : X → X) (tests : List (Bool × Refusal))
+    (full_new full : Bool)
     (f e : Event) (new old : Option Event → Result X Refusal)
     → (list_all (λ t. not t.0) tests ≡ true → full_new ≡ full)
-    → new (Some f) ≡ reply_anew tell (old (Some e))
+    → new (Some f) ≡ reply_renumbered renumber (old (Some e))
     → and_then (unless tests (if full_new then Err refusal.SessionFull else Ok (Some f))) new
-    ≡ reply_anew tell
+    ≡ reply_renumbered renumber
     (and_then (unless tests (if full then Err refusal.SessionFull else Ok (Some e))) old)
-tests_alike tell [] full_new full f e new old same some =
+tests_alike renumber [] full_new full f e new old same some =
     ap (λ b. and_then (if b then Err refusal.SessionFull else Ok (Some f)) new) (same refl)
     ∙ by_room full
   where
     by_room : (b : Bool)
         → and_then (if b then Err refusal.SessionFull else Ok (Some f)) new
-        ≡ reply_anew tell (and_then (if b then Err refusal.SessionFull else Ok (Some e)) old)
+        ≡ reply_renumbered renumber
+        (and_then (if b then Err refusal.SessionFull else Ok (Some e)) old)
     by_room true = refl
     by_room false = some
-tests_alike tell (t ∷ tests) full_new full f e new old same some =
-    by_test t.0 same (λ rest. tests_alike tell tests full_new full f e new old rest some)
+tests_alike renumber (t ∷ tests) full_new full f e new old same some =
+    by_test t.0 same (λ rest. tests_alike renumber tests full_new full f e new old rest some)
   where
     rest_of : Bool → Event → Result (Option Event) Refusal
     rest_of b e = unless tests (if b then Err refusal.SessionFull else Ok (Some e))
 
     by_test : (b : Bool) → ((not b && list_all (λ t. not t.0) tests) ≡ true → full_new ≡ full)
         → ((list_all (λ t. not t.0) tests ≡ true → full_new ≡ full)
-        → and_then (rest_of full_new f) new ≡ reply_anew tell (and_then (rest_of full e) old))
+        → and_then (rest_of full_new f) new ≡ reply_renumbered renumber
+        (and_then (rest_of full e) old))
         → and_then (if b then Err t.1 else rest_of full_new f) new
-        ≡ reply_anew tell (and_then (if b then Err t.1 else rest_of full e) old)
+        ≡ reply_renumbered renumber (and_then (if b then Err t.1 else rest_of full e) old)
     by_test true same behind = refl
     by_test false same behind = behind same
 
 -- If an event and the same event by the new numbers have the same result, their decisions have it,
 -- too.
-pub decided_alike : {X : Type 0} (tell : X → X) (part : Part) (p : State) (log : ℕ) (e : Event)
+pub decided_alike : {X : Type 0} (renumber : X → X) (part : Part) (p : State) (log : ℕ) (e : Event)
     (new old : Option Event → Result X Refusal) → Both part p → names_part part e ≡ true
     → has_place p e ≡ true → (list_all (λ t. not t.0) (refusals p e) ≡ true → allowed p e ≡ true)
-    → new (Some (event_anew part e)) ≡ reply_anew tell (old (Some e))
-    → and_then (decided (state_anew part p) log (event_anew part e)) new
-    ≡ reply_anew tell (and_then (decided p log e) old)
-decided_alike tell part p log e new old both is place may some =
-    let f = event_anew part e in
-    ap (λ tests. and_then (unless tests (if_room (state_anew part p) log f)) new)
-    (refusals_anew part p e (are_both part p both) is place)
-    ∙ tests_alike tell (refusals p e) (is_full (state_anew part p) log f) (is_full p log e) f e
-    new old (λ none. full_anew part p log e both is (may none)) some
+    → new (Some (event_renumbered part e)) ≡ reply_renumbered renumber (old (Some e))
+    → and_then (decided (state_renumbered part p) log (event_renumbered part e)) new
+    ≡ reply_renumbered renumber (and_then (decided p log e) old)
+decided_alike renumber part p log e new old both is place may some =
+    let f = event_renumbered part e in
+    ap (λ tests. and_then (unless tests (if_room (state_renumbered part p) log f)) new)
+    (refusals_renumbered part p e (are_both part p both) is place)
+    ∙ tests_alike renumber (refusals p e) (is_full (state_renumbered part p) log f)
+    (is_full p log e) f e
+    new old (λ none. full_renumbered part p log e both is (may none)) some

@@ -23,7 +23,7 @@ use Rattle.run_model.specs.Event as event
 use Rattle.run_model.specs.WorkChanges.{after_retry}
 use Rattle.run_model.specs.declared.scopes.Reason.TheVariants.{Canceled}
 use Rattle.state_renewal.specs.Renewed.{Part}
-use Rattle.state_renewal.specs.Told.{names_part}
+use Rattle.state_renewal.specs.PartEvents.{names_part}
 use Rattle.state_renewal.proofs.Hangs.{WithGroup, WithParent, WithScope}
 use Rattle.state_renewal.proofs.Goes.{Goes, GroupsGo, ScopesGo, TasksGo, WorkGoes, RowsGo}
 

@@ -5,7 +5,7 @@ use Rattle.run_model.proofs.Common.{true_from_ne_false, IsConsistent, is_root, S
 use Rattle.run_model.specs.declared.groups.Group.{Group}
 use Rattle.run_model.specs.declared.scopes.Scope.{Scope}
 use Rattle.run_model.specs.declared.tasks.Task.{Task}
-use Rattle.state_renewal.specs.Renewed.{Part, keeps_group, kept_part, state_anew}
+use Rattle.state_renewal.specs.Renewed.{Part, keeps_group, kept_part, state_renumbered}
 use Rattle.state_renewal.proofs.Keeps.{owner_kept, parent_kept, scope_kept, task_is_kept}
 use Rattle.state_renewal.proofs.Keeps.{unwaited_kept}
 
@@ -46,7 +46,7 @@ pub record Hangs (part : Part) (p : State) : Type 0 where
 -- The state and the part of it by the new numbers both keep the rules, and the part is closed.
 pub record AreBoth (part : Part) (p : State) : Type 0 where
   pub old : IsConsistent p
-  pub new : IsConsistent (state_anew part p)
+  pub new : IsConsistent (state_renumbered part p)
   pub hangs : Hangs part p
 
 pub kept_hangs : (p : State) → IsConsistent p → Hangs (kept_part p) p

@@ -19,7 +19,7 @@ use Rattle.row_view.specs.Image.{is_kept_link}
 use Rattle.row_view.specs.Keeping.{IsImage}
 use Rattle.model_laws.proofs.Tests.{all_four, all_five}
 use Rattle.state_renewal.specs.Renewed.{new_number, keeps_scope, keeps_group, keeps_task}
-use Rattle.state_renewal.specs.Renewed.{scope_told, group_told, task_told, renewed}
+use Rattle.state_renewal.specs.Renewed.{scope_renewed, group_renewed, task_renewed, renewed}
 use Rattle.state_renewal.proofs.Numbers.{number_at_most}
 use Rattle.state_renewal.proofs.RulesKept.{scope_from, group_from, task_from, rules_kept}
 use Rattle.state_renewal.proofs.Keeps.{all_at}
@@ -57,7 +57,7 @@ link_kept new less Two None is = refl
 link_kept new less Two (Some n) is = lesser_number 65535 n (new n) (less n) is
 
 scope_in_range : (p : State) (row : Scope) → IsTrue (is_kept_scope row)
-    → IsTrue (is_kept_scope (scope_told p row))
+    → IsTrue (is_kept_scope (scope_renewed p row))
 scope_in_range p row is =
     let new = new_number (keeps_scope p) row.parent in
     let parts =
@@ -70,14 +70,14 @@ scope_in_range p row is =
     ∙ is
 
 group_in_range : (p : State) (row : Group) → IsTrue (is_kept_group row)
-    → IsTrue (is_kept_group (group_told p row))
+    → IsTrue (is_kept_group (group_renewed p row))
 group_in_range p row is =
     let new = new_number (keeps_scope p) row.scope in
-    let front =
+    let cons =
     and_parts (is_name row.name && is_row_number row.scope && true && is_limit row.limit && true)
     (is_optional_text row.error) is in
     let parts =
-    all_five (is_name row.name) (is_row_number row.scope) true (is_limit row.limit) true front.0 in
+    all_five (is_name row.name) (is_row_number row.scope) true (is_limit row.limit) true cons.0 in
     let now =
     lesser_number (2 ^ 16) row.scope new (number_at_most (keeps_scope p) row.scope) parts.1 in
     ap (λ b. is_name row.name && b && true && is_limit row.limit && true
@@ -85,7 +85,7 @@ group_in_range p row is =
     ∙ is
 
 task_in_range : (p : State) (version : ImageVersion) (row : Task)
-    → IsTrue (is_kept_task version row) → IsTrue (is_kept_task Two (task_told p row))
+    → IsTrue (is_kept_task version row) → IsTrue (is_kept_task Two (task_renewed p row))
 task_in_range p version row is =
     let new = new_number (keeps_group p) row.group in
     let link = is_kept_link Two (option_map (new_number (keeps_task p)) row.retry_of) in
@@ -108,11 +108,11 @@ scope_ranged : (p : State)
     → IsTrue (is_kept_scope row)
 scope_ranged p all m row found =
     let of = scope_from p (suc m) row found in
-    by_number of.n of.old of.number of.found (ap is_kept_scope of.told)
+    by_number of.n of.old of.number of.found (ap is_kept_scope of.restated)
   where
     by_number : (s : ℕ) (old : Scope) → suc m ≡ new_number (keeps_scope p) s
         → slice_get p.tree.scopes s ≡ Some old
-        → is_kept_scope row ≡ is_kept_scope (scope_told p old) → IsTrue (is_kept_scope row)
+        → is_kept_scope row ≡ is_kept_scope (scope_renewed p old) → IsTrue (is_kept_scope row)
     by_number zero old number at same = absurd (omega (arith, number))
     by_number (suc s) old number at same =
         same
@@ -168,7 +168,7 @@ has_image version layout bytes p is = record {
         all_from (λ row. IsTrue (is_kept_group row)) (renewed p).work.groups
         (λ m row found.
         let of = group_from p m row found in
-        ap is_kept_group of.told
+        ap is_kept_group of.restated
         ∙ group_in_range p of.old
         (all_at (λ r. IsTrue (is_kept_group r)) p.work.groups is.ranged.groups of.n of.old
         of.found));
@@ -176,7 +176,7 @@ has_image version layout bytes p is = record {
         all_from (λ row. IsTrue (is_kept_task Two row)) (renewed p).work.tasks
         (λ m row found.
         let of = task_from p m row found in
-        ap (is_kept_task Two) of.told
+        ap (is_kept_task Two) of.restated
         ∙ task_in_range p version of.old
         (all_at (λ r. IsTrue (is_kept_task version r)) p.work.tasks is.ranged.tasks of.n of.old
         of.found));

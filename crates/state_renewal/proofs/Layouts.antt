@@ -61,7 +61,7 @@ module _ (layout : Layout) (p : State) where
   errors_there : AreErrors (renewed p) → AreErrors (renewed_in layout p)
   errors_there e = record {
     exact = e.exact;
-    ended = λ g s row owner told. e.ended g s row (owns g s row owner) told;
+    ended = λ g s row owner restated. e.ended g s row (owns g s row owner) restated;
   }
 
   links_there : AreLinked (renewed p).work → AreLinked (renewed_in layout p).work

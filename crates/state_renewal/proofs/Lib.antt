@@ -18,12 +18,12 @@ pub mod Needing
 pub mod Numbering
 pub mod Numbers
 pub mod Over
-pub mod PassAnew
+pub mod PassRenumbered
 pub mod Raising
 pub mod Refusals
 pub mod Renewing
 pub mod Replies
-pub mod RowsAnew
+pub mod RowsRenumbered
 pub mod RulesKept
 pub mod Runs
 pub mod Squares

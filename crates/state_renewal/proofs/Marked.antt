@@ -92,18 +92,18 @@ module _ (p : State) (scopes groups tasks : List Bool) (are : AreMarks p scopes 
         (one_test (is_flagged tasks) (keeps_task p) are.kept_tasks)
 
 -- The number of rows that are left is the new number after all rows.
-pub count_left : {X : Type 0} (flags : List Bool) (tell : X → X) (rows : List X)
+pub count_left : {X : Type 0} (flags : List Bool) (renumber : X → X) (rows : List X)
     → length flags ≡ length rows
-    → new_number (is_flagged flags) (length flags) ≡ length (rows_left flags tell rows)
-count_left flags tell rows each =
+    → new_number (is_flagged flags) (length flags) ≡ length (rows_left flags renumber rows)
+count_left flags renumber rows each =
     ap (new_number (is_flagged flags)) each ∙ sym (length-kept (is_flagged flags) rows)
-    ∙ sym (length-map (kept (is_flagged flags) rows) tell)
+    ∙ sym (length-map (kept (is_flagged flags) rows) renumber)
 
 -- The first row is kept, and the rest is left after it.
-pub left_after : {X : Type 0} (flags : List Bool) (tell : X → X) (rows : List X)
+pub left_after : {X : Type 0} (flags : List Bool) (renumber : X → X) (rows : List X)
     → is_flagged flags 0 ≡ true
-    → rows_left (drop 1 flags) tell (drop 1 rows) ≡ drop 1 (rows_left flags tell rows)
-left_after [] tell rows is = absurd (true≢false (sym is))
-left_after (true ∷ flags) tell [] is = refl
-left_after (true ∷ flags) tell (row ∷ rows) is = refl
-left_after (false ∷ flags) tell rows is = absurd (true≢false (sym is))
+    → rows_left (drop 1 flags) renumber (drop 1 rows) ≡ drop 1 (rows_left flags renumber rows)
+left_after [] renumber rows is = absurd (true≢false (sym is))
+left_after (true ∷ flags) renumber [] is = refl
+left_after (true ∷ flags) renumber (row ∷ rows) is = refl
+left_after (false ∷ flags) renumber rows is = absurd (true≢false (sym is))

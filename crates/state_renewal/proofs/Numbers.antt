@@ -5,7 +5,7 @@ use Rattle.run_model.proofs.Common.{sym, ap, subst, ◌∙◌, arith, option_map
 use Rattle.run_model.proofs.Common.{cases_lt, eq-eqb, le-ltb, lt-ltb, ne_eqb, length-map}
 use Rattle.run_model.proofs.Common.{none-some, slice_get-map, map_cases}
 use Rattle.std.proofs.lemmas.Bool.{cases_order}
-use Rattle.state_renewal.specs.Renewed.{one_more_if, new_number, in_front_if, kept}
+use Rattle.state_renewal.specs.Renewed.{one_more_if, new_number, cons_if, kept}
 
 -- ---- new numbers
 
@@ -116,19 +116,19 @@ number_after keeps (suc n) =
     ap (one_more_if (keeps (suc n))) (number_after keeps n)
     ∙ more_swapped (keeps (suc n)) (keeps zero) (new_number (λ k. keeps (suc k)) n)
 
-front_get : {X : Type 0} (b : Bool) (r : X) (rows : List X) (n : ℕ)
-    → slice_get (in_front_if b r rows) (one_more_if b n) ≡ slice_get rows n
-front_get true r rows n = refl
-front_get false r rows n = refl
+cons_get : {X : Type 0} (b : Bool) (r : X) (rows : List X) (n : ℕ)
+    → slice_get (cons_if b r rows) (one_more_if b n) ≡ slice_get rows n
+cons_get true r rows n = refl
+cons_get false r rows n = refl
 
 pub kept_get : {X : Type 0} (goes : ℕ → Bool) (rows : List X) (n : ℕ) → goes n ≡ true
     → slice_get (kept goes rows) (new_number goes n) ≡ slice_get rows n
 kept_get goes [] n is = refl
 kept_get goes (r ∷ rows) zero is =
-    ap (λ b. slice_get (in_front_if b r (kept (λ n. goes (suc n)) rows)) zero) is
+    ap (λ b. slice_get (cons_if b r (kept (λ n. goes (suc n)) rows)) zero) is
 kept_get goes (r ∷ rows) (suc n) is =
     ap (slice_get (kept goes (r ∷ rows))) (number_after goes n)
-    ∙ front_get (goes zero) r (kept (λ n. goes (suc n)) rows)
+    ∙ cons_get (goes zero) r (kept (λ n. goes (suc n)) rows)
     (new_number (λ n. goes (suc n)) n)
     ∙ kept_get (λ n. goes (suc n)) rows n is
 
@@ -138,7 +138,7 @@ record ComesFrom
   number : ℕ
   found : slice_get rows number ≡ Some row
   is_kept : keeps number ≡ true
-  told : m ≡ new_number keeps number
+  restated : m ≡ new_number keeps number
 
 comes_after : {X : Type 0} (keeps : ℕ → Bool) (r : X) (rows : List X) (m : ℕ) (row : X)
     → ComesFrom (λ k. keeps (suc k)) rows m row
@@ -147,7 +147,7 @@ comes_after keeps r rows m row from = record {
   number = suc from.number;
   found = from.found;
   is_kept = from.is_kept;
-  told = ap (one_more_if (keeps zero)) from.told ∙ sym (number_after keeps from.number);
+  restated = ap (one_more_if (keeps zero)) from.restated ∙ sym (number_after keeps from.number);
 }
 
 kept_back : {X : Type 0} (keeps : ℕ → Bool) (rows : List X) (m : ℕ) (row : X)
@@ -157,12 +157,12 @@ kept_back keeps (r ∷ rows) m row found =
     by_first (keeps zero) refl m found (λ k at. kept_back (λ n. keeps (suc n)) rows k row at)
   where
     by_first : (b : Bool) → keeps zero ≡ b → (m : ℕ)
-        → slice_get (in_front_if b r (kept (λ k. keeps (suc k)) rows)) m ≡ Some row
+        → slice_get (cons_if b r (kept (λ k. keeps (suc k)) rows)) m ≡ Some row
         → ((k : ℕ) → slice_get (kept (λ n. keeps (suc n)) rows) k ≡ Some row
         → ComesFrom (λ n. keeps (suc n)) rows k row)
         → ComesFrom keeps (r ∷ rows) m row
     by_first true is zero at behind =
-        record { number = zero; found = at; is_kept = is; told = refl }
+        record { number = zero; found = at; is_kept = is; restated = refl }
     by_first true is (suc k) at behind =
         subst (λ b. ComesFrom keeps (r ∷ rows) (one_more_if b k) row) is
         (comes_after keeps r rows k row (behind k at))
@@ -170,17 +170,17 @@ kept_back keeps (r ∷ rows) m row found =
         subst (λ b. ComesFrom keeps (r ∷ rows) (one_more_if b k) row) is
         (comes_after keeps r rows k row (behind k at))
 
-length_in_front : {X : Type 0} (b : Bool) (row : X) (rows : List X)
-    → length (in_front_if b row rows) ≡ one_more_if b (length rows)
-length_in_front true row rows = refl
-length_in_front false row rows = refl
+length_cons_if : {X : Type 0} (b : Bool) (row : X) (rows : List X)
+    → length (cons_if b row rows) ≡ one_more_if b (length rows)
+length_cons_if true row rows = refl
+length_cons_if false row rows = refl
 
 -- The number of kept rows is the new number that a row after all of them would have.
 pub length-kept : {X : Type 0} (keeps : ℕ → Bool) (rows : List X)
     → length (kept keeps rows) ≡ new_number keeps (length rows)
 length-kept keeps [] = refl
 length-kept keeps (r ∷ rows) =
-    length_in_front (keeps zero) r (kept (λ k. keeps (suc k)) rows)
+    length_cons_if (keeps zero) r (kept (λ k. keeps (suc k)) rows)
     ∙ ap (one_more_if (keeps zero)) (length-kept (λ k. keeps (suc k)) rows)
     ∙ sym (number_after keeps (length rows))
 
@@ -188,45 +188,45 @@ length-kept keeps (r ∷ rows) =
 
 -- A kept row of the old ones, and the new row that it becomes.
 pub record IsOf
-    {X : Type 0} (keeps : ℕ → Bool) (tell : X → X) (rows : List X) (m : ℕ) (row : X) : Type 0
+    {X : Type 0} (keeps : ℕ → Bool) (renumber : X → X) (rows : List X) (m : ℕ) (row : X) : Type 0
   where
     pub n : ℕ
     pub old : X
     pub found : slice_get rows n ≡ Some old
     pub is_kept : keeps n ≡ true
     pub number : m ≡ new_number keeps n
-    pub told : row ≡ tell old
+    pub restated : row ≡ renumber old
 
 -- The new rows are the kept ones by their new numbers, in the old order.
-pub record AreTold
-    {X : Type 0} (keeps : ℕ → Bool) (tell : X → X) (old new : List X) : Type 0 where
+pub record AreRenewed
+    {X : Type 0} (keeps : ℕ → Bool) (renumber : X → X) (old new : List X) : Type 0 where
   pub few : length new ≤ length old
   pub forth : (n : ℕ) (row : X) → slice_get old n ≡ Some row → keeps n ≡ true
-      → slice_get new (new_number keeps n) ≡ Some (tell row)
-  pub back : (m : ℕ) (row : X) → slice_get new m ≡ Some row → IsOf keeps tell old m row
+      → slice_get new (new_number keeps n) ≡ Some (renumber row)
+  pub back : (m : ℕ) (row : X) → slice_get new m ≡ Some row → IsOf keeps renumber old m row
 
-pub are_told : {X : Type 0} (keeps : ℕ → Bool) (tell : X → X) (rows : List X)
-    → AreTold keeps tell rows (map tell (kept keeps rows))
-are_told keeps tell rows = record {
+pub are_restated : {X : Type 0} (keeps : ℕ → Bool) (renumber : X → X) (rows : List X)
+    → AreRenewed keeps renumber rows (map renumber (kept keeps rows))
+are_restated keeps renumber rows = record {
   few =
-      let same = length-map (kept keeps rows) tell in
+      let same = length-map (kept keeps rows) renumber in
       let many = length-kept keeps rows in
       let less = number_at_most keeps (length rows) in
       omega (arith, same, many, less);
   forth =
       λ n row found is.
-      slice_get-map tell (kept keeps rows) (new_number keeps n)
-      ∙ ap (option_map tell) (kept_get keeps rows n is ∙ found);
+      slice_get-map renumber (kept keeps rows) (new_number keeps n)
+      ∙ ap (option_map renumber) (kept_get keeps rows n is ∙ found);
   back =
       λ m row found.
-      let old = map_cases tell m (kept keeps rows) row found in
+      let old = map_cases renumber m (kept keeps rows) row found in
       let from = kept_back keeps rows m old.0 old.1 in
       record {
         n = from.number;
         old = old.0;
         found = from.found;
         is_kept = from.is_kept;
-        number = from.told;
-        told = old.2;
+        number = from.restated;
+        restated = old.2;
       };
 }

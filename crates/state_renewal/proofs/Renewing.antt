@@ -202,8 +202,8 @@ groups_known p w many rules is same n row found =
 -- The fault of a `?` that ends a call.
 pub no_memory : {T : Type 0} (r : Result T Fault) (e : Fault) → IsErrAnd r (λ y. y ≡ e)
     → e ≡ Memory → IfErr r (λ y. y ≡ Memory)
-no_memory (Ok x) e told is = tt
-no_memory (Err y) e told is = told ∙ is
+no_memory (Ok x) e restated is = tt
+no_memory (Err y) e restated is = restated ∙ is
 
 -- A fact about the flags, if there are marks made from them, is one about the marks.
 pub of_marks : {V : Type 0} (items : V → List Bool) (P : List Bool → Type 0) (r : Result V Fault)

@@ -12,47 +12,58 @@ use Rattle.run_model.specs.declared.scopes.Hit.{Hit}
 use Rattle.run_model.specs.declared.scopes.Scope.{Scope}
 use Rattle.run_model.specs.declared.tasks.Task.{Task}
 use Rattle.state_renewal.specs.Renewed.{new_number, keeps_scope, keeps_group, keeps_task}
-use Rattle.state_renewal.specs.Renewed.{scope_told, group_told, task_told, kept_part, renewed}
-use Rattle.state_renewal.proofs.Numbers.{are_told, number_less, number_same, IsOf}
+use Rattle.state_renewal.specs.Renewed.{
+  scope_renewed,
+  group_renewed,
+  task_renewed,
+  kept_part,
+  renewed,
+}
+use Rattle.state_renewal.proofs.Numbers.{are_restated, number_less, number_same, IsOf}
 use Rattle.state_renewal.proofs.Keeps.{parent_kept, root_kept, owner_kept, scope_kept}
 use Rattle.state_renewal.proofs.Keeps.{task_is_kept}
-use Rattle.state_renewal.proofs.Chains.{kind_anew}
-use Rattle.state_renewal.proofs.Works.{admitted_anew, group_stays, task_error_same, task_stays}
+use Rattle.state_renewal.proofs.Chains.{kind_renumbered}
+use Rattle.state_renewal.proofs.Works.{
+  admitted_renumbered,
+  group_stays,
+  task_error_same,
+  task_stays,
+}
 use Rattle.state_renewal.proofs.Works.{unfinished_same}
-use Rattle.state_renewal.proofs.RowsAnew.{row_anew}
+use Rattle.state_renewal.proofs.RowsRenumbered.{row_renumbered}
 use Rattle.run_model.proofs.RowLemmas.{row_there}
 
 -- ---- where a new row comes from
 
 abbrev pub IsScopeOf : State → ℕ → Scope → Type 0
-IsScopeOf p m row = IsOf (keeps_scope p) (scope_told p) p.tree.scopes m row
+IsScopeOf p m row = IsOf (keeps_scope p) (scope_renewed p) p.tree.scopes m row
 
 pub scope_from : (p : State) (m : ℕ) (row : Scope) → HasRow (renewed p).tree.scopes m row
     → IsScopeOf p m row
 scope_from p m row found =
-    (are_told (keeps_scope p) (scope_told p) p.tree.scopes).back m row found
+    (are_restated (keeps_scope p) (scope_renewed p) p.tree.scopes).back m row found
 
 abbrev pub IsGroupOf : State → ℕ → Group → Type 0
-IsGroupOf p m row = IsOf (keeps_group p) (group_told p) p.work.groups m row
+IsGroupOf p m row = IsOf (keeps_group p) (group_renewed p) p.work.groups m row
 
 pub group_from : (p : State) (m : ℕ) (row : Group) → HasRow (renewed p).work.groups m row
     → IsGroupOf p m row
 group_from p m row found =
-    (are_told (keeps_group p) (group_told p) p.work.groups).back m row found
+    (are_restated (keeps_group p) (group_renewed p) p.work.groups).back m row found
 
 abbrev pub IsTaskOf : State → ℕ → Task → Type 0
-IsTaskOf p m row = IsOf (keeps_task p) (task_told p) p.work.tasks m row
+IsTaskOf p m row = IsOf (keeps_task p) (task_renewed p) p.work.tasks m row
 
 pub task_from : (p : State) (m : ℕ) (row : Task) → HasRow (renewed p).work.tasks m row
     → IsTaskOf p m row
 task_from p m row found =
-    (are_told (keeps_task p) (task_told p) p.work.tasks).back m row found
+    (are_restated (keeps_task p) (task_renewed p) p.work.tasks).back m row found
 
 pub scope_stays : (p : State) (s : ℕ) (row : Scope) → HasRow p.tree.scopes s row
     → keeps_scope p s ≡ true
-    → HasRow (renewed p).tree.scopes (new_number (keeps_scope p) s) (scope_told p row)
+    → HasRow (renewed p).tree.scopes (new_number (keeps_scope p) s) (scope_renewed p row)
 scope_stays p s row found is =
-    (are_told (keeps_scope p) (scope_told p) p.tree.scopes).forth s row found is
+    (are_restated (keeps_scope p) (scope_renewed p) p.tree.scopes).forth s row found is
 
 -- Two new rows that come from one old row are one.
 met : (keeps : ℕ → Bool) (m k n l : ℕ) → m ≡ new_number keeps n → k ≡ new_number keeps l
@@ -67,28 +78,29 @@ less_from at_m at_k less = omega (arith, at_m, at_k, less)
 pub ordered_kept : (p : State) → AreOrdered p.tree.scopes → AreOrdered (renewed p).tree.scopes
 ordered_kept p ordered m row found below =
     let of = scope_from p m row found in
-    let was_below : is_root of.old.kind ≡ false = ap (λ x. is_root x.kind) (sym of.told) ∙ below in
+    let was_below : is_root of.old.kind ≡ false = ap (λ x. is_root x.kind) (sym of.restated)
+    ∙ below in
     let less =
     number_less (keeps_scope p) of.old.parent of.n
     (parent_kept p of.n of.old ordered of.found was_below of.is_kept)
     (ordered of.n of.old of.found was_below) in
     let parent : row.parent ≡ new_number (keeps_scope p) of.old.parent =
-    ap (λ x. x.parent) of.told in
+    ap (λ x. x.parent) of.restated in
     less_from parent of.number less
 
 numbered_kept : (p : State) → IsConsistent p → AreNumbered (renewed p)
 numbered_kept p consistent = record {
   one_layout = old.one_layout;
   few_scopes =
-      let less = (are_told (keeps_scope p) (scope_told p) p.tree.scopes).few in
+      let less = (are_restated (keeps_scope p) (scope_renewed p) p.tree.scopes).few in
       let few = old.few_scopes in
       omega (arith, less, few);
   few_groups =
-      let less = (are_told (keeps_group p) (group_told p) p.work.groups).few in
+      let less = (are_restated (keeps_group p) (group_renewed p) p.work.groups).few in
       let few = old.few_groups in
       omega (arith, less, few);
   few_tasks =
-      let less = (are_told (keeps_task p) (task_told p) p.work.tasks).few in
+      let less = (are_restated (keeps_task p) (task_renewed p) p.work.tasks).few in
       let few = old.few_tasks in
       omega (arith, less, few);
   rooted = scope_stays p 0 root old.rooted (root_kept p old.rooted);
@@ -97,39 +109,39 @@ numbered_kept p consistent = record {
       let of = scope_from p m row found in
       of.number
       ∙ ap (new_number (keeps_scope p))
-      (old.one_root of.n of.old of.found (ap (λ x. is_root x.kind) (sym of.told) ∙ is));
+      (old.one_root of.n of.old of.found (ap (λ x. is_root x.kind) (sym of.restated) ∙ is));
   scope_names =
       λ m k a b found_a found_b same.
       let x = scope_from p m a found_a in
       let y = scope_from p k b found_b in
       met (keeps_scope p) m k x.n y.n x.number y.number
       (old.scope_names x.n y.n x.old y.old x.found y.found
-      (ap (λ r. r.name) (sym x.told) ∙ same ∙ ap (λ r. r.name) y.told));
+      (ap (λ r. r.name) (sym x.restated) ∙ same ∙ ap (λ r. r.name) y.restated));
   group_names =
       λ m k a b found_a found_b same.
       let x = group_from p m a found_a in
       let y = group_from p k b found_b in
       met (keeps_group p) m k x.n y.n x.number y.number
       (old.group_names x.n y.n x.old y.old x.found y.found
-      (ap (λ r. r.name) (sym x.told) ∙ same ∙ ap (λ r. r.name) y.told));
+      (ap (λ r. r.name) (sym x.restated) ∙ same ∙ ap (λ r. r.name) y.restated));
   ordered = ordered_kept p old.ordered;
   scopes =
       λ m row found.
       let of = group_from p m row found in
       let within = old.scopes of.n of.old of.found in
       let scope = row_there p.tree.scopes of.old.scope within in
-      subst (λ s. s < length (renewed p).tree.scopes) (ap (λ r. r.scope) (sym of.told))
+      subst (λ s. s < length (renewed p).tree.scopes) (ap (λ r. r.scope) (sym of.restated))
       (slice_get_within (renewed p).tree.scopes (new_number (keeps_scope p) of.old.scope)
-      (scope_told p scope.0)
+      (scope_renewed p scope.0)
       (scope_stays p of.old.scope scope.0 scope.1
       (scope_kept p of.n of.old of.found within of.is_kept)));
   groups =
       λ m row found.
       let of = task_from p m row found in
       let group = row_there p.work.groups of.old.group (old.groups of.n of.old of.found) in
-      subst (λ g. g < length (renewed p).work.groups) (ap (λ r. r.group) (sym of.told))
+      subst (λ g. g < length (renewed p).work.groups) (ap (λ r. r.group) (sym of.restated))
       (slice_get_within (renewed p).work.groups (new_number (keeps_group p) of.old.group)
-      (group_told p group.0)
+      (group_renewed p group.0)
       (group_stays p of.old.group group.0 group.1
       (sym (task_is_kept p of.n of.old of.found) ∙ of.is_kept)));
 }
@@ -147,7 +159,7 @@ hit_from p m hit has =
     (λ row found own.
     let of = scope_from p m row found in (
       of.n,
-      ap (option_and_then (λ r. r.hit)) of.found ∙ ap (λ r. r.hit) (sym of.told) ∙ own,
+      ap (option_and_then (λ r. r.hit)) of.found ∙ ap (λ r. r.hit) (sym of.restated) ∙ own,
     ))
 
 hits_kept : (p : State) → AreHits p → AreHits (renewed p)
@@ -155,8 +167,8 @@ hits_kept p old = record {
   kinds =
       λ m row found is.
       let of = scope_from p m row found in
-      let can = old.kinds of.n of.old of.found (ap (λ r. is_some r.hit) (sym of.told) ∙ is) in
-      rw (of.told) can;
+      let can = old.kinds of.n of.old of.found (ap (λ r. is_some r.hit) (sym of.restated) ∙ is) in
+      rw (of.restated) can;
   counted = λ m hit has. (let was = hit_from p m hit has in old.counted was.0 hit was.1);
   past = record {
     events = λ m hit has. (let was = hit_from p m hit has in old.past.events was.0 hit was.1);
@@ -169,14 +181,14 @@ deadlines_kept p old = record {
   own =
       λ m row hit found has late.
       let of = scope_from p m row found in
-      let own = old.own of.n of.old hit of.found (ap (λ r. r.hit) (sym of.told) ∙ has) late in
-      rw (of.told) own;
+      let own = old.own of.n of.old hit of.found (ap (λ r. r.hit) (sym of.restated) ∙ has) late in
+      rw (of.restated) own;
   come =
       λ m moment row found is reached.
       let of = scope_from p m row found in
-      let kind : of.old.kind ≡ row.kind = ap (λ r. r.kind) (sym of.told) in
+      let kind : of.old.kind ≡ row.kind = ap (λ r. r.kind) (sym of.restated) in
       let has = old.come of.n moment of.old of.found (rw kind is) reached in
-      rw (of.told) has;
+      rw (of.restated) has;
 }
 
 -- ---- 4. groups and their scopes
@@ -191,7 +203,7 @@ record IsOwnerOf (p : State) (m k : ℕ) (row : Group) : Type 0 where
   is_kept : keeps_scope p s ≡ true
   number : m ≡ new_number (keeps_group p) g
   scope : k ≡ new_number (keeps_scope p) s
-  told : row ≡ group_told p old
+  restated : row ≡ group_renewed p old
 
 owner_from : (p : State) (m k : ℕ) (row : Group) → IsConsistent p
     → Owns (renewed p).work m row k → IsOwnerOf p m k row
@@ -204,14 +216,14 @@ owner_from p m k row consistent owns =
       old = of.old;
       owns = record {
         found = of.found;
-        not_bare = ap (λ r. r.bare) (sym of.told) ∙ owns.not_bare;
+        not_bare = ap (λ r. r.bare) (sym of.restated) ∙ owns.not_bare;
         scope = refl;
       };
       group_is_kept = of.is_kept;
       is_kept = scope_kept p of.n of.old of.found within of.is_kept;
       number = of.number;
-      scope = sym owns.scope ∙ ap (λ r. r.scope) of.told;
-      told = of.told;
+      scope = sym owns.scope ∙ ap (λ r. r.scope) of.restated;
+      restated = of.restated;
     }
 
 group_scopes_kept : (p : State) → IsConsistent p → AreGroupScopes (renewed p)
@@ -220,18 +232,18 @@ group_scopes_kept p consistent = record {
       λ m row found is.
       let of = scope_from p m row found in
       let owner =
-      old.owned of.n of.old of.found (ap (λ r. is_group_kind r.kind) (sym of.told) ∙ is) in
+      old.owned of.n of.old of.found (ap (λ r. is_group_kind r.kind) (sym of.restated) ∙ is) in
       let group_is : keeps_group p owner.0 ≡ true =
       owner_kept p owner.0 owner.1 owner.2.found owner.2.not_bare
       (ap (keeps_scope p) owner.2.scope ∙ of.is_kept) in (
         new_number (keeps_group p) owner.0,
-        group_told p owner.1,
+        group_renewed p owner.1,
         record {
           found = group_stays p owner.0 owner.1 owner.2.found group_is;
           not_bare = owner.2.not_bare;
           scope = ap (new_number (keeps_scope p)) owner.2.scope ∙ sym of.number;
         },
-        owner.3 ∙ ap (λ r. r.name) (sym of.told),
+        owner.3 ∙ ap (λ r. r.name) (sym of.restated),
       );
   once =
       λ k m n a b owns_a owns_b.
@@ -245,7 +257,7 @@ group_scopes_kept p consistent = record {
       λ m k row owns.
       let x = owner_from p m k row consistent owns in
       subst (λ s. IsTrue (has_kind is_group_kind (renewed p).tree s)) (sym x.scope)
-      (kind_anew is_group_kind (kept_part p) p.tree x.s x.is_kept
+      (kind_renumbered is_group_kind (kept_part p) p.tree x.s x.is_kept
       ∙ old.own x.g x.s x.old x.owns);
 }
   where
@@ -260,18 +272,18 @@ admitted_kept p consistent = record {
       λ m row found is.
       let of = task_from p m row found in
       let was =
-      admitted_anew (kept_part p) p.work of.n of.old (task_is_kept p) of.found of.is_kept
+      admitted_renumbered (kept_part p) p.work of.n of.old (task_is_kept p) of.found of.is_kept
       ∙ consistent.admitted.running of.n of.old of.found
-      (ap (λ r. is_running r.stage) (sym of.told) ∙ is) in
+      (ap (λ r. is_running r.stage) (sym of.restated) ∙ is) in
       ap (λ n. is_admitted (renewed p).work n row) of.number
-      ∙ ap (is_admitted (renewed p).work (new_number (keeps_task p) of.n)) of.told
+      ∙ ap (is_admitted (renewed p).work (new_number (keeps_task p) of.n)) of.restated
       ∙ was;
   waited =
       λ m row found is.
       let of = group_from p m row found in
       ap (λ g. unfinished_in g (renewed p).work.tasks) of.number
       ∙ unfinished_same (kept_part p) p.work of.n (task_is_kept p) of.is_kept
-      ∙ consistent.admitted.waited of.n of.old of.found (ap (λ r. r.waited) (sym of.told) ∙ is);
+      ∙ consistent.admitted.waited of.n of.old of.found (ap (λ r. r.waited) (sym of.restated) ∙ is);
 }
 
 -- ---- 6. errors
@@ -284,7 +296,8 @@ errors_kept p consistent = record {
       let same : has_task_error (renewed p).work m ≡ has_task_error p.work of.n =
       ap (has_task_error (renewed p).work) of.number
       ∙ task_error_same (kept_part p) p.work of.n (task_is_kept p) of.is_kept in
-      let error : is_some row.error ≡ is_some of.old.error = ap (λ r. is_some r.error) of.told in
+      let error : is_some row.error ≡ is_some of.old.error = ap
+      (λ r. is_some r.error) of.restated in
       let was = consistent.errors.exact of.n of.old of.found in
       (λ is. same ∙ was.0 (sym error ∙ is), λ is. error ∙ was.1 (sym same ∙ is));
   ended =
@@ -292,10 +305,10 @@ errors_kept p consistent = record {
       let x = owner_from p m k row consistent owns in
       subst (λ s. IsSome (own_hit (renewed p).tree.scopes s)) (sym x.scope)
       (ap is_some
-      (row_anew (option_and_then (λ row. row.hit)) (option_and_then (λ row. row.hit))
-      (keeps_scope p) (scope_told p) p.tree.scopes x.s refl (λ row at. refl) x.is_kept)
+      (row_renumbered (option_and_then (λ row. row.hit)) (option_and_then (λ row. row.hit))
+      (keeps_scope p) (scope_renewed p) p.tree.scopes x.s refl (λ row at. refl) x.is_kept)
       ∙ consistent.errors.ended x.g x.s x.old x.owns
-      (subst (λ r. IsSome r.error ⊎ (r.waited ≡ true)) x.told end));
+      (subst (λ r. IsSome r.error ⊎ (r.waited ≡ true)) x.restated end));
 }
 
 -- ---- 7. links
@@ -320,7 +333,7 @@ linked_from p m k row consistent found is =
     let x = task_from p m row found in
     let to =
     link_from (new_number (keeps_task p)) x.old.retry_of k
-    (ap (λ r. r.retry_of) (sym x.told) ∙ is) in
+    (ap (λ r. r.retry_of) (sym x.restated) ∙ is) in
     let was = consistent.links.linked x.n to.0 x.old x.found to.1 in
     record {
       of = x;
@@ -341,8 +354,8 @@ links_kept p consistent = record {
       λ m k row found is.
       let x = linked_from p m k row consistent found is in
       let was = x.linked.2 in (
-        task_told p x.linked.0,
-        subst (λ n. HasRow (renewed p).work.tasks n (task_told p x.linked.0)) (sym x.number)
+        task_renewed p x.linked.0,
+        subst (λ n. HasRow (renewed p).work.tasks n (task_renewed p x.linked.0)) (sym x.number)
             (task_stays p x.n x.linked.0 x.linked.1 x.is_kept),
         record {
           before =
@@ -350,9 +363,9 @@ links_kept p consistent = record {
               less_from x.number x.of.number less;
           interrupted = was.interrupted;
           group =
-              ap (λ r. r.group) x.of.told ∙ ap (new_number (keeps_group p)) was.group;
-          job = ap (λ r. r.job) x.of.told ∙ was.job;
-          argument = ap (λ r. r.argument) x.of.told ∙ was.argument;
+              ap (λ r. r.group) x.of.restated ∙ ap (new_number (keeps_group p)) was.group;
+          job = ap (λ r. r.job) x.of.restated ∙ was.job;
+          argument = ap (λ r. r.argument) x.of.restated ∙ was.argument;
         },
       );
   once =

@@ -4,19 +4,19 @@ use Rattle.run_model.proofs.Common.{ap, subst, ◌∙◌, option_and_then, if◌
 use Rattle.run_model.proofs.Common.{none-some, same_Some, allowed, run, Event, IsConsistent, State}
 use Rattle.run_model.proofs.Common.{step}
 use Rattle.model_laws.proofs.StateSteps.{kept_by}
-use Rattle.state_renewal.specs.Renewed.{Part, state_anew}
+use Rattle.state_renewal.specs.Renewed.{Part, state_renumbered}
 use Rattle.state_renewal.specs.GoingOn.{all_name_part}
-use Rattle.state_renewal.specs.Told.{event_anew, names_part}
-use Rattle.state_renewal.proofs.Refusals.{allowed_anew}
+use Rattle.state_renewal.specs.PartEvents.{event_renumbered, names_part}
+use Rattle.state_renewal.proofs.Refusals.{allowed_renumbered}
 use Rattle.state_renewal.proofs.Hangs.{AreBoth}
 use Rattle.state_renewal.proofs.Goes.{Goes, hangs}
 use Rattle.state_renewal.proofs.GoesStill.{goes_still}
-use Rattle.state_renewal.proofs.Steps.{step_anew}
+use Rattle.state_renewal.proofs.Steps.{step_renumbered}
 
 -- The state and the part of it that goes on both keep the rules, and the part is closed.
 pub record Both (part : Part) (p : State) : Type 0 where
   pub old : IsConsistent p
-  pub new : IsConsistent (state_anew part p)
+  pub new : IsConsistent (state_renumbered part p)
   pub go : Goes part p
 
 pub are_both : (part : Part) (p : State) → Both part p → AreBoth part p
@@ -27,22 +27,27 @@ pub both_step : (part : Part) (p : State) (e : Event) → Both part p → names_
 both_step part p e both is may = record {
   old = kept_by p e both.old may;
   new =
-      subst IsConsistent (step_anew part p e both.old both.go is)
-      (kept_by (state_anew part p) (event_anew part e) both.new
-      (allowed_anew part p e (are_both part p both) is may));
+      subst IsConsistent (step_renumbered part p e both.old both.go is)
+      (kept_by (state_renumbered part p) (event_renumbered part e) both.new
+      (allowed_renumbered part p e (are_both part p both) is may));
   go = goes_still part p e both.go is;
 }
 
 -- The new store is led as the old one is, and both keep the rules.
 pub record IsLed (part : Part) (p : State) (events : List Event) (q : State) : Type 0 where
-  pub run : run (state_anew part p) (map (event_anew part) events) ≡ Some (state_anew part q)
+  pub run : run (state_renumbered part p) (map (event_renumbered part) events) ≡ Some
+      (state_renumbered part q)
   pub both : Both part q
 
 pub led : (part : Part) (events : List Event) (p q : State) → Both part p
     → all_name_part part events ≡ true → run p events ≡ Some q → IsLed part p events q
 led part [] p q both are has =
     let same = same_Some p q has in
-    record { run = ap (λ r. Some (state_anew part r)) same; both = subst (Both part) same both }
+    record {
+      run = ap (λ r. Some (state_renumbered part r)) same;
+      both = subst
+          (Both part) same both;
+    }
 led part (e ∷ events) p q both are has =
     by_allowed (λ r after. led part events r q after parts.1) (allowed p e) refl has
   where
@@ -59,11 +64,11 @@ led part (e ∷ events) p q both are has =
         behind (step p e) (both_step part p e both parts.0 may) rest_led in
         record {
           run =
-              ap (λ b. option_and_then (λ r. run r (map (event_anew part) events))
-              (if b then Some (step (state_anew part p) (event_anew part e)) else None))
-              (allowed_anew part p e (are_both part p both) parts.0 may)
-              ∙ ap (λ r. run r (map (event_anew part) events))
-              (step_anew part p e both.old both.go parts.0)
+              ap (λ b. option_and_then (λ r. run r (map (event_renumbered part) events))
+              (if b then Some (step (state_renumbered part p) (event_renumbered part e)) else None))
+              (allowed_renumbered part p e (are_both part p both) parts.0 may)
+              ∙ ap (λ r. run r (map (event_renumbered part) events))
+              (step_renumbered part p e both.old both.go parts.0)
               ∙ rest.run;
           both = rest.both;
         }

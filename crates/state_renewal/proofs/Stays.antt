@@ -8,28 +8,28 @@ use Rattle.state_renewal.specs.Kept.{AnswersAlike, ScopeStays, GroupStays, TaskS
 use Rattle.state_renewal.specs.Kept.{KeepsUnfinished}
 use Rattle.state_renewal.specs.Renewed.{new_number, keeps_scope, keeps_group, keeps_task}
 use Rattle.state_renewal.specs.Renewed.{kept_part, renewed}
-use Rattle.state_renewal.proofs.Chains.{IsLineTold, both_lines, deadline_told, ending_told}
-use Rattle.state_renewal.proofs.Chains.{value_told}
+use Rattle.state_renewal.proofs.Chains.{IsLineRenewed, both_lines, deadline_renewed, ending_renewed}
+use Rattle.state_renewal.proofs.Chains.{value_renewed}
 use Rattle.state_renewal.proofs.Hangs.{AreBoth, kept_hangs}
 use Rattle.state_renewal.proofs.Keeps.{live_kept, unwaited_kept, task_is_kept}
 use Rattle.state_renewal.proofs.RulesKept.{rules_kept, scope_stays}
-use Rattle.state_renewal.proofs.Works.{first_anew, group_stays, phase_anew, task_stays}
+use Rattle.state_renewal.proofs.Works.{first_renumbered, group_stays, phase_renumbered, task_stays}
 use Rattle.state_renewal.proofs.Works.{unfinished_same, unfinished_goes}
 
 pub kept_both : (p : State) → IsConsistent p → AreBoth (kept_part p) p
 kept_both p consistent =
     record { old = consistent; new = rules_kept p consistent; hangs = kept_hangs p consistent }
 
-answers_alike : (p : State) (s : ℕ) → IsLineTold (kept_part p) p.tree.scopes s
+answers_alike : (p : State) (s : ℕ) → IsLineRenewed (kept_part p) p.tree.scopes s
     → AnswersAlike p.tree.scopes s (renewed p).tree.scopes (new_number (keeps_scope p) s)
-answers_alike p s told =
-    let same = ending_told (kept_part p) p.tree.scopes s told in
+answers_alike p s restated =
+    let same = ending_renewed (kept_part p) p.tree.scopes s restated in
     record {
       done = ap is_some same;
       reason = ap (option_map (λ hit. hit.reason)) same;
       cause = ap (option_map (λ hit. hit.cause)) same;
-      deadline = deadline_told (kept_part p) p.tree.scopes s told;
-      values = λ key. value_told (kept_part p) p.tree.scopes s key told;
+      deadline = deadline_renewed (kept_part p) p.tree.scopes s restated;
+      values = λ key. value_renewed (kept_part p) p.tree.scopes s key restated;
     }
 
 pub kept_scope : (p : State) (s : ℕ) (row : Scope) → IsConsistent p → HasRow p.tree.scopes s row
@@ -51,14 +51,14 @@ pub kept_task : (p : State) (n : ℕ) (row : Task) → IsConsistent p → HasRow
     → keeps_task p n ≡ true → TaskStays p n row
 kept_task p n row consistent found is = record {
   found = task_stays p n row found is;
-  phase = phase_anew (kept_part p) p.work n (task_is_kept p) is;
+  phase = phase_renumbered (kept_part p) p.work n (task_is_kept p) is;
 }
 
 pub first_ready_same : (p : State) → IsConsistent p
     → first_ready (renewed p).work
     ≡ option_map (new_number (keeps_task p)) (first_ready p.work)
 first_ready_same p consistent =
-    first_anew (kept_part p) p consistent (kept_hangs p consistent).work
+    first_renumbered (kept_part p) p consistent (kept_hangs p consistent).work
 
 pub keeps_unfinished : (p : State) → IsConsistent p → KeepsUnfinished p
 keeps_unfinished p consistent = record {

@@ -11,18 +11,24 @@ use Rattle.run_model.specs.declared.scopes.Scope.{Scope}
 use Rattle.run_model.specs.declared.tasks.Task.{Task}
 use Rattle.model_laws.specs.Hits.{is_on}
 use Rattle.model_laws.proofs.Tests.{passing}
-use Rattle.state_renewal.specs.Renewed.{group_told, hosts_unwaited, in_front_if, is_needed, kept}
+use Rattle.state_renewal.specs.Renewed.{group_renewed, hosts_unwaited, cons_if, is_needed, kept}
 use Rattle.state_renewal.specs.Renewed.{keeps_group, keeps_scope, keeps_task, kept_part}
 use Rattle.state_renewal.specs.Renewed.{new_number, one_more_if, renewed, scope_numbers}
-use Rattle.state_renewal.specs.Renewed.{scope_told, task_told, Part, group_anew, rows_anew}
-use Rattle.state_renewal.specs.Renewed.{scope_anew, state_anew, task_anew}
+use Rattle.state_renewal.specs.Renewed.{
+  scope_renewed,
+  task_renewed,
+  Part,
+  group_renumbered,
+  rows_renumbered,
+}
+use Rattle.state_renewal.specs.Renewed.{scope_renumbered, state_renumbered, task_renumbered}
 use Rattle.state_renewal.proofs.Keeps.{live_kept, all_at}
 use Rattle.state_renewal.proofs.Numbers.{number_after, same_number}
 use Rattle.state_renewal.proofs.Hangs.{AreBoth}
 use Rattle.state_renewal.proofs.Stays.{kept_both}
-use Rattle.state_renewal.proofs.Chains.{AllGo, both_lines, done_anew, told_at}
-use Rattle.state_renewal.proofs.PassAnew.{any_anew, some_anew}
-use Rattle.state_renewal.proofs.RowsAnew.{anew_get, kept_map, length-anew}
+use Rattle.state_renewal.proofs.Chains.{AllGo, both_lines, done_renumbered, renewed_at}
+use Rattle.state_renewal.proofs.PassRenumbered.{any_renumbered, some_renumbered}
+use Rattle.state_renewal.proofs.RowsRenumbered.{renumbered_get, kept_map, length-renumbered}
 use Rattle.model_laws.proofs.FirstErrors.{found_any}
 use Rattle.run_model.proofs.RowLemmas.{row_there}
 
@@ -75,14 +81,14 @@ kept_twice {X = X} goes keeps again (r ∷ rows) within =
     by_first : (b : Bool) → goes zero ≡ b
         → ((c : Bool) → goes zero ≡ c
         → kept (λ n. again (one_more_if c n)) rest ≡ kept (λ n. keeps (suc n)) rows)
-        → kept again (in_front_if b r rest)
-        ≡ in_front_if (keeps zero) r (kept (λ n. keeps (suc n)) rows)
+        → kept again (cons_if b r rest)
+        ≡ cons_if (keeps zero) r (kept (λ n. keeps (suc n)) rows)
     by_first true is behind =
-        ap (λ b. in_front_if b r (kept (λ n. again (suc n)) rest)) (within.on zero is)
-        ∙ ap (in_front_if (keeps zero) r) (behind true is)
+        ap (λ b. cons_if b r (kept (λ n. again (suc n)) rest)) (within.on zero is)
+        ∙ ap (cons_if (keeps zero) r) (behind true is)
     by_first false is behind =
         behind false is
-        ∙ ap (λ b. in_front_if b r (kept (λ n. keeps (suc n)) rows)) (sym (within.off zero is))
+        ∙ ap (λ b. cons_if b r (kept (λ n. keeps (suc n)) rows)) (sym (within.off zero is))
 
 map_twice : {X : Type 0} (f g h : X → X) (rows : List X) → ((x : X) → f (g x) ≡ h x)
     → map f (map g rows) ≡ map h rows
@@ -92,7 +98,7 @@ map_twice f g h (r ∷ rows) same =
 
 rows_twice : {X : Type 0} (goes keeps again : ℕ → Bool) (f g h : X → X) (rows : List X)
     → IsWithin goes keeps again → ((x : X) → f (g x) ≡ h x)
-    → map f (kept again (rows_anew goes g rows)) ≡ map h (kept keeps rows)
+    → map f (kept again (rows_renumbered goes g rows)) ≡ map h (kept keeps rows)
 rows_twice goes keeps again f g h rows within same =
     ap (map f) (kept_map again g (kept goes rows))
     ∙ ap (λ rs. map f (map g rs)) (kept_twice goes keeps again rows within)
@@ -128,13 +134,14 @@ row_on rows t s on = by_row (slice_get rows t) refl
     by_row (Some row) at = (row, at)
 
 -- A scope is on the line by the new numbers if it was on the line.
-on_anew : (part : Part) (s : ℕ) (rows : List (ℕ × Scope)) → AllGo part rows → part.scopes s ≡ true
-    → is_on (new_number part.scopes s) (map (told_at part) rows) ≡ is_on s rows
-on_anew part s [] all is = refl
-on_anew part s (r ∷ rows) all is =
-    ap (λ b. b || is_on (new_number part.scopes s) (map (told_at part) rows))
+on_renumbered : (part : Part) (s : ℕ) (rows : List (ℕ × Scope)) → AllGo part rows
+    → part.scopes s ≡ true
+    → is_on (new_number part.scopes s) (map (renewed_at part) rows) ≡ is_on s rows
+on_renumbered part s [] all is = refl
+on_renumbered part s (r ∷ rows) all is =
+    ap (λ b. b || is_on (new_number part.scopes s) (map (renewed_at part) rows))
     (same_number part.scopes r.0 s all.0 is)
-    ∙ ap (λ b. (r.0 == s) || b) (on_anew part s rows all.1 is)
+    ∙ ap (λ b. (r.0 == s) || b) (on_renumbered part s rows all.1 is)
 
 -- Each scope that doesn't go on is done.
 abbrev pub GoneAreDone : Part → State → Type 0
@@ -163,10 +170,11 @@ module _ (part : Part) (p : State) (both : AreBoth part p) (done : GoneAreDone p
       ]
 
   hosts_same : (s : ℕ) → part.scopes s ≡ true
-      → hosts_unwaited (state_anew part p).work (new_number part.scopes s)
+      → hosts_unwaited (state_renumbered part p).work (new_number part.scopes s)
       ≡ hosts_unwaited p.work s
   hosts_same s is =
-      any_anew part.groups (group_anew part) (λ group. not group.waited && group.scope == s)
+      any_renumbered part.groups (group_renumbered part)
+      (λ group. not group.waited && group.scope == s)
       (λ group. not group.waited && group.scope == new_number part.scopes s) p.work.groups
       (record {
         on = λ g x found goes.
@@ -179,27 +187,27 @@ module _ (part : Part) (p : State) (both : AreBoth part p) (done : GoneAreDone p
       })
 
   needed_same : (s : ℕ) → part.scopes s ≡ true
-      → is_needed (state_anew part p) (new_number part.scopes s) ≡ is_needed p s
+      → is_needed (state_renumbered part p) (new_number part.scopes s) ≡ is_needed p s
   needed_same s is =
-      ap (λ b. not b || hosts_unwaited (state_anew part p).work (new_number part.scopes s))
-      (done_anew part p both s is)
+      ap (λ b. not b || hosts_unwaited (state_renumbered part p).work (new_number part.scopes s))
+      (done_renumbered part p both s is)
       ∙ ap (λ b. not (is_done p.tree.scopes s) || b) (hosts_same s is)
 
   -- ---- what is kept
 
-  told : (t : ℕ) (row : Scope) → HasRow p.tree.scopes t row → part.scopes t ≡ true
+  restated : (t : ℕ) (row : Scope) → HasRow p.tree.scopes t row → part.scopes t ≡ true
       → AllGo part (line p.tree.scopes t)
-  told t row found is = (both_lines part p both t row found is).all
+  restated t row found is = (both_lines part p both t row found is).all
 
   on_same : (t s : ℕ) (row : Scope) → HasRow p.tree.scopes t row → part.scopes t ≡ true
       → part.scopes s ≡ true
       → is_on (new_number part.scopes s)
-      (line (state_anew part p).tree.scopes (new_number part.scopes t))
+      (line (state_renumbered part p).tree.scopes (new_number part.scopes t))
       ≡ is_on s (line p.tree.scopes t)
   on_same t s row found is_t is_s =
       let line = both_lines part p both t row found is_t in
       ap (is_on (new_number part.scopes s)) line.is
-      ∙ on_anew part s (Rattle.run_model.specs.Scopes.line p.tree.scopes t) line.all is_s
+      ∙ on_renumbered part s (Rattle.run_model.specs.Scopes.line p.tree.scopes t) line.all is_s
 
   -- Only scopes that go on are kept.
   scope_goes : (s : ℕ) → keeps_scope p s ≡ true → part.scopes s ≡ true
@@ -211,16 +219,16 @@ module _ (part : Part) (p : State) (both : AreBoth part p) (done : GoneAreDone p
       let on = found_any (λ r. r.0 == s) (line p.tree.scopes by.1) parts.1 in
       ap part.scopes (sym (eqb-true on.1.0 s on.3))
       ∙ all_at (λ r. part.scopes r.0 ≡ true) (line p.tree.scopes by.1)
-      (told by.1 row.0 row.1 (needed_goes by.1 row.0 row.1 parts.0)) on.0 on.1 on.2
+      (restated by.1 row.0 row.1 (needed_goes by.1 row.0 row.1 parts.0)) on.0 on.1 on.2
 
   keeps_same : (s : ℕ) → part.scopes s ≡ true
-      → keeps_scope (state_anew part p) (new_number part.scopes s) ≡ keeps_scope p s
+      → keeps_scope (state_renumbered part p) (new_number part.scopes s) ≡ keeps_scope p s
   keeps_same s is =
-      let q : State = state_anew part p in
+      let q : State = state_renumbered part p in
       let new = new_number part.scopes s in
       ap (λ many. list_any (λ t. is_needed q t && is_on new (line q.tree.scopes t))
-      (range_with_len 0 many)) (length-anew part.scopes (scope_anew part) p.tree.scopes)
-      ∙ some_anew part.scopes (λ t. is_needed p t && is_on s (line p.tree.scopes t))
+      (range_with_len 0 many)) (length-renumbered part.scopes (scope_renumbered part) p.tree.scopes)
+      ∙ some_renumbered part.scopes (λ t. is_needed p t && is_on s (line p.tree.scopes t))
       (λ t. is_needed q t && is_on new (line q.tree.scopes t)) (length p.tree.scopes)
       (record {
         on = λ t less goes.
@@ -235,7 +243,7 @@ module _ (part : Part) (p : State) (both : AreBoth part p) (done : GoneAreDone p
             (λ needed. both_ways (part.scopes t) gone (needed_goes t row.0 row.1 needed)));
       })
 
-  scopes_within : IsWithin part.scopes (keeps_scope p) (keeps_scope (state_anew part p))
+  scopes_within : IsWithin part.scopes (keeps_scope p) (keeps_scope (state_renumbered part p))
   scopes_within = record {
     on = keeps_same;
     off = λ s gone.
@@ -244,18 +252,18 @@ module _ (part : Part) (p : State) (both : AreBoth part p) (done : GoneAreDone p
   }
 
   group_same : (g : ℕ) → part.groups g ≡ true
-      → keeps_group (state_anew part p) (new_number part.groups g) ≡ keeps_group p g
+      → keeps_group (state_renumbered part p) (new_number part.groups g) ≡ keeps_group p g
   group_same g is =
       ap (λ o. option_map_or (λ group. not group.waited
-      || not group.bare && keeps_scope (state_anew part p) group.scope) o false)
-      (anew_get part.groups (group_anew part) p.work.groups g is)
+      || not group.bare && keeps_scope (state_renumbered part p) group.scope) o false)
+      (renumbered_get part.groups (group_renumbered part) p.work.groups g is)
       ∙ group_row g is (slice_get p.work.groups g) refl
     where
       group_row : (g : ℕ) → part.groups g ≡ true → (o : Option Group)
           → slice_get p.work.groups g ≡ o
           → option_map_or (λ group. not group.waited
-          || not group.bare && keeps_scope (state_anew part p) group.scope)
-          (option_map (group_anew part) o) false
+          || not group.bare && keeps_scope (state_renumbered part p) group.scope)
+          (option_map (group_renumbered part) o) false
           ≡ option_map_or (λ group. not group.waited
           || not group.bare && keeps_scope p group.scope) o false
       group_row g is None at = refl
@@ -280,7 +288,7 @@ module _ (part : Part) (p : State) (both : AreBoth part p) (done : GoneAreDone p
             (with.own (not-true row.0.bare parts.0) (scope_goes row.0.scope parts.1)))
       ])
 
-  groups_within : IsWithin part.groups (keeps_group p) (keeps_group (state_anew part p))
+  groups_within : IsWithin part.groups (keeps_group p) (keeps_group (state_renumbered part p))
   groups_within = record {
     on = group_same;
     off = λ g gone.
@@ -289,22 +297,22 @@ module _ (part : Part) (p : State) (both : AreBoth part p) (done : GoneAreDone p
   }
 
   task_same : (n : ℕ) → part.tasks n ≡ true
-      → keeps_task (state_anew part p) (new_number part.tasks n) ≡ keeps_task p n
+      → keeps_task (state_renumbered part p) (new_number part.tasks n) ≡ keeps_task p n
   task_same n is =
-      ap (λ o. option_map_or (λ task. keeps_group (state_anew part p) task.group) o false)
-      (anew_get part.tasks (task_anew part) p.work.tasks n is)
+      ap (λ o. option_map_or (λ task. keeps_group (state_renumbered part p) task.group) o false)
+      (renumbered_get part.tasks (task_renumbered part) p.work.tasks n is)
       ∙ task_row n is (slice_get p.work.tasks n) refl
     where
       task_row : (n : ℕ) → part.tasks n ≡ true → (o : Option Task)
           → slice_get p.work.tasks n ≡ o
-          → option_map_or (λ task. keeps_group (state_anew part p) task.group)
-          (option_map (task_anew part) o) false
+          → option_map_or (λ task. keeps_group (state_renumbered part p) task.group)
+          (option_map (task_renumbered part) o) false
           ≡ option_map_or (λ task. keeps_group p task.group) o false
       task_row n is None at = refl
       task_row n is (Some row) at =
           group_same row.group (sym (both.hangs.work.tasks n row at) ∙ is)
 
-  tasks_within : IsWithin part.tasks (keeps_task p) (keeps_task (state_anew part p))
+  tasks_within : IsWithin part.tasks (keeps_task p) (keeps_task (state_renumbered part p))
   tasks_within = record {
     on = task_same;
     off = λ n gone.
@@ -318,36 +326,38 @@ module _ (part : Part) (p : State) (both : AreBoth part p) (done : GoneAreDone p
   -- ---- what is left
 
   link_twice : (o : Option ℕ)
-      → option_map (new_number (keeps_task (state_anew part p)))
+      → option_map (new_number (keeps_task (state_renumbered part p)))
       (option_map (new_number part.tasks) o)
       ≡ option_map (new_number (keeps_task p)) o
   link_twice None = refl
   link_twice (Some m) =
-      ap Some (number_twice part.tasks (keeps_task p) (keeps_task (state_anew part p))
+      ap Some (number_twice part.tasks (keeps_task p) (keeps_task (state_renumbered part p))
       tasks_within m)
 
-  pub renewed_same : renewed (state_anew part p) ≡ renewed p
+  pub renewed_same : renewed (state_renumbered part p) ≡ renewed p
   renewed_same =
-      let q : State = state_anew part p in
-      same_rows p (map (scope_told q) (kept (keeps_scope q) q.tree.scopes))
-      (map (scope_told p) (kept (keeps_scope p) p.tree.scopes))
-      (map (group_told q) (kept (keeps_group q) q.work.groups))
-      (map (group_told p) (kept (keeps_group p) p.work.groups))
-      (map (task_told q) (kept (keeps_task q) q.work.tasks))
-      (map (task_told p) (kept (keeps_task p) p.work.tasks))
-      (rows_twice part.scopes (keeps_scope p) (keeps_scope q) (scope_told q) (scope_anew part)
-      (scope_told p) p.tree.scopes scopes_within
+      let q : State = state_renumbered part p in
+      same_rows p (map (scope_renewed q) (kept (keeps_scope q) q.tree.scopes))
+      (map (scope_renewed p) (kept (keeps_scope p) p.tree.scopes))
+      (map (group_renewed q) (kept (keeps_group q) q.work.groups))
+      (map (group_renewed p) (kept (keeps_group p) p.work.groups))
+      (map (task_renewed q) (kept (keeps_task q) q.work.tasks))
+      (map (task_renewed p) (kept (keeps_task p) p.work.tasks))
+      (rows_twice part.scopes (keeps_scope p) (keeps_scope q) (scope_renewed q)
+      (scope_renumbered part)
+      (scope_renewed p) p.tree.scopes scopes_within
       (λ row. ap (λ n. record row { parent = n })
       (number_twice part.scopes (keeps_scope p) (keeps_scope q) scopes_within row.parent)))
-      (rows_twice part.groups (keeps_group p) (keeps_group q) (group_told q) (group_anew part)
-      (group_told p) p.work.groups groups_within
+      (rows_twice part.groups (keeps_group p) (keeps_group q) (group_renewed q)
+      (group_renumbered part)
+      (group_renewed p) p.work.groups groups_within
       (λ row. ap (λ n. record row { scope = n })
       (number_twice part.scopes (keeps_scope p) (keeps_scope q) scopes_within row.scope)))
-      (rows_twice part.tasks (keeps_task p) (keeps_task q) (task_told q) (task_anew part)
-      (task_told p) p.work.tasks tasks_within
+      (rows_twice part.tasks (keeps_task p) (keeps_task q) (task_renewed q) (task_renumbered part)
+      (task_renewed p) p.work.tasks tasks_within
       (λ row. ap (λ g. record row {
         group = g;
-        retry_of = (task_told q (task_anew part row)).retry_of;
+        retry_of = (task_renewed q (task_renumbered part row)).retry_of;
       }) (number_twice part.groups (keeps_group p) (keeps_group q) groups_within row.group)
       ∙ ap (λ o. record row { group = new_number (keeps_group p) row.group; retry_of = o })
       (link_twice row.retry_of)))

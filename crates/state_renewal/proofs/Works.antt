@@ -14,35 +14,53 @@ use Rattle.std.specs.List.{filter, find}
 use Rattle.run_model.specs.declared.groups.Group.{Group}
 use Rattle.run_model.specs.declared.tasks.Stage.{Stage}
 use Rattle.run_model.specs.declared.tasks.Task.{Task}
-use Rattle.state_renewal.specs.Renewed.{new_number, Part, group_anew, task_anew, work_anew}
-use Rattle.state_renewal.specs.Renewed.{keeps_group, keeps_task, group_told, task_told, renewed}
+use Rattle.state_renewal.specs.Renewed.{
+  new_number,
+  Part,
+  group_renumbered,
+  task_renumbered,
+  work_renumbered,
+}
+use Rattle.state_renewal.specs.Renewed.{
+  keeps_group,
+  keeps_task,
+  group_renewed,
+  task_renewed,
+  renewed,
+}
 use Rattle.model_laws.proofs.Admission.{count_found, running_unfinished}
-use Rattle.state_renewal.proofs.Numbers.{are_told, same_number}
+use Rattle.state_renewal.proofs.Numbers.{are_restated, same_number}
 use Rattle.state_renewal.proofs.Hangs.{TasksHang, WorkHangs}
-use Rattle.state_renewal.proofs.PassAnew.{PassesAnew, RowsPass, any_anew, count_all_anew}
-use Rattle.state_renewal.proofs.PassAnew.{count_anew, find_anew, picks_anew}
-use Rattle.state_renewal.proofs.RowsAnew.{length-anew, row_anew, test_anew}
+use Rattle.state_renewal.proofs.PassRenumbered.{
+  PassesRenumbered,
+  RowsPass,
+  any_renumbered,
+  count_all_renumbered,
+}
+use Rattle.state_renewal.proofs.PassRenumbered.{count_renumbered, find_renumbered, picks_renumbered}
+use Rattle.state_renewal.proofs.RowsRenumbered.{length-renumbered, row_renumbered, test_renumbered}
 use Rattle.model_laws.proofs.Tests.{passing, fresh_stage}
 
 -- ---- groups
 
-pub open_anew : (part : Part) (w : WorkState) (g : ℕ) → part.groups g ≡ true
-    → is_open (work_anew part w) (new_number part.groups g) ≡ is_open w g
-open_anew part w g is =
-    test_anew (λ group. not group.waited) part.groups (group_anew part) w.groups g (λ row. refl) is
+pub open_renumbered : (part : Part) (w : WorkState) (g : ℕ) → part.groups g ≡ true
+    → is_open (work_renumbered part w) (new_number part.groups g) ≡ is_open w g
+open_renumbered part w g is =
+    test_renumbered (λ group. not group.waited) part.groups (group_renumbered part) w.groups g
+    (λ row. refl) is
 
 limit_same : (part : Part) (w : WorkState) (g : ℕ) → part.groups g ≡ true
-    → limit_of (work_anew part w) (new_number part.groups g) ≡ limit_of w g
+    → limit_of (work_renumbered part w) (new_number part.groups g) ≡ limit_of w g
 limit_same part w g is =
-    row_anew (option_and_then (λ group. group.limit)) (option_and_then (λ group. group.limit))
-    part.groups (group_anew part) w.groups g refl (λ row at. refl) is
+    row_renumbered (option_and_then (λ group. group.limit)) (option_and_then (λ group. group.limit))
+    part.groups (group_renumbered part) w.groups g refl (λ row at. refl) is
 
 -- ---- unfinished tasks
 
 -- Of a group that goes on, tasks at such stages pass as they did.
 of_group : (part : Part) (w : WorkState) (g : ℕ) (at_stage : Stage → Bool)
     → TasksHang part w.tasks → part.groups g ≡ true
-    → RowsPass part.tasks (task_anew part)
+    → RowsPass part.tasks (task_renumbered part)
     (λ task. task.group == g && at_stage task.stage)
     (λ task. task.group == new_number part.groups g && at_stage task.stage) w.tasks
 of_group part w g at_stage go is = record {
@@ -62,70 +80,74 @@ of_group part w g at_stage go is = record {
 pub unfinished_before : (part : Part) (w : WorkState) (g n : ℕ) → TasksHang part w.tasks
     → part.groups g ≡ true
     → unfinished_in (new_number part.groups g)
-    (take (new_number part.tasks n) (work_anew part w).tasks)
+    (take (new_number part.tasks n) (work_renumbered part w).tasks)
     ≡ unfinished_in g (take n w.tasks)
 unfinished_before part w g n go is =
-    count_anew part.tasks (task_anew part)
+    count_renumbered part.tasks (task_renumbered part)
     (λ task. task.group == g && is_unfinished task.stage)
     (λ task. task.group == new_number part.groups g && is_unfinished task.stage) w.tasks n
     (of_group part w g is_unfinished go is)
 
 pub unfinished_same : (part : Part) (w : WorkState) (g : ℕ) → TasksHang part w.tasks
     → part.groups g ≡ true
-    → unfinished_in (new_number part.groups g) (work_anew part w).tasks
+    → unfinished_in (new_number part.groups g) (work_renumbered part w).tasks
     ≡ unfinished_in g w.tasks
 unfinished_same part w g go is =
-    count_all_anew part.tasks (task_anew part)
+    count_all_renumbered part.tasks (task_renumbered part)
     (λ task. task.group == g && is_unfinished task.stage)
     (λ task. task.group == new_number part.groups g && is_unfinished task.stage) w.tasks
     (of_group part w g is_unfinished go is)
 
 pub task_error_same : (part : Part) (w : WorkState) (g : ℕ) → TasksHang part w.tasks
     → part.groups g ≡ true
-    → has_task_error (work_anew part w) (new_number part.groups g) ≡ has_task_error w g
+    → has_task_error (work_renumbered part w) (new_number part.groups g) ≡ has_task_error w g
 task_error_same part w g go is =
-    any_anew part.tasks (task_anew part)
+    any_renumbered part.tasks (task_renumbered part)
     (λ task. task.group == g && ended_in_error task.stage)
     (λ task. task.group == new_number part.groups g && ended_in_error task.stage) w.tasks
     (of_group part w g ended_in_error go is)
 
-pub idle_anew : (part : Part) (w : WorkState) (g : ℕ) → TasksHang part w.tasks
+pub idle_renumbered : (part : Part) (w : WorkState) (g : ℕ) → TasksHang part w.tasks
     → part.groups g ≡ true
-    → (unfinished_in (new_number part.groups g) (work_anew part w).tasks == 0)
+    → (unfinished_in (new_number part.groups g) (work_renumbered part w).tasks == 0)
     ≡ (unfinished_in g w.tasks == 0)
-idle_anew part w g go is = ap (λ k. k == 0) (unfinished_same part w g go is)
+idle_renumbered part w g go is = ap (λ k. k == 0) (unfinished_same part w g go is)
 
-pub seat_anew : (part : Part) (w : WorkState) (g : ℕ) → TasksHang part w.tasks
+pub group_count_renumbered : (part : Part) (w : WorkState) (g : ℕ) → TasksHang part w.tasks
     → part.groups g ≡ true
-    → admits (limit_of (work_anew part w) (new_number part.groups g))
-    (unfinished_in (new_number part.groups g) (work_anew part w).tasks)
+    → admits (limit_of (work_renumbered part w) (new_number part.groups g))
+    (unfinished_in (new_number part.groups g) (work_renumbered part w).tasks)
     ≡ admits (limit_of w g) (unfinished_in g w.tasks)
-seat_anew part w g go is =
+group_count_renumbered part w g go is =
     ap (λ limit. admits limit
-    (unfinished_in (new_number part.groups g) (work_anew part w).tasks)) (limit_same part w g is)
+    (unfinished_in (new_number part.groups g) (work_renumbered part w).tasks))
+    (limit_same part w g is)
     ∙ ap (admits (limit_of w g)) (unfinished_same part w g go is)
 
-pub admitted_anew : (part : Part) (w : WorkState) (n : ℕ) (row : Task) → TasksHang part w.tasks
+pub admitted_renumbered : (part : Part) (w : WorkState) (n : ℕ) (row : Task)
+    → TasksHang part w.tasks
     → HasRow w.tasks n row → part.tasks n ≡ true
-    → is_admitted (work_anew part w) (new_number part.tasks n) (task_anew part row)
+    → is_admitted (work_renumbered part w) (new_number part.tasks n) (task_renumbered part row)
     ≡ is_admitted w n row
-admitted_anew part w n row go found is =
+admitted_renumbered part w n row go found is =
     let goes : part.groups row.group ≡ true = sym (go n row found) ∙ is in
     ap (λ limit. is_unfinished row.stage && admits limit
     (unfinished_in (new_number part.groups row.group)
-    (take (new_number part.tasks n) (work_anew part w).tasks))) (limit_same part w row.group goes)
+    (take (new_number part.tasks n) (work_renumbered part w).tasks)))
+    (limit_same part w row.group goes)
     ∙ ap (λ k. is_unfinished row.stage && admits (limit_of w row.group) k)
     (unfinished_before part w row.group n go goes)
 
-pub phase_anew : (part : Part) (w : WorkState) (n : ℕ) → TasksHang part w.tasks
-    → part.tasks n ≡ true → phase_of (work_anew part w) (new_number part.tasks n) ≡ phase_of w n
-phase_anew part w n go is =
-    row_anew
+pub phase_renumbered : (part : Part) (w : WorkState) (n : ℕ) → TasksHang part w.tasks
+    → part.tasks n ≡ true
+    → phase_of (work_renumbered part w) (new_number part.tasks n) ≡ phase_of w n
+phase_renumbered part w n go is =
+    row_renumbered
     (option_map (λ row. phase_by
-    (is_admitted (work_anew part w) (new_number part.tasks n) row) row.stage))
-    (option_map (λ row. phase_by (is_admitted w n row) row.stage)) part.tasks (task_anew part)
+    (is_admitted (work_renumbered part w) (new_number part.tasks n) row) row.stage))
+    (option_map (λ row. phase_by (is_admitted w n row) row.stage)) part.tasks (task_renumbered part)
     w.tasks n refl
-    (λ row at. ap (λ b. Some (phase_by b row.stage)) (admitted_anew part w n row go at is)) is
+    (λ row at. ap (λ b. Some (phase_by b row.stage)) (admitted_renumbered part w n row go at is)) is
 
 -- ---- what doesn't go on has ended
 
@@ -161,10 +183,11 @@ unfinished_goes part p n row consistent go found is =
 pub stage_same : (test : Stage → Bool) (part : Part) (w : WorkState) (n : ℕ)
     → part.tasks n ≡ true
     → option_map_or (λ task. test task.stage)
-    (slice_get (work_anew part w).tasks (new_number part.tasks n)) false
+    (slice_get (work_renumbered part w).tasks (new_number part.tasks n)) false
     ≡ option_map_or (λ task. test task.stage) (slice_get w.tasks n) false
 stage_same test part w n is =
-    test_anew (λ task. test task.stage) part.tasks (task_anew part) w.tasks n (λ row. refl) is
+    test_renumbered (λ task. test task.stage) part.tasks (task_renumbered part) w.tasks n
+    (λ row. refl) is
 
 -- A task that runs goes on.
 running_goes : (part : Part) (p : State) (n : ℕ) → IsConsistent p → WorkHangs part p.work
@@ -174,8 +197,8 @@ running_goes part p n consistent go is =
     unfinished_goes part p n row.0 consistent go row.1 (running_unfinished row.0.stage row.2)
 
 running_pass : (part : Part) (p : State) → IsConsistent p → WorkHangs part p.work
-    → PassesAnew part.tasks (has_stage is_running p.work)
-    (has_stage is_running (work_anew part p.work))
+    → PassesRenumbered part.tasks (has_stage is_running p.work)
+    (has_stage is_running (work_renumbered part p.work))
     (length p.work.tasks)
 running_pass part p consistent go = record {
   on = λ n less goes. stage_same is_running part p.work n goes;
@@ -185,14 +208,14 @@ running_pass part p consistent go = record {
       (λ is. both_ways (part.tasks n) goes (running_goes part p n consistent go is));
 }
 
-pub running_anew : (part : Part) (p : State) → IsConsistent p → WorkHangs part p.work
-    → running_tasks (work_anew part p.work)
+pub running_renumbered : (part : Part) (p : State) → IsConsistent p → WorkHangs part p.work
+    → running_tasks (work_renumbered part p.work)
     ≡ map (new_number part.tasks) (running_tasks p.work)
-running_anew part p consistent go =
-    ap (λ many. filter (has_stage is_running (work_anew part p.work)) (range_with_len 0 many))
-    (length-anew part.tasks (task_anew part) p.work.tasks)
-    ∙ picks_anew part.tasks (has_stage is_running p.work)
-    (has_stage is_running (work_anew part p.work))
+running_renumbered part p consistent go =
+    ap (λ many. filter (has_stage is_running (work_renumbered part p.work)) (range_with_len 0 many))
+    (length-renumbered part.tasks (task_renumbered part) p.work.tasks)
+    ∙ picks_renumbered part.tasks (has_stage is_running p.work)
+    (has_stage is_running (work_renumbered part p.work))
     (length p.work.tasks) (running_pass part p consistent go)
 
 all_filtered : (P : ℕ → Type 0) (test : ℕ → Bool) (ns : List ℕ)
@@ -216,14 +239,15 @@ all_running_go part p consistent go =
 
 ready_same : (part : Part) (p : State) (n : ℕ) → TasksHang part p.work.tasks
     → part.tasks n ≡ true
-    → is_ready (work_anew part p.work) (new_number part.tasks n) ≡ is_ready p.work n
+    → is_ready (work_renumbered part p.work) (new_number part.tasks n) ≡ is_ready p.work n
 ready_same part p n go is =
-    row_anew
+    row_renumbered
     (λ o. option_map_or (λ task. is_fresh task.stage
-    && is_admitted (work_anew part p.work) (new_number part.tasks n) task) o false)
+    && is_admitted (work_renumbered part p.work) (new_number part.tasks n) task) o false)
     (λ o. option_map_or (λ task. is_fresh task.stage && is_admitted p.work n task) o false)
-    part.tasks (task_anew part) p.work.tasks n refl
-    (λ row at. ap (λ b. is_fresh row.stage && b) (admitted_anew part p.work n row go at is)) is
+    part.tasks (task_renumbered part) p.work.tasks n refl
+    (λ row at. ap (λ b. is_fresh row.stage && b) (admitted_renumbered part p.work n row go at is))
+    is
 
 pub ready_goes : (part : Part) (p : State) (n : ℕ) → IsConsistent p → WorkHangs part p.work
     → is_ready p.work n ≡ true → part.tasks n ≡ true
@@ -234,13 +258,13 @@ ready_goes part p n consistent go is =
     let fresh = and_parts (is_fresh row.0.stage) (is_admitted p.work n row.0) row.2 in
     unfinished_goes part p n row.0 consistent go row.1 (fresh_stage row.0.stage fresh.0).0
 
-pub first_anew : (part : Part) (p : State) → IsConsistent p → WorkHangs part p.work
-    → first_ready (work_anew part p.work)
+pub first_renumbered : (part : Part) (p : State) → IsConsistent p → WorkHangs part p.work
+    → first_ready (work_renumbered part p.work)
     ≡ option_map (new_number part.tasks) (first_ready p.work)
-first_anew part p consistent go =
-    ap (λ many. find (is_ready (work_anew part p.work)) (range_with_len 0 many))
-    (length-anew part.tasks (task_anew part) p.work.tasks)
-    ∙ find_anew part.tasks (is_ready p.work) (is_ready (work_anew part p.work))
+first_renumbered part p consistent go =
+    ap (λ many. find (is_ready (work_renumbered part p.work)) (range_with_len 0 many))
+    (length-renumbered part.tasks (task_renumbered part) p.work.tasks)
+    ∙ find_renumbered part.tasks (is_ready p.work) (is_ready (work_renumbered part p.work))
     (length p.work.tasks)
     (record {
       on = λ n less goes. ready_same part p n go.tasks goes;
@@ -260,11 +284,12 @@ link_goes part p k m row consistent go found link =
     let was = consistent.links.linked k m row found link in
     go m was.0 was.1 ∙ ap part.groups (sym was.2.group) ∙ sym (go k row found)
 
-pub retried_anew : (part : Part) (p : State) (n : ℕ) → IsConsistent p
+pub retried_renumbered : (part : Part) (p : State) (n : ℕ) → IsConsistent p
     → TasksHang part p.work.tasks → part.tasks n ≡ true
-    → is_retried (work_anew part p.work) (new_number part.tasks n) ≡ is_retried p.work n
-retried_anew part p n consistent go is =
-    any_anew part.tasks (task_anew part) (is_retry_of n) (is_retry_of (new_number part.tasks n))
+    → is_retried (work_renumbered part p.work) (new_number part.tasks n) ≡ is_retried p.work n
+retried_renumbered part p n consistent go is =
+    any_renumbered part.tasks (task_renumbered part) (is_retry_of n)
+    (is_retry_of (new_number part.tasks n))
     p.work.tasks
     (record {
       on = λ k x found goes. on k x found goes x.retry_of refl;
@@ -300,26 +325,27 @@ none_open w =
 
 pub retry_open : (part : Part) (w : WorkState) (n : ℕ) → TasksHang part w.tasks
     → part.tasks n ≡ true
-    → is_open (work_anew part w) (group_of_task (work_anew part w) (new_number part.tasks n))
+    → is_open (work_renumbered part w)
+    (group_of_task (work_renumbered part w) (new_number part.tasks n))
     ≡ is_open w (group_of_task w n)
 retry_open part w n go is =
-    row_anew
-    (λ o. is_open (work_anew part w)
-    (option_map_or (λ task. task.group) o (length (work_anew part w).groups)))
+    row_renumbered
+    (λ o. is_open (work_renumbered part w)
+    (option_map_or (λ task. task.group) o (length (work_renumbered part w).groups)))
     (λ o. is_open w (option_map_or (λ task. task.group) o (length w.groups))) part.tasks
-    (task_anew part) w.tasks n (none_open (work_anew part w) ∙ sym (none_open w))
-    (λ row at. open_anew part w row.group (sym (go n row at) ∙ is)) is
+    (task_renumbered part) w.tasks n (none_open (work_renumbered part w) ∙ sym (none_open w))
+    (λ row at. open_renumbered part w row.group (sym (go n row at) ∙ is)) is
 
 -- ---- rows that are kept
 
 pub group_stays : (p : State) (g : ℕ) (row : Group) → HasRow p.work.groups g row
     → keeps_group p g ≡ true
-    → HasRow (renewed p).work.groups (new_number (keeps_group p) g) (group_told p row)
+    → HasRow (renewed p).work.groups (new_number (keeps_group p) g) (group_renewed p row)
 group_stays p g row found is =
-    (are_told (keeps_group p) (group_told p) p.work.groups).forth g row found is
+    (are_restated (keeps_group p) (group_renewed p) p.work.groups).forth g row found is
 
 pub task_stays : (p : State) (n : ℕ) (row : Task) → HasRow p.work.tasks n row
     → keeps_task p n ≡ true
-    → HasRow (renewed p).work.tasks (new_number (keeps_task p) n) (task_told p row)
+    → HasRow (renewed p).work.tasks (new_number (keeps_task p) n) (task_renewed p row)
 task_stays p n row found is =
-    (are_told (keeps_task p) (task_told p) p.work.tasks).forth n row found is
+    (are_restated (keeps_task p) (task_renewed p) p.work.tasks).forth n row found is

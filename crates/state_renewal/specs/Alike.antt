@@ -10,13 +10,13 @@ use Rattle.run_model.specs.Tasks.{first_ready}
 use Rattle.state_renewal.specs.Renewed.{new_number, Part}
 
 -- The answer to a question about a group, with the new number of its scope.
-abbrev pub group_look_anew : Part → GroupLook → GroupLook
-group_look_anew part look = record look { scope = new_number part.scopes look.scope }
+abbrev pub group_look_renumbered : Part → GroupLook → GroupLook
+group_look_renumbered part look = record look { scope = new_number part.scopes look.scope }
 
 -- The answer to a question about a task, with the new numbers of its group and of the task that it
 -- retries.
-abbrev pub task_look_anew : Part → TaskLook → TaskLook
-task_look_anew part look = record look {
+abbrev pub task_look_renumbered : Part → TaskLook → TaskLook
+task_look_renumbered part look = record look {
   group = new_number part.groups look.group;
   retry_of = option_map (new_number part.tasks) look.retry_of;
 }
@@ -32,8 +32,8 @@ pub record GoOnAlike (part : Part) (p q : State) : Type 0 where
       → value_of q.tree.scopes (new_number part.scopes s) key ≡ value_of p.tree.scopes s key
   pub groups : (g : ℕ) → part.groups g ≡ true
       → group_look_of q (new_number part.groups g)
-      ≡ option_map (group_look_anew part) (group_look_of p g)
+      ≡ option_map (group_look_renumbered part) (group_look_of p g)
   pub tasks : (n : ℕ) → part.tasks n ≡ true
       → task_look_of q (new_number part.tasks n)
-      ≡ option_map (task_look_anew part) (task_look_of p n)
+      ≡ option_map (task_look_renumbered part) (task_look_of p n)
   pub next : first_ready q.work ≡ option_map (new_number part.tasks) (first_ready p.work)

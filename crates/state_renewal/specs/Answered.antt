@@ -32,26 +32,26 @@ calls_part part p (command.Retry n) = part.tasks n
 calls_part part p (command.Wait group) = has_group_on part p group
 
 -- The same command, by the new numbers. Only a task is referred to by its number.
-abbrev pub command_anew : Part → Command → Command
-command_anew part (command.Retry n) = command.Retry (new_number part.tasks n)
-command_anew part call = call
+abbrev pub command_renumbered : Part → Command → Command
+command_renumbered part (command.Retry n) = command.Retry (new_number part.tasks n)
+command_renumbered part call = call
 
 -- The same answer, by the new numbers.
-abbrev pub answer_anew : Part → Answer → Answer
-answer_anew part (answer.Scope s) = answer.Scope (new_number part.scopes s)
-answer_anew part (answer.Group g own) =
+abbrev pub answer_renumbered : Part → Answer → Answer
+answer_renumbered part (answer.Scope s) = answer.Scope (new_number part.scopes s)
+answer_renumbered part (answer.Group g own) =
     answer.Group (new_number part.groups g) (option_map (new_number part.scopes) own)
-answer_anew part answer.Done = answer.Done
-answer_anew part (answer.Task n phase) = answer.Task (new_number part.tasks n) phase
-answer_anew part (answer.Waited error) = answer.Waited error
+answer_renumbered part answer.Done = answer.Done
+answer_renumbered part (answer.Task n phase) = answer.Task (new_number part.tasks n) phase
+answer_renumbered part (answer.Waited error) = answer.Waited error
 
 -- The same start, by the new number of the task.
-abbrev pub started_anew : Part → Started → Started
-started_anew part started = record started {
+abbrev pub started_renumbered : Part → Started → Started
+started_renumbered part started = record started {
   info = record started.info { task = new_number part.tasks started.info.task };
 }
 
 -- The same reply: an answer by the new numbers, or the same refusal.
-abbrev pub reply_anew : {X : Type 0} → (X → X) → Result X Refusal → Result X Refusal
-reply_anew tell (Ok x) = Ok (tell x)
-reply_anew tell (Err refusal) = Err refusal
+abbrev pub reply_renumbered : {X : Type 0} → (X → X) → Result X Refusal → Result X Refusal
+reply_renumbered renumber (Ok x) = Ok (renumber x)
+reply_renumbered renumber (Err refusal) = Err refusal

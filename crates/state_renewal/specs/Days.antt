@@ -21,8 +21,8 @@ day =
     ∷ event.Retry 4 ∷ event.Advance 9 ∷ event.Go 1 (codes "copy") (codes "d") ∷ []
 
 -- The same events by the new numbers: group 0 was dropped, with its scope 1 and its tasks 0 and 2.
-abbrev pub day_anew : List Event
-day_anew =
+abbrev pub day_renumbered : List Event
+day_renumbered =
     event.Start 2 ∷ event.Derive (codes "t") 1 (kind.Deadline 9 None) ∷ event.Restart
     ∷ event.Retry 2 ∷ event.Advance 9 ∷ event.Go 0 (codes "copy") (codes "d") ∷ []
 

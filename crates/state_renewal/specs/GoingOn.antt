@@ -6,7 +6,7 @@ use Rattle.run_model.specs.Event.{Event}
 use Rattle.run_model.specs.Rules.{IsConsistent}
 use Rattle.run_model.specs.State.{State}
 use Rattle.state_renewal.specs.Renewed.{Part, keeps_group, keeps_scope, keeps_task}
-use Rattle.state_renewal.specs.Told.{names_part}
+use Rattle.state_renewal.specs.PartEvents.{names_part}
 
 -- ---- the part that goes on
 

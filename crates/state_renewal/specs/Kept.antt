@@ -8,7 +8,7 @@ use Rattle.run_model.specs.Scopes.{is_done, reason_of, cause_of, deadline_of, va
 use Rattle.run_model.specs.State.{State, scope_named, group_named}
 use Rattle.run_model.specs.Tasks.{is_unfinished, phase_of, unfinished_in}
 use Rattle.state_renewal.specs.Renewed.{new_number, keeps_scope, keeps_group, keeps_task}
-use Rattle.state_renewal.specs.Renewed.{scope_told, group_told, task_told, renewed}
+use Rattle.state_renewal.specs.Renewed.{scope_renewed, group_renewed, task_renewed, renewed}
 
 -- A question about scope m of the new rows has the same answer as one about scope s of the old
 -- rows.
@@ -21,18 +21,18 @@ pub record AnswersAlike (old : List Scope) (s : ℕ) (new : List Scope) (m : ℕ
 
 -- A kept scope has its row under its new number, and the same answers as before.
 pub record ScopeStays (p : State) (s : ℕ) (row : Scope) : Type 0 where
-  pub found : HasRow (renewed p).tree.scopes (new_number (keeps_scope p) s) (scope_told p row)
+  pub found : HasRow (renewed p).tree.scopes (new_number (keeps_scope p) s) (scope_renewed p row)
   pub answers : AnswersAlike p.tree.scopes s (renewed p).tree.scopes (new_number (keeps_scope p) s)
 
 -- A kept group has its row under its new number, and as many unfinished tasks as before.
 pub record GroupStays (p : State) (g : ℕ) (row : Group) : Type 0 where
-  pub found : HasRow (renewed p).work.groups (new_number (keeps_group p) g) (group_told p row)
+  pub found : HasRow (renewed p).work.groups (new_number (keeps_group p) g) (group_renewed p row)
   pub unfinished : unfinished_in (new_number (keeps_group p) g) (renewed p).work.tasks
       ≡ unfinished_in g p.work.tasks
 
 -- A kept task has its row under its new number, and the same phase as before.
 pub record TaskStays (p : State) (n : ℕ) (row : Task) : Type 0 where
-  pub found : HasRow (renewed p).work.tasks (new_number (keeps_task p) n) (task_told p row)
+  pub found : HasRow (renewed p).work.tasks (new_number (keeps_task p) n) (task_renewed p row)
   pub phase : phase_of (renewed p).work (new_number (keeps_task p) n) ≡ phase_of p.work n
 
 -- Whatever isn't finished is kept: each scope that isn't done, each group that wasn't waited for,

@@ -6,4 +6,4 @@ pub mod GoingOn
 pub mod Kept
 pub mod Marks
 pub mod Renewed
-pub mod Told
+pub mod PartEvents

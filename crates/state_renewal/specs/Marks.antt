@@ -79,4 +79,4 @@ task_by groups tasks row = record row {
 
 -- The flagged rows, each with its new numbers.
 abbrev pub rows_left : {X : Type 0} → List Bool → (X → X) → List X → List X
-rows_left flags tell rows = map tell (kept (is_flagged flags) rows)
+rows_left flags renumber rows = map renumber (kept (is_flagged flags) rows)

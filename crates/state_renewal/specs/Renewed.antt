@@ -56,14 +56,14 @@ new_number keeps zero = zero
 new_number keeps (suc n) = one_more_if (keeps n) (new_number keeps n)
 
 -- The row and the others after it, or only the others if the row isn't kept.
-abbrev pub in_front_if : {X : Type 0} → Bool → X → List X → List X
-in_front_if true row rows = row ∷ rows
-in_front_if false row rows = rows
+abbrev pub cons_if : {X : Type 0} → Bool → X → List X → List X
+cons_if true row rows = row ∷ rows
+cons_if false row rows = rows
 
 -- The kept rows, in order.
 abbrev pub kept : {X : Type 0} → (ℕ → Bool) → List X → List X
 kept keeps [] = []
-kept keeps (row ∷ rows) = in_front_if (keeps zero) row (kept (λ n. keeps (suc n)) rows)
+kept keeps (row ∷ rows) = cons_if (keeps zero) row (kept (λ n. keeps (suc n)) rows)
 
 -- ---- a state by the new numbers
 
@@ -74,42 +74,43 @@ pub record Part : Type 0 where
   pub tasks : ℕ → Bool
 
 -- A scope with the new number of its parent. The rest of its row stays as it was.
-abbrev pub scope_anew : Part → Scope → Scope
-scope_anew part row = record row { parent = new_number part.scopes row.parent }
+abbrev pub scope_renumbered : Part → Scope → Scope
+scope_renumbered part row = record row { parent = new_number part.scopes row.parent }
 
 -- A group with the new number of its scope. The rest of its row stays as it was.
-abbrev pub group_anew : Part → Group → Group
-group_anew part row = record row { scope = new_number part.scopes row.scope }
+abbrev pub group_renumbered : Part → Group → Group
+group_renumbered part row = record row { scope = new_number part.scopes row.scope }
 
 -- A task with the new numbers of its group and of the task that it retries. The rest of its row
 -- stays as it was.
-abbrev pub task_anew : Part → Task → Task
-task_anew part row = record row {
+abbrev pub task_renumbered : Part → Task → Task
+task_renumbered part row = record row {
   group = new_number part.groups row.group;
   retry_of = option_map (new_number part.tasks) row.retry_of;
 }
 
 -- The rows of the part, in order, each with its new numbers.
-abbrev pub rows_anew : {X : Type 0} → (ℕ → Bool) → (X → X) → List X → List X
-rows_anew keeps tell rows = map tell (kept keeps rows)
+abbrev pub rows_renumbered : {X : Type 0} → (ℕ → Bool) → (X → X) → List X → List X
+rows_renumbered keeps renumber rows = map renumber (kept keeps rows)
 
 -- The tree with the scopes of the part.
-abbrev pub tree_anew : Part → TreeState → TreeState
-tree_anew part t = record t { scopes = rows_anew part.scopes (scope_anew part) t.scopes }
+abbrev pub tree_renumbered : Part → TreeState → TreeState
+tree_renumbered part t = record t
+    { scopes = rows_renumbered part.scopes (scope_renumbered part) t.scopes }
 
 -- The work with the groups and the tasks of the part.
-abbrev pub work_anew : Part → WorkState → WorkState
-work_anew part w = record w {
-  groups = rows_anew part.groups (group_anew part) w.groups;
-  tasks = rows_anew part.tasks (task_anew part) w.tasks;
+abbrev pub work_renumbered : Part → WorkState → WorkState
+work_renumbered part w = record w {
+  groups = rows_renumbered part.groups (group_renumbered part) w.groups;
+  tasks = rows_renumbered part.tasks (task_renumbered part) w.tasks;
 }
 
 -- The state with the rows of the part. Its count, clock and layout stay the same.
-abbrev pub state_anew : Part → State → State
-state_anew part p = record {
+abbrev pub state_renumbered : Part → State → State
+state_renumbered part p = record {
   count = p.count;
-  tree = tree_anew part p.tree;
-  work = work_anew part p.work;
+  tree = tree_renumbered part p.tree;
+  work = work_renumbered part p.work;
 }
 
 -- ---- a renewed state
@@ -123,20 +124,20 @@ kept_part p = record {
 }
 
 -- A kept scope, by the new numbers.
-abbrev pub scope_told : State → Scope → Scope
-scope_told p = scope_anew (kept_part p)
+abbrev pub scope_renewed : State → Scope → Scope
+scope_renewed p = scope_renumbered (kept_part p)
 
 -- A kept group, by the new numbers.
-abbrev pub group_told : State → Group → Group
-group_told p = group_anew (kept_part p)
+abbrev pub group_renewed : State → Group → Group
+group_renewed p = group_renumbered (kept_part p)
 
 -- A kept task, by the new numbers.
-abbrev pub task_told : State → Task → Task
-task_told p = task_anew (kept_part p)
+abbrev pub task_renewed : State → Task → Task
+task_renewed p = task_renumbered (kept_part p)
 
 -- A renewed state has the kept rows, by their new numbers.
 abbrev pub renewed : State → State
-renewed p = state_anew (kept_part p) p
+renewed p = state_renumbered (kept_part p) p
 
 -- The renewed state in this layout.
 abbrev pub renewed_in : Layout → State → State

@@ -12,19 +12,20 @@ ghost use Rattle.run_model.specs.Event.{Derive};
 ghost use Rattle.run_model.specs.Replies.{reply};
 ghost use Rattle.run_model.specs.State.{formatted};
 ghost use Rattle.state_renewal.specs.Examples.{detached_part, retried};
-ghost use Rattle.state_renewal.specs.Renewed.{renewed, state_anew};
-ghost use Rattle.state_renewal.specs.Days.{day, day_anew, day_left, first_night, second_day};
+ghost use Rattle.state_renewal.specs.Renewed.{renewed, state_renumbered};
+ghost use Rattle.state_renewal.specs.Days.{day, day_renumbered, day_left, first_night, second_day};
 ghost use Rattle.state_renewal.specs.GoingOn.{GoesOn, all_name_part, going_on};
-ghost use Rattle.state_renewal.specs.Told.{event_anew, names_part};
+ghost use Rattle.state_renewal.specs.PartEvents.{event_renumbered, names_part};
 
 /// The events of a day refer to rows that go on, by the new numbers. After them, the renewed store
 /// holds exactly the part of the old store's state that goes on. Rows that are made on that day get
 /// the next numbers.
 pub fn a_day_after_a_renewal()
     ensures names { all_name_part (going_on retried) day ≡ true }
-    ensures events { map (event_anew (going_on retried)) day ≡ day_anew }
-    ensures renewed { run (renewed retried) day_anew ≡ Some day_left }
-    ensures old { option_map (state_anew (going_on retried)) (run retried day) ≡ Some day_left }
+    ensures events { map (event_renumbered (going_on retried)) day ≡ day_renumbered }
+    ensures renewed { run (renewed retried) day_renumbered ≡ Some day_left }
+    ensures old { option_map (state_renumbered (going_on retried)) (run retried day)
+        ≡ Some day_left }
 {}
 
 /// At the end of that day a third task of the group is held in both stores. It gets the next

@@ -16,28 +16,29 @@ ghost use Rattle.run_model.specs.Rules.{IsConsistent, HasRow};
 ghost use Rattle.run_model.specs.Scopes.{is_done};
 ghost use Rattle.run_model.specs.State.{State};
 ghost use Rattle.run_model.specs.Tasks.{is_unfinished};
-ghost use Rattle.state_renewal.specs.Renewed.{new_number, renewed, state_anew};
-ghost use Rattle.state_renewal.specs.Told.{has_place, event_anew, names_part};
+ghost use Rattle.state_renewal.specs.Renewed.{new_number, renewed, state_renumbered};
+ghost use Rattle.state_renewal.specs.PartEvents.{has_place, event_renumbered, names_part};
 ghost use Rattle.state_renewal.specs.Alike.{GoOnAlike};
-ghost use Rattle.state_renewal.specs.Answered.{answer_anew, calls_part, command_anew, reply_anew};
-ghost use Rattle.state_renewal.specs.Answered.{started_anew};
+ghost use Rattle.state_renewal.specs.Answered.{answer_renumbered, calls_part, command_renumbered};
+ghost use Rattle.state_renewal.specs.Answered.{reply_renumbered};
+ghost use Rattle.state_renewal.specs.Answered.{started_renumbered};
 ghost use Rattle.state_renewal.specs.GoingOn.{GoesOn, going_on};
 
 /// The renewed state is the part of the old one that goes on. This stays true: if events lead the
 /// old state further, the renewed one allows the same events, and after them it is again the part
 /// of the old state that goes on.
 pub fn both_are_led_alike()
-    ensures begins { (p : State) → IsConsistent p → state_anew (going_on p) p ≡ renewed p }
+    ensures begins { (p : State) → IsConsistent p → state_renumbered (going_on p) p ≡ renewed p }
     ensures run { (p q : State) (events : List Event) → GoesOn p events q
-        → run (renewed p) (map (event_anew (going_on p)) events)
-        ≡ Some (state_anew (going_on p) q) }
+        → run (renewed p) (map (event_renumbered (going_on p)) events)
+        ≡ Some (state_renumbered (going_on p) q) }
 {}
 
 /// Each question about what goes on is answered in the same way: about scopes, values, groups and
 /// tasks, and about the task that is started next.
 pub fn both_answer_questions_alike()
     ensures { (p q : State) (events : List Event) → GoesOn p events q
-        → GoOnAlike (going_on p) q (state_anew (going_on p) q) }
+        → GoOnAlike (going_on p) q (state_renumbered (going_on p) q) }
 {}
 
 /// Take a command that refers only to what goes on, gives names that are free in the old store, and
@@ -47,14 +48,14 @@ pub fn both_answer_calls_alike()
     ensures commands { (p q : State) (events : List Event) (log : ℕ) (call : Command)
         → GoesOn p events q → calls_part (going_on p) q call ≡ true
         → has_place q (event_of q call) ≡ true
-        → reply (state_anew (going_on p) q) log (command_anew (going_on p) call)
-        ≡ reply_anew (answer_anew (going_on p)) (reply q log call) }
+        → reply (state_renumbered (going_on p) q) log (command_renumbered (going_on p) call)
+        ≡ reply_renumbered (answer_renumbered (going_on p)) (reply q log call) }
     ensures starts { (p q : State) (events : List Event) (log : ℕ) → GoesOn p events q
-        → reply_start (state_anew (going_on p) q) log
-        ≡ reply_anew (started_anew (going_on p)) (reply_start q log) }
+        → reply_start (state_renumbered (going_on p) q) log
+        ≡ reply_renumbered (started_renumbered (going_on p)) (reply_start q log) }
     ensures finishes { (p q : State) (events : List Event) (n : ℕ) (outcome : Outcome)
         → GoesOn p events q → (going_on p).tasks n ≡ true
-        → reply_finish (state_anew (going_on p) q) (new_number (going_on p).tasks n) outcome
+        → reply_finish (state_renumbered (going_on p) q) (new_number (going_on p).tasks n) outcome
         ≡ reply_finish q n outcome }
 {}
 
@@ -64,7 +65,8 @@ pub fn both_answer_calls_alike()
 pub fn only_names_and_room_are_free_again()
     ensures { (p q : State) (events : List Event) (e : Event) → GoesOn p events q
         → names_part (going_on p) e ≡ true → allowed q e
-        ≡ (allowed (state_anew (going_on p) q) (event_anew (going_on p) e) && has_place q e) }
+        ≡ (allowed (state_renumbered (going_on p) q) (event_renumbered (going_on p) e)
+        && has_place q e) }
 {}
 
 /// Whatever doesn't go on is finished, and stays finished: a scope is done, a group was waited for,
@@ -84,5 +86,5 @@ pub fn what_does_not_go_on_is_finished()
 /// whether or not the store was renewed before.
 pub fn earlier_renewals_leave_no_trace()
     ensures { (p q : State) (events : List Event) → GoesOn p events q
-        → renewed (state_anew (going_on p) q) ≡ renewed q }
+        → renewed (state_renumbered (going_on p) q) ≡ renewed q }
 {}

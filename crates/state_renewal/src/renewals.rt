@@ -15,7 +15,7 @@ ghost use Rattle.state_renewal.specs.Kept.{AreNamesKept, IsRoomKept};
 ghost use Rattle.state_renewal.specs.Kept.{ScopeStays, GroupStays, TaskStays, KeepsUnfinished};
 ghost use Rattle.state_renewal.specs.Renewed.{keeps_scope, keeps_group, keeps_task, new_number};
 ghost use Rattle.state_renewal.specs.Renewed.{kept_part, renewed};
-ghost use Rattle.state_renewal.specs.Told.{event_anew, has_place, names_part};
+ghost use Rattle.state_renewal.specs.PartEvents.{event_renumbered, has_place, names_part};
 
 /// If a state is consistent, so is the renewed state. So it has an image, which is read back.
 pub fn a_renewed_state_meets_the_rules()
@@ -45,10 +45,10 @@ pub fn what_is_kept_is_as_it_was()
 pub fn what_is_allowed_stays()
     ensures allowed { (p : State) (event : Event) → IsConsistent p
         → names_part (kept_part p) event ≡ true → allowed p event ≡ true
-        → allowed (renewed p) (event_anew (kept_part p) event) ≡ true }
+        → allowed (renewed p) (event_renumbered (kept_part p) event) ≡ true }
     ensures before { (p : State) (event : Event) → IsConsistent p
         → names_part (kept_part p) event ≡ true → has_place p event ≡ true
-        → allowed (renewed p) (event_anew (kept_part p) event) ≡ true
+        → allowed (renewed p) (event_renumbered (kept_part p) event) ≡ true
         → allowed p event ≡ true }
 {}
 

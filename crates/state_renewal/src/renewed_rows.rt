@@ -58,7 +58,7 @@ pub fn put_scopes<A: Allocator>(
     let mut end = at;
     for n in 0..rows.len() {
         if flags[n] {
-            end = put_scope(out, end, &scope_anew(&rows[n], scopes));
+            end = put_scope(out, end, &scope_renumbered(&rows[n], scopes));
         }
     }
     end
@@ -90,7 +90,7 @@ pub fn put_groups<A: Allocator, B: Allocator>(
     let mut end = at;
     for g in 0..groups.group_count() {
         if flags[g] {
-            end = put_group(out, end, &group_anew(group_at(groups, g), scopes));
+            end = put_group(out, end, &group_renumbered(group_at(groups, g), scopes));
         }
     }
     end
@@ -126,7 +126,7 @@ pub fn put_tasks<A: Allocator, B: Allocator>(
     let flags = tasks.flags();
     for n in 0..groups.task_count() {
         if flags[n] {
-            end = put_task(out, end, &task_anew(task_at(groups, n), stay, tasks));
+            end = put_task(out, end, &task_renumbered(task_at(groups, n), stay, tasks));
         }
     }
     end
@@ -158,7 +158,7 @@ pub fn task_at<A: Allocator>(groups: &Groups<A>, n: usize) -> &Task
 }
 
 /// Returns the row of a scope with the new number of its parent.
-fn scope_anew<'a, A: Allocator>(row: &'a Scope, scopes: &Marks<A>) -> ScopeRow<'a>
+fn scope_renumbered<'a, A: Allocator>(row: &'a Scope, scopes: &Marks<A>) -> ScopeRow<'a>
     requires below_root { is_root row.now.kind ≡ false }
     requires known { row.now.parent < length scopes.now }
     ensures value { scope_of result ≡ scope_by scopes.now row.now }
@@ -174,7 +174,7 @@ fn scope_anew<'a, A: Allocator>(row: &'a Scope, scopes: &Marks<A>) -> ScopeRow<'
 }
 
 /// Returns the row of a group with the new number of its scope.
-fn group_anew<'a, A: Allocator>(row: &'a Group, scopes: &Marks<A>) -> GroupRow<'a>
+fn group_renumbered<'a, A: Allocator>(row: &'a Group, scopes: &Marks<A>) -> GroupRow<'a>
     requires known { row.now.scope < length scopes.now }
     ensures value { group_of result ≡ group_by scopes.now row.now }
     ensures kept { IsTrue (is_kept_group (group_by scopes.now row.now)) }
@@ -191,7 +191,11 @@ fn group_anew<'a, A: Allocator>(row: &'a Group, scopes: &Marks<A>) -> GroupRow<'
 }
 
 /// Returns the row of a task with the new numbers of its group and of the task that it retries.
-fn task_anew<'a, A: Allocator>(row: &'a Task, stay: &Marks<A>, tasks: &Marks<A>) -> TaskRow<'a>
+fn task_renumbered<'a, A: Allocator>(
+    row: &'a Task,
+    stay: &Marks<A>,
+    tasks: &Marks<A>,
+) -> TaskRow<'a>
     requires known { row.now.group < length stay.now }
     requires link { IfSome row.now.retry_of (λ m. m < length tasks.now) }
     requires few { length tasks.now < 65535 }
@@ -204,12 +208,12 @@ fn task_anew<'a, A: Allocator>(row: &'a Task, stay: &Marks<A>, tasks: &Marks<A>)
         job: view.job,
         argument: view.argument,
         stage: view.stage,
-        retry_of: link_anew(row.retry_of, tasks),
+        retry_of: link_renumbered(row.retry_of, tasks),
     }
 }
 
 /// Returns the new number of the retried task, if there is one.
-fn link_anew<A: Allocator>(link: Option<u16>, tasks: &Marks<A>) -> Option<u16>
+fn link_renumbered<A: Allocator>(link: Option<u16>, tasks: &Marks<A>) -> Option<u16>
     requires link { IfSome link (λ m. m < length tasks.now) }
     requires few { length tasks.now < 65535 }
     ensures value { result ≡ option_map (new_number (is_flagged tasks.now)) link }

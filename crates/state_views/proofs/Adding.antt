@@ -39,14 +39,14 @@ pub adds_tried : {E : Type 0} (r : Result ⊤ E) (text : List ℕ) (s0 s1 : Shee
     (w0 w1 : Option (List ℕ)) → s0.failed ≡ false → s1.failed ≡ is_err r
     → OnOk r (Buffered text s0.buffer.items s1.buffer.items w0 w1)
     → OnErr r (WritesPart w0 w1 (s0.buffer.items ++ text)) → Adds text s0 s1 w0 w1
-adds_tried (Ok x) text s0 s1 w0 w1 sound is told cut = record {
+adds_tried (Ok x) text s0 s1 w0 w1 sound is reported cut = record {
   after = λ before v h. record {
     sound = λ _. buffered_then before text [] s0.buffer.items s1.buffer.items v w0 w1
-        (h.sound sound) told;
+        (h.sound sound) reported;
     cut = λ failed. absurd (cc);
   };
 }
-adds_tried (Err x) text s0 s1 w0 w1 sound is told cut = record {
+adds_tried (Err x) text s0 s1 w0 w1 sound is reported cut = record {
   after = λ before v h. record {
     sound = λ none. absurd (cc);
     cut = λ _. buffered_part before text s0.buffer.items v w0 w1 (h.sound sound) cut;
@@ -57,9 +57,9 @@ adds_tried (Err x) text s0 s1 w0 w1 sound is told cut = record {
 pub adds_none : (text : List ℕ) (s0 s1 : Sheet) (w : Option (List ℕ))
     → s0.failed ≡ true → s1.failed ≡ true → Adds text s0 s1 w w
 adds_none text s0 s1 w before after = record {
-  after = λ told v h. record {
+  after = λ reported v h. record {
     sound = λ ok. absurd (cc);
-    cut = λ _. part_more told text v w (h.cut before);
+    cut = λ _. part_more reported text v w (h.cut before);
   };
 }
 

@@ -124,8 +124,8 @@ pub one_fits : (ns : List ℕ) (i most : ℕ) (start items : List ℕ)
 one_fits ns i most start items e less few =
     let long = ap length e in
     let sum = length-append start (take i ns) in
-    let front = length-take-le i ns (omega (arith, less)) in
-    omega (arith, long, sum, front, less, few)
+    let prefix = length-take-le i ns (omega (arith, less)) in
+    omega (arith, long, sum, prefix, less, few)
 
 -- Each place below the length has a number.
 pub has_one : (ns : List ℕ) (i : ℕ) → i < length ns → slice_get ns i ≡ None → ⊥

@@ -29,11 +29,11 @@ rises_append [] ys base k n p q e some =
     let less = q k n e (omega (arith, some)) in omega (arith, less)
 rises_append (x ∷ xs) ys base zero n p q e some = p zero n e some
 rises_append (x ∷ xs) ys base (suc k) n p q e some =
-    let front : Rises (suc base) xs = λ (j m : ℕ) f more.
+    let prefix : Rises (suc base) xs = λ (j m : ℕ) f more.
     let less = p (suc j) m f (omega arith) in omega (arith, less) in
     let behind : Rises (suc base + length xs) ys = λ (j m : ℕ) f more.
     let less = q j m f (omega arith) in omega (arith, less) in
-    let less = rises_append xs ys (suc base) k n front behind e (omega arith) in
+    let less = rises_append xs ys (suc base) k n prefix behind e (omega arith) in
     omega (arith, less)
 
 -- Each row of the result comes from the row at the same place.

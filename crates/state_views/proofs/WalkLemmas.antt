@@ -227,13 +227,13 @@ upwards_short (suc most) (suc n) parents rising =
     let p = parent_of parents (suc n) in
     let less = rising (suc n) (omega arith) in
     let up = upwards most parents p in
-    let front = flat_map (passing parents) (reverse up) in
+    let prefix = flat_map (passing parents) (reverse up) in
     let short = upwards_short most p parents rising in
     let one = passing_short parents (suc n) in
     let long = ap length
     (ap (λ ns. flat_map (passing parents) (reverse ns)) (upwards_one most n parents)
     ∙ turned (passing parents) (suc n) up) in
-    omega (arith, less, short, one, long, length-append front (passing parents (suc n)))
+    omega (arith, less, short, one, long, length-append prefix (passing parents (suc n)))
 
 pub above_short : (parents : List ℕ) (n : ℕ) → AreRising parents → 0 < n
     → length (above parents n) ≤ 4 * n

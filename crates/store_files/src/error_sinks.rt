@@ -13,7 +13,7 @@ pub trait ErrorSink {
 
     /// Writes a text, and returns whether all of it was written: if not, a call failed.
     fn print<D: Display + Drop>(&mut self, text: D) -> bool
-        ensures told { result ≡ true → IfSome (D.output text)
+        ensures reported { result ≡ true → IfSome (D.output text)
             (Appends (state self.old).contents (state self.new).contents) }
         ensures kept { result ≡ true → (state self.new).failures ≡ (state self.old).failures }
         ensures failed { result ≡ false → (state self.new).failures ≢ (state self.old).failures };

@@ -33,18 +33,18 @@ pub enum FileError {
 impl FileError {
     /// Returns the error of a system call.
     pub fn of(error: &io::Error) -> FileError {
-        let mut said = ArrayString::new();
-        say(error, &mut said);
-        FileError::System(said)
+        let mut message = ArrayString::new();
+        say(error, &mut message);
+        FileError::System(message)
     }
 
     /// Returns the error of a system call on another file, after that file's name.
     pub fn of_other(name: &str, error: &io::Error) -> FileError {
-        let mut said = ArrayString::new();
-        append(&mut said, name);
-        append(&mut said, ": ");
-        say(error, &mut said);
-        FileError::System(said)
+        let mut message = ArrayString::new();
+        append(&mut message, name);
+        append(&mut message, ": ");
+        say(error, &mut message);
+        FileError::System(message)
     }
 }
 
@@ -65,10 +65,10 @@ impl fmt::Display for FileError {
 }
 
 /// Appends the system's text of an error without its number, if it fits.
-fn say(error: &io::Error, said: &mut ArrayString<96>) {
+fn say(error: &io::Error, message: &mut ArrayString<96>) {
     let mut whole = ArrayString::<128>::new();
     let _fits = write!(whole, "{error}");
-    append(said, without_number(whole.as_str()));
+    append(message, without_number(whole.as_str()));
 }
 
 /// A text of the system's without the number of the error.
@@ -80,8 +80,8 @@ fn without_number(whole: &str) -> &str {
 }
 
 /// Appends a text, if it fits.
-fn append(said: &mut ArrayString<96>, text: &str) {
-    if text.len() <= said.remaining_capacity() {
-        said.push_str(text);
+fn append(message: &mut ArrayString<96>, text: &str) {
+    if text.len() <= message.remaining_capacity() {
+        message.push_str(text);
     }
 }

@@ -20,7 +20,7 @@ mod six_events;
 mod versions;
 
 use crate::asserts::holds;
-use crate::books::calls::assert_said;
+use crate::books::calls::assert_replied;
 use crate::books::disks::{book_of, fresh, played, shown_by};
 use crate::books::looks::{assert_group, assert_scopes, assert_tasks, listed};
 use record_view::{EventView, Events};
@@ -30,26 +30,29 @@ use run_model::{Layout, Refusal};
 use std::alloc::Global;
 use std::process::Abort;
 use test_fixtures::Call::{Cancel, Checkpoint, Derive, Flush, Go, Group, Start, Succeed, Wait};
-use test_fixtures::{Ask, Call, Going, Said, Seen};
+use test_fixtures::{Ask, Call, Going, Replied, Seen};
 
 /// Steps, each with its answer.
-static ROWS: [(Call, Said<'static>); 16] = [
-    (Flush, Said::Acked(1)),
-    (Derive(b"a", b"root", Ask::Cause), Said::Scope(1)),
-    (Derive(b"b", b"a", Ask::Cancel), Said::Scope(2)),
-    (Flush, Said::Acked(3)),
-    (Cancel(b"a", b"disk"), Said::Done),
-    (Cancel(b"a", b"disk"), Said::Refused(Refusal::AlreadyDone)),
-    (Group(b"g", b"root"), Said::Group(0, Some(3))),
-    (Go(b"g", b"copy", b"a"), Said::Ready(0)),
-    (Start, Said::Started(7, 0, b"copy", b"a", false)),
-    (Start, Said::Refused(Refusal::NothingReady)),
-    (Checkpoint, Said::Acked(7)),
-    (Succeed(0), Said::Finished(8)),
-    (Succeed(0), Said::Refused(Refusal::NotRunning)),
-    (Wait(b"g"), Said::Waited(None)),
-    (Wait(b"g"), Said::Waited(None)),
-    (Flush, Said::Acked(9)),
+static ROWS: [(Call, Replied<'static>); 16] = [
+    (Flush, Replied::Acked(1)),
+    (Derive(b"a", b"root", Ask::Cause), Replied::Scope(1)),
+    (Derive(b"b", b"a", Ask::Cancel), Replied::Scope(2)),
+    (Flush, Replied::Acked(3)),
+    (Cancel(b"a", b"disk"), Replied::Done),
+    (
+        Cancel(b"a", b"disk"),
+        Replied::Refused(Refusal::AlreadyDone),
+    ),
+    (Group(b"g", b"root"), Replied::Group(0, Some(3))),
+    (Go(b"g", b"copy", b"a"), Replied::Ready(0)),
+    (Start, Replied::Started(7, 0, b"copy", b"a", false)),
+    (Start, Replied::Refused(Refusal::NothingReady)),
+    (Checkpoint, Replied::Acked(7)),
+    (Succeed(0), Replied::Finished(8)),
+    (Succeed(0), Replied::Refused(Refusal::NotRunning)),
+    (Wait(b"g"), Replied::Waited(None)),
+    (Wait(b"g"), Replied::Waited(None)),
+    (Flush, Replied::Acked(9)),
 ];
 
 /// Asserts the rows that those steps leave.
@@ -71,7 +74,7 @@ fn answered(rt: &impl Abort, alloc: Global, layout: Layout) -> MemoryDisk {
     let mut book = fresh(rt, alloc, layout);
     let is_new = shown_by(&book) == (layout, 1, 1, false, 1, 0);
     holds(rt, is_new, "a new book of bytes", layout.store_len());
-    assert_said(rt, &mut book, &ROWS);
+    assert_replied(rt, &mut book, &ROWS);
     let is_left = shown_by(&book) == (layout, 9, 9, false, 4, 61);
     holds(rt, is_left, "a used book of bytes", layout.store_len());
     assert_rows_left(rt, alloc, book.state());
@@ -115,17 +118,17 @@ fn a_list_of_steps_is_answered_one_by_one(rt: HostRuntime) {
 }
 
 /// Steps before and since the opening of the next test.
-static BEFORE: [(Call, Said<'static>); 2] = [
-    (Derive(b"old", b"root", Ask::Cause), Said::Scope(1)),
-    (Flush, Said::Acked(2)),
+static BEFORE: [(Call, Replied<'static>); 2] = [
+    (Derive(b"old", b"root", Ask::Cause), Replied::Scope(1)),
+    (Flush, Replied::Acked(2)),
 ];
 
-static SINCE: [(Call, Said<'static>); 5] = [
-    (Group(b"g", b"root"), Said::Group(0, Some(2))),
-    (Flush, Said::Acked(4)),
-    (Go(b"g", b"copy", b"a"), Said::Ready(0)),
-    (Checkpoint, Said::Acked(5)),
-    (Start, Said::Started(6, 0, b"copy", b"a", false)),
+static SINCE: [(Call, Replied<'static>); 5] = [
+    (Group(b"g", b"root"), Replied::Group(0, Some(2))),
+    (Flush, Replied::Acked(4)),
+    (Go(b"g", b"copy", b"a"), Replied::Ready(0)),
+    (Checkpoint, Replied::Acked(5)),
+    (Start, Replied::Started(6, 0, b"copy", b"a", false)),
 ];
 
 /// The events since that opening.
@@ -158,7 +161,7 @@ fn first_unlike(events: Events<'_>) -> Option<usize> {
 fn history_gives_the_events_since_the_opening(rt: HostRuntime) {
     let disk = played(&rt, rt.alloc(), Layout::Small, &[&BEFORE]);
     let mut book = book_of(&rt, rt.alloc(), disk);
-    assert_said(&rt, &mut book, &SINCE);
+    assert_replied(&rt, &mut book, &SINCE);
     let unlike = first_unlike(book.history());
     drop(book);
     assert!(rt; unlike.is_none(), "event {unlike:?}");

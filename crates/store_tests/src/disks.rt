@@ -117,7 +117,7 @@ static ONE_WRITE: [Stage; 2] = [
                 Torn::Fill(0xA7),
                 b"\0\0\0\0\0\0\0\0\0\0\xA7\xA7\xA7\0\0\0",
             ),
-            (1, Torn::Front(2), b"\0\0\0\0\0\0\0\0\0\0\x01\x02\0\0\0\0"),
+            (1, Torn::Prefix(2), b"\0\0\0\0\0\0\0\0\0\0\x01\x02\0\0\0\0"),
         ],
     ),
     (
@@ -131,7 +131,11 @@ static ONE_WRITE: [Stage; 2] = [
                 Torn::Fill(0xA7),
                 b"\0\0\0\0\0\0\0\0\0\0\x01\x02\x03\0\0\0",
             ),
-            (2, Torn::Front(2), b"\0\0\0\0\0\0\0\0\0\0\x01\x02\x03\0\0\0"),
+            (
+                2,
+                Torn::Prefix(2),
+                b"\0\0\0\0\0\0\0\0\0\0\x01\x02\x03\0\0\0",
+            ),
         ],
     ),
 ];
@@ -155,9 +159,9 @@ static NEWEST: [Stage; 2] = [
             (4, Torn::Keep, &[1, 1, 1, 1, 0, 0, 0, 0]),
             (4, Torn::Take, &[1, 1, 2, 2, 3, 2, 0, 0]),
             (4, Torn::Fill(9), &[1, 1, 9, 9, 9, 9, 0, 0]),
-            (4, Torn::Front(0), &[1, 1, 1, 1, 0, 0, 0, 0]),
-            (4, Torn::Front(1), &[1, 1, 2, 1, 3, 0, 0, 0]),
-            (4, Torn::Front(9), &[1, 1, 2, 2, 3, 2, 0, 0]),
+            (4, Torn::Prefix(0), &[1, 1, 1, 1, 0, 0, 0, 0]),
+            (4, Torn::Prefix(1), &[1, 1, 2, 1, 3, 0, 0, 0]),
+            (4, Torn::Prefix(9), &[1, 1, 2, 2, 3, 2, 0, 0]),
         ],
     ),
     (&[Call::Read(0, &[1, 1, 2, 2, 3, 2, 0, 0])], 5, &[]),
@@ -318,7 +322,7 @@ static UNSYNCED: [Row; 4] = [
     (2, Torn::Keep, &[0, 0, 0, 0]),
     (2, Torn::Take, &[1, 0, 0, 0]),
     (2, Torn::Fill(0xA7), &[0xA7, 0, 0, 0]),
-    (2, Torn::Front(0), &[0, 0, 0, 0]),
+    (2, Torn::Prefix(0), &[0, 0, 0, 0]),
 ];
 
 /// Asserts that the two writes came to a disk, and what crashes leave of it after them.

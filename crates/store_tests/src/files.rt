@@ -97,7 +97,7 @@ fn length_of(rt: &HostRuntime, path: &str) -> Option<u64> {
 }
 
 #[test]
-fn a_file_keeps_what_was_synced_and_tells_what_fails(rt: HostRuntime) {
+fn a_file_keeps_what_was_synced_and_reports_what_fails(rt: HostRuntime) {
     for (row, (path, bytes, writes, first, length, then, again)) in FILES.iter().enumerate() {
         holds(
             &rt,

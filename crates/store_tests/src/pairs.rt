@@ -101,10 +101,10 @@ fn checkpoint<D: RunDisk>(
 ) -> Result<(), Fault> {
     let mut body = body_of(image);
     assert!(rt; !journal.is_broken());
-    let told = journal.checkpoint(&mut body);
-    let is_kept = told != Err(Fault::NumbersSpent) || body == body_of(image);
+    let reported = journal.checkpoint(&mut body);
+    let is_kept = reported != Err(Fault::NumbersSpent) || body == body_of(image);
     holds(rt, is_kept, "the body of image", image.len() as u64);
-    told
+    reported
 }
 
 /// A flush of a batch that fits.
@@ -135,7 +135,7 @@ pub fn formatted(rt: &impl Abort, alloc: Global, layout: Layout, value: u8) -> M
     let bytes = filled(rt, alloc, value, layout.store_len() as usize);
     let mut disk = disk_of(rt, alloc, bytes);
     assert!(rt; disk.size() == 1_572_864 || disk.size() == 6_291_456);
-    let told = Journal::format(&mut disk, &mut body_of(&FORMATTED));
-    holds(rt, told == Ok(()), "format over", value as u64);
+    let reported = Journal::format(&mut disk, &mut body_of(&FORMATTED));
+    holds(rt, reported == Ok(()), "format over", value as u64);
     disk
 }

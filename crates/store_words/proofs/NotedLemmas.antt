@@ -43,7 +43,7 @@ Weaker P Q = (failure : Failure) → P failure → Q failure
 
 pub fails_by : {P Q : Failure → Type 0} (why : RunFault) (answer : Result Done Failure)
     → Weaker P Q → FailsBy P why answer → FailsBy Q why answer
-fails_by why answer weaker (failure, is, told, of) = (failure, is, told, weaker failure of)
+fails_by why answer weaker (failure, is, reported, of) = (failure, is, reported, weaker failure of)
 
 pub answers_over : {T : Type 0} {P Q : Failure → Type 0} (done : Result T RunFault)
     (answer : Result Done Failure) → Weaker P Q → AnswersOver P done answer
@@ -69,5 +69,5 @@ pub answers_made : {K : Type 0} {P P' Q Q' : Failure → Type 0} (line : K → L
     → Weaker P P' → Weaker Q Q' → AnswersMade line P Q done answer w0 w1
     → AnswersMade line P' Q' done answer w0 w1
 answers_made line (Ok kept) answer w0 w1 old new prints = prints
-answers_made line (Err why) answer w0 w1 old new ((failure, is, told, of), quiet) =
-    ((failure, is, told, names_of why failure old new of), quiet)
+answers_made line (Err why) answer w0 w1 old new ((failure, is, reported, of), quiet) =
+    ((failure, is, reported, names_of why failure old new of), quiet)

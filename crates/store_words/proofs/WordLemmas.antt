@@ -39,17 +39,17 @@ pub record IsLedBy (p : State) (events : List Event) (n : ℕ) (bytes : List ℕ
   pub leads : LeadsBy p events n state
   pub stores : Stores bytes state
 
-pub front_led : (p q : State) (events : List Event) (least n : ℕ)
+pub prefix_led : (p q : State) (events : List Event) (least n : ℕ)
     → IsPrefix (restarted p) events least q → n ≤ (restarted p).count + least
     → LeadsBy p events n q
-front_led p q events least n front below =
-    let counts = prefix_least (restarted p) q events least front in
+prefix_led p q events least n prefix below =
+    let counts = prefix_least (restarted p) q events least prefix in
     record {
-      front = inr (record {
-        many = front.many;
+      prefix = inr (record {
+        many = prefix.many;
         enough = omega arith;
-        within = front.within;
-        reached = front.reached;
+        within = prefix.within;
+        reached = prefix.reached;
       });
       holds = omega (arith, counts, below);
     }
@@ -58,12 +58,12 @@ pub opened_led : (p : State) (events : List Event) (x : List ℕ) → StoresOpen
     → IsLedBy p events 0 x
 opened_led p events x (inl before) = record {
   state = p;
-  leads = record { front = inl refl; holds = omega arith };
+  leads = record { prefix = inl refl; holds = omega arith };
   stores = before;
 }
 opened_led p events x (inr after) = record {
   state = restarted p;
-  leads = front_led p (restarted p) events 0 0
+  leads = prefix_led p (restarted p) events 0 0
       (record { many = 0; enough = omega arith; within = omega arith; reached = refl })
       (omega arith);
   stores = after;
@@ -121,7 +121,7 @@ module _ {D : Type 0} (state : D → DiskState) (disk : (d : D) → IsDisk (stat
       → IsReadAlone (state old) (state new)
   shows_alone text old new answer w0 w1 (inl (p, recovered, prints)) =
       record { passed = recovered.read.passed; reads = recovered.read.only }
-  shows_alone text old new answer w0 w1 (inr (why, told, none, quiet)) =
+  shows_alone text old new answer w0 w1 (inr (why, reported, none, quiet)) =
       none_alone why old new none
 
   pub inspected_alone : (view : View) (given left : D) (done : Result ⊤ RunFault)
@@ -178,7 +178,7 @@ module _ {D : Type 0} (state : D → DiskState) (disk : (d : D) → IsDisk (stat
       subst (λ l. LeavesOnly (StoresNothingOr (formatted l)) (state made) (state left))
       (one_layout formats.layout layout (sym formats.sized ∙ sized))
       (formats.stops honest zeros)
-  format_leaves made left layout done w0 w1 honest zeros sized (inr (why, told, not, quiet)) =
+  format_leaves made left layout done w0 w1 honest zeros sized (inr (why, reported, not, quiet)) =
       by why not
     where
       P : List ℕ → Type 0
@@ -217,7 +217,7 @@ module _ {D : Type 0} (state : D → DiskState) (disk : (d : D) → IsDisk (stat
   migrate_leaves looked made read left p (Err fault) lies honest zeros (inl migrates) =
       migrates.any_moment lies.honest p lies.stores honest zeros
   migrate_leaves looked made read left p (Err fault) lies honest zeros
-      (inr (new, why, told, migrates, none)) =
+      (inr (new, why, reported, migrates, none)) =
       let leaves = migrates.any_moment lies.honest p lies.stores honest zeros in
       then_read (StoresNothingOr (widened p)) made new left leaves
       ((none_alone why new left none).reads (migrates.answer.written.passed.honest honest))
@@ -240,7 +240,7 @@ module _ {D : Type 0} (state : D → DiskState) (disk : (d : D) → IsDisk (stat
       then_read (StoresNothingOr (renewed_in layout p)) made has.made left leaves
       (has.behind.1.read.only (has.renewed.answer.written.passed.honest honest))
   renew_leaves looked made read left p layout (Err fault) lies honest zeros sized
-      (inl (why, told, none, same)) =
+      (inl (why, reported, none, same)) =
       subst (λ d. LeavesOnly (StoresNothingOr (renewed_in layout p)) (state made) (state d))
       (sym same) (blank (renewed_in layout p) made zeros)
   renew_leaves looked made read left p layout (Err fault) lies honest zeros sized
@@ -248,7 +248,7 @@ module _ {D : Type 0} (state : D → DiskState) (disk : (d : D) → IsDisk (stat
       let old = recovered_lies q p looked seen lies recovered in
       renews.any_moment old.honest p old.stores layout sized honest zeros
   renew_leaves looked made read left p layout (Err fault) lies honest zeros sized
-      (inr (q, seen, recovered, inr (new, why, told, renews, none))) =
+      (inr (q, seen, recovered, inr (new, why, reported, renews, none))) =
       let old = recovered_lies q p looked seen lies recovered in
       let leaves = renews.any_moment old.honest p old.stores layout sized honest zeros in
       then_read (StoresNothingOr (renewed_in layout p)) made new left leaves

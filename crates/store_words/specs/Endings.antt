@@ -63,10 +63,10 @@ stray_lines line = stray_line line ++ return_line line.why line.number
 -- run ended, a job that a crew doesn't know, or that a plan is refused; else nothing. The
 -- difference that an audit found is printed on standard output.
 abbrev pub PrintsDone : Done → Bool → (e0 e1 : SinkState) → Type 0
-PrintsDone (Rejection line) told e0 e1 = IsPrinted told (stray_lines line) e0 e1
-PrintsDone (Unknown unknown) told e0 e1 = IsPrinted told (unknown_line unknown) e0 e1
-PrintsDone NoPlan told e0 e1 = IsPrinted told (codes "night: the plan is refused\n") e0 e1
-PrintsDone _ told e0 e1 = (told ≡ true) × (e1 ≡ e0)
+PrintsDone (Rejection line) reported e0 e1 = IsPrinted reported (stray_lines line) e0 e1
+PrintsDone (Unknown unknown) reported e0 e1 = IsPrinted reported (unknown_line unknown) e0 e1
+PrintsDone NoPlan reported e0 e1 = IsPrinted reported (codes "night: the plan is refused\n") e0 e1
+PrintsDone _ reported e0 e1 = (reported ≡ true) × (e1 ≡ e0)
 
 -- The line of a file or a stream that is to blame, such as `night: jobs.store: not a store`.
 abbrev pub file_line : FileFailure → List ℕ

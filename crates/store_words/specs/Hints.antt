@@ -9,5 +9,5 @@ hint_line =
 
 -- If it was due, it was printed, or a call failed; else nothing was printed.
 abbrev pub Hints : (is_due : Bool) → (e0 e1 : SinkState) → Type 0
-Hints true e0 e1 = (told : Bool) × IsPrinted told hint_line e0 e1
+Hints true e0 e1 = (reported : Bool) × IsPrinted reported hint_line e0 e1
 Hints false e0 e1 = e1 ≡ e0

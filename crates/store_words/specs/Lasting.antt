@@ -20,7 +20,7 @@ FindsLeft state from left next = Finds state ((state left).since (state from).cl
 -- State p leads to state q by the events of a run: q is p, or the state to which a restart of p and
 -- a prefix of the events lead. The prefix contains the first n events, which were acknowledged.
 pub record LeadsBy (p : State) (events : List Event) (n : ℕ) (q : State) : Type 0 where
-  pub front : (q ≡ p) ⊎ IsPrefix (restarted p) events 0 q
+  pub prefix : (q ≡ p) ⊎ IsPrefix (restarted p) events 0 q
   pub holds : n ≤ q.count
 
 -- The disk was only read.

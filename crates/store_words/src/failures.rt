@@ -171,14 +171,14 @@ pub fn failed_of<'a, Y: FirstError>(
     ensures file { NamesOf (Names (Y.notes why_old.now) (name_text old.entry))
         (Names (Y.notes why_new.now) (name_text new.entry)) fault result }
 {
-    let told = unmigrated(fault);
+    let reported = unmigrated(fault);
     match fault {
         MigrateFault::Memory => Failure {
-            fault: told,
+            fault: reported,
             file: None,
         },
-        MigrateFault::Old(_) => failed(told, old, why_old, FileProblem::of(told)),
-        MigrateFault::New(_) => failed(told, new, why_new, FileProblem::of(told)),
+        MigrateFault::Old(_) => failed(reported, old, why_old, FileProblem::of(reported)),
+        MigrateFault::New(_) => failed(reported, new, why_new, FileProblem::of(reported)),
     }
 }
 

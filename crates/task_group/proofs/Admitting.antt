@@ -9,9 +9,9 @@ use Rattle.run_model.specs.declared.tasks.Stage.{Stage}
 use Rattle.run_model.specs.declared.tasks.Stage.TheVariants as stage
 use Rattle.run_model.specs.declared.tasks.Task.{Task}
 use Rattle.run_model.specs.Tasks as model
-use Rattle.task_group.specs.declared.seats.Seats.{Seats}
+use Rattle.task_group.specs.declared.counts.GroupCounts.{GroupCounts}
 use Rattle.task_group.specs.Admitting.{AdmitsOldest, IsOldestHeld, phase_new}
-use Rattle.task_group.specs.Kept.{IsNext, SeatsOf}
+use Rattle.task_group.specs.Kept.{IsNext, GroupCountsOf}
 use Rattle.task_group.proofs.Words.{Work, is_admitted, is_held, fresh_task, submitted}
 use Rattle.task_group.proofs.Admits.{held_is, is_held_from, ready_at}
 use Rattle.task_group.proofs.Bridges.{phase_same}
@@ -147,8 +147,8 @@ now_ready w v n t s e h o =
         (let both = from_held w t.group j is in absurd (o.oldest j less both.1 both.0))
     by_test j less false is = is
 
-pub end_admits : (w v : Work) (n : ℕ) (t : Task) (s : Stage) (x : Seats) → Ends w n t s v
-    → SeatsOf w t.group x → AdmitsOldest w n v
+pub end_admits : (w v : Work) (n : ℕ) (t : Task) (s : Stage) (x : GroupCounts) → Ends w n t s v
+    → GroupCountsOf w t.group x → AdmitsOldest w n v
 end_admits w v n t s x e r =
     let group : group_of_task w n ≡ t.group = group_at w n t e.found in
     record {

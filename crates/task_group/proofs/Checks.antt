@@ -55,11 +55,11 @@ opens_found w g row waited found e =
     by false = refl
 
 -- A task that is there is running, or isn't.
-pub finish_told : (w : WorkState) (n : ℕ) (runs : Bool) → n < length w.tasks
+pub finish_cancels : (w : WorkState) (n : ℕ) (runs : Bool) → n < length w.tasks
     → runs ≡ has_stage is_running w n → (if runs then Ok tt else Err refusal.NotRunning)
     ≡ tested ((not (has_row w.tasks n), refusal.NoSuchTask)
     ∷ (not (has_stage is_running w n), refusal.NotRunning) ∷ [])
-finish_told w n runs known is = rw (lt-ltb n (length w.tasks) known, ← is) (by runs)
+finish_cancels w n runs known is = rw (lt-ltb n (length w.tasks) known, ← is) (by runs)
   where
     by : (b : Bool) → (if b then Ok tt else Err refusal.NotRunning)
         ≡ tested ((not b, refusal.NotRunning) ∷ [])
@@ -97,10 +97,10 @@ wait_busy w g n known is busy =
     (ap (λ k. Err (refusal.Unfinished k)) is)
 
 -- An idle group was waited for or not.
-pub wait_told : (w : WorkState) (g n : ℕ) (waited : Bool) → g < length w.groups
+pub wait_cancels : (w : WorkState) (g n : ℕ) (waited : Bool) → g < length w.groups
     → n ≡ unfinished_in g w.tasks → n ≡ 0 → waited ≡ has_waited w g
     → (if waited then Err refusal.Waited else Ok tt) ≡ tested (waits w g)
-wait_told w g n waited known is none e =
+wait_cancels w g n waited known is none e =
     let row = row_there w.groups g known in
     let idle : unfinished_in g w.tasks ≡ 0 = sym is ∙ none in
     let same : row.0.waited ≡ waited =

@@ -11,10 +11,10 @@ use Rattle.run_model.specs.declared.groups.Group.{Group}
 use Rattle.run_model.specs.declared.tasks.Stage.{Stage}
 use Rattle.run_model.specs.declared.tasks.Stage.TheVariants as stage
 use Rattle.run_model.specs.declared.tasks.Task.{Task}
-use Rattle.task_group.specs.declared.seats.Seats.{Seats}
+use Rattle.task_group.specs.declared.counts.GroupCounts.{GroupCounts}
 use Rattle.task_group.specs.Flags.{AreFlagged, flags_after}
 use Rattle.task_group.specs.Held.{fits_limit}
-use Rattle.task_group.specs.Kept.{Kept, SeatsOf, entered, linked}
+use Rattle.task_group.specs.Kept.{Kept, GroupCountsOf, entered, linked}
 use Rattle.task_group.specs.Sound.{AreKept}
 use Rattle.task_group.proofs.Admits.{is_of, eqb_same, eqb_apart, ended_not_fresh, held_none}
 use Rattle.task_group.proofs.Admits.{ready_none, running_not_fresh, running_unfinished}
@@ -40,23 +40,23 @@ fresh_is stage.Success e = absurd cc
 fresh_is (stage.Failure text) e = absurd cc
 fresh_is stage.Interrupted e = absurd cc
 
-pub fresh_comes : (w : Work) (x : Task) (seats : List Seats) (next : List (Option ℕ))
-    (ready : List Bool) (count : ℕ) (flags : List Bool) (s : Seats) (row : Group) (b : Bool)
-    → is_fresh x.stage ≡ true → AreKept w seats next ready count flags
-    → slice_get seats x.group ≡ Some s → slice_get w.groups x.group ≡ Some row
+pub fresh_comes : (w : Work) (x : Task) (counts : List GroupCounts) (next : List (Option ℕ))
+    (ready : List Bool) (count : ℕ) (flags : List Bool) (s : GroupCounts) (row : Group) (b : Bool)
+    → is_fresh x.stage ≡ true → AreKept w counts next ready count flags
+    → slice_get counts x.group ≡ Some s → slice_get w.groups x.group ≡ Some row
     → length w.tasks < most_tasks w.layout → IfSome x.retry_of (λ m. m < length w.tasks)
     → b ≡ admits row.limit s.unfinished
-    → AreKept (with_task x w) (at_row (entered b (length w.tasks)) x.group seats)
+    → AreKept (with_task x w) (at_row (entered b (length w.tasks)) x.group counts)
     (linked b s.first s.last (length w.tasks) next) (slice_set ready (length w.tasks) b) count
     (flags_after x.retry_of flags)
-fresh_comes w x seats next ready count flags s row b fresh k here at room known e =
+fresh_comes w x counts next ready count flags s row b fresh k here at room known e =
     subst
     (λ (q : Stage).
-    AreKept (with_task (with_stage q x) w) (at_row (entered b (length w.tasks)) x.group seats)
+    AreKept (with_task (with_stage q x) w) (at_row (entered b (length w.tasks)) x.group counts)
     (linked b s.first s.last (length w.tasks) next) (slice_set ready (length w.tasks) b) count
     (flags_after x.retry_of flags))
     (fresh_is x.stage fresh)
-    (go_keeps w x.group x.job x.argument x.retry_of seats next ready count flags s row b k here
+    (go_keeps w x.group x.job x.argument x.retry_of counts next ready count flags s row b k here
     at room known e)
 
 -- ---- a task that was started: it is neither ready nor held, and leaves the others as they were
@@ -118,9 +118,9 @@ count_without k tasks x not_of =
     let more : cond {A = ℕ} (is_of k x) 1 0 ≡ 0 = rw not_of refl in
     count_pushed k tasks x ∙ omega (arith, more)
 
-seats_stay : (w : Work) (x : Task) (k : ℕ) (s : Seats) → is_fresh x.stage ≡ false
-    → is_of k x ≡ false → SeatsOf w k s → SeatsOf (with_task x w) k s
-seats_stay w x k s e not_of r =
+counts_stay : (w : Work) (x : Task) (k : ℕ) (s : GroupCounts) → is_fresh x.stage ≡ false
+    → is_of k x ≡ false → GroupCountsOf w k s → GroupCountsOf (with_task x w) k s
+counts_stay w x k s e not_of r =
     let count = count_without k w.tasks x not_of in
     let held = λ (j : ℕ). (all_stay w x e j).held k in
     record {
@@ -129,11 +129,11 @@ seats_stay w x k s e not_of r =
       last = last_same (is_held w k) (is_held (with_task x w) k) held s.first s.last r.last;
     }
 
-seats_more : (w : Work) (x : Task) (s : Seats) → is_running x.stage ≡ true
+counts_more : (w : Work) (x : Task) (s : GroupCounts) → is_running x.stage ≡ true
     → admits (limit_of w.groups x.group) (unfinished_in x.group w.tasks) ≡ true
-    → SeatsOf w x.group s
-    → SeatsOf (with_task x w) x.group (entered true (length w.tasks) s)
-seats_more w x s run ok r =
+    → GroupCountsOf w x.group s
+    → GroupCountsOf (with_task x w) x.group (entered true (length w.tasks) s)
+counts_more w x s run ok r =
     let g = x.group in
     let of : is_of g x ≡ true =
     rw (eqb_same g g refl, running_unfinished x.stage run) refl in
@@ -184,11 +184,11 @@ sound_with w x known room fits sound = record {
         ∙ taken w x (length w.tasks) (omega arith) x.group ∙ whole x.group w.tasks)
         ∙ fits (ap (λ (t : Task). is_running t.stage) same ∙ run))
 
-kept_with : (w : Work) (x : Task) (seats with_x : List Seats) (next : List (Option ℕ))
+kept_with : (w : Work) (x : Task) (counts with_x : List GroupCounts) (next : List (Option ℕ))
     → is_fresh x.stage ≡ false → IsSound (with_task x w) → length with_x ≡ length w.groups
-    → ((g : ℕ) (s : Seats) → slice_get with_x g ≡ Some s → SeatsOf (with_task x w) g s)
-    → Kept w seats next → Kept (with_task x w) with_x (next ++ None ∷ [])
-kept_with w x seats with_x next e sound size right kept = record {
+    → ((g : ℕ) (s : GroupCounts) → slice_get with_x g ≡ Some s → GroupCountsOf (with_task x w) g s)
+    → Kept w counts next → Kept (with_task x w) with_x (next ++ None ∷ [])
+kept_with w x counts with_x next e sound size right kept = record {
   sound = sound;
   as_groups = size;
   as_tasks =
@@ -235,22 +235,22 @@ running_with tasks x =
 
 -- ---- what is kept as it comes in
 
-pub ended_comes : (w : Work) (x : Task) (seats : List Seats) (next : List (Option ℕ))
+pub ended_comes : (w : Work) (x : Task) (counts : List GroupCounts) (next : List (Option ℕ))
     (ready : List Bool) (count : ℕ) (flags : List Bool) → is_unfinished x.stage ≡ false
     → x.group < length w.groups → length w.tasks < most_tasks w.layout
-    → IfSome x.retry_of (λ m. m < length w.tasks) → AreKept w seats next ready count flags
-    → AreKept (with_task x w) seats (next ++ None ∷ []) ready count
+    → IfSome x.retry_of (λ m. m < length w.tasks) → AreKept w counts next ready count flags
+    → AreKept (with_task x w) counts (next ++ None ∷ []) ready count
     (flags_after x.retry_of flags)
-ended_comes w x seats next ready count flags ended known room link k =
+ended_comes w x counts next ready count flags ended known room link k =
     let e = ended_not_fresh x.stage ended in
     let rests : is_running x.stage ≡ false = ended_rests x.stage ended in
     let none : cond {A = ℕ} (is_running x.stage) 1 0 ≡ 0 = rw rests refl in
     record {
       seated =
-          kept_with w x seats seats next e
+          kept_with w x counts counts next e
           (sound_with w x known room (λ run. absurd cc) k.seated.sound) k.seated.as_groups
           (λ g s found.
-          seats_stay w x g s e (rw ended (and-false (x.group == g))) (k.seated.right g s found))
+          counts_stay w x g s e (rw ended (and-false (x.group == g))) (k.seated.right g s found))
           k.seated;
       queued = queued_same w (with_task x w) ready refl (λ m. (all_stay w x e m).ready) k.queued;
       running =
@@ -260,34 +260,34 @@ ended_comes w x seats next ready count flags ended known room link k =
       flagged = flagged_with w.tasks flags x link k.flagged;
     }
 
-pub running_comes : (w : Work) (x : Task) (seats : List Seats) (next : List (Option ℕ))
+pub running_comes : (w : Work) (x : Task) (counts : List GroupCounts) (next : List (Option ℕ))
     (ready : List Bool) (count : ℕ) (flags : List Bool) → is_running x.stage ≡ true
     → admits (limit_of w.groups x.group) (unfinished_in x.group w.tasks) ≡ true
     → x.group < length w.groups → length w.tasks < most_tasks w.layout
-    → IfSome x.retry_of (λ m. m < length w.tasks) → AreKept w seats next ready count flags
-    → AreKept (with_task x w) (at_row (entered true (length w.tasks)) x.group seats)
+    → IfSome x.retry_of (λ m. m < length w.tasks) → AreKept w counts next ready count flags
+    → AreKept (with_task x w) (at_row (entered true (length w.tasks)) x.group counts)
     (next ++ None ∷ []) ready (count + 1) (flags_after x.retry_of flags)
-running_comes w x seats next ready count flags run ok known room link k =
+running_comes w x counts next ready count flags run ok known room link k =
     let e = running_not_fresh x.stage run in
     let one : cond {A = ℕ} (is_running x.stage) 1 0 ≡ 1 = rw run refl in
     record {
       seated =
-          kept_with w x seats (at_row (entered true (length w.tasks)) x.group seats) next e
+          kept_with w x counts (at_row (entered true (length w.tasks)) x.group counts) next e
           (sound_with w x known room (λ _. ok) k.seated.sound)
-          (length-at_row (entered true (length w.tasks)) x.group seats ∙ k.seated.as_groups)
+          (length-at_row (entered true (length w.tasks)) x.group counts ∙ k.seated.as_groups)
           (λ g s found.
-          elim (changed_row (entered true (length w.tasks)) x.group seats g s found) [
+          elim (changed_row (entered true (length w.tasks)) x.group counts g s found) [
             | inl other ↦
-                seats_stay w x g s e
+                counts_stay w x g s e
                 (rw (eqb_apart x.group g (λ same. other.0 (sym same))) refl)
                 (k.seated.right g s other.1)
             | inr here ↦
-                subst (λ (y : Seats). SeatsOf (with_task x w) g y) here.3
+                subst (λ (y : GroupCounts). GroupCountsOf (with_task x w) g y) here.3
                 (subst
-                (λ (j : ℕ). SeatsOf (with_task x w) j (entered true (length w.tasks) here.1))
+                (λ (j : ℕ). GroupCountsOf (with_task x w) j (entered true (length w.tasks) here.1))
                 (sym here.0)
-                (seats_more w x here.1 run ok
-                (subst (λ (j : ℕ). SeatsOf w j here.1) here.0
+                (counts_more w x here.1 run ok
+                (subst (λ (j : ℕ). GroupCountsOf w j here.1) here.0
                 (k.seated.right g here.1 here.2))))
           ])
           k.seated;

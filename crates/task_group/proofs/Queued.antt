@@ -6,8 +6,8 @@ use Rattle.run_model.proofs.Common.{get_or-set_other, length-set, length-append,
 use Rattle.run_model.proofs.Common.{most_tasks, admits, unfinished_in}
 use Rattle.run_model.specs.declared.tasks.Stage.{Stage}
 use Rattle.run_model.specs.declared.tasks.Task.{Task}
-use Rattle.task_group.specs.declared.seats.Seats.{Seats}
-use Rattle.task_group.specs.Kept.{IsNext, SeatsOf}
+use Rattle.task_group.specs.declared.counts.GroupCounts.{GroupCounts}
+use Rattle.task_group.specs.Kept.{IsNext, GroupCountsOf}
 use Rattle.task_group.specs.Sound.{AreQueued}
 use Rattle.task_group.proofs.Words.{Work, is_ready, is_held, limit_of, first_ready, submitted}
 use Rattle.task_group.proofs.Words.{started, fresh_task}
@@ -112,8 +112,9 @@ queued_start w n t flags s less q =
     (λ m apart. (start_stays w n t s m apart).ready) q
 
 -- The oldest held task of the group, where there is one, gets in.
-pub queued_end : (w v : Work) (n : ℕ) (t : Task) (s : Stage) (x : Seats) (flags : List Bool)
-    → Ends w n t s v → v.layout ≡ w.layout → SeatsOf w t.group x → length w.tasks ≤ length flags
+pub queued_end : (w v : Work) (n : ℕ) (t : Task) (s : Stage) (x : GroupCounts) (flags : List Bool)
+    → Ends w n t s v → v.layout ≡ w.layout → GroupCountsOf w t.group x
+    → length w.tasks ≤ length flags
     → (o : Option ℕ) → x.first ≡ o → AreQueued w flags → AreQueued v (with_flag o flags)
 queued_end w v n t s x flags e layout r room None is q =
     let calm = calm_from w t.group (subst (λ o. IsNext (is_held w t.group) 0 o) is r.first) in

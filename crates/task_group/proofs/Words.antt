@@ -15,7 +15,7 @@ pub use Rattle.run_model.specs.Tasks.{phase_by, running_count, running_tasks, un
 pub use Rattle.run_model.specs.WorkChanges.{group_of_task, with_error, with_stage}
 pub use Rattle.task_group.specs.Held.{is_held}
 pub use Rattle.task_group.specs.Rows.{IsSound, submitted}
-pub use Rattle.task_group.specs.Told.{is_first_error, tells, told_by_end}
+pub use Rattle.task_group.specs.Cancels.{is_first_error, brings_first_error, cancels_by_end}
 
 abbrev pub Work : Type 0
 Work = WorkState

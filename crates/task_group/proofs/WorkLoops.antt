@@ -29,20 +29,20 @@ pub come_apart : (w : WorkState) (row : Task) → length w.groups ≤ row.group
     → false ≡ can_come w.layout w.groups w.tasks row
 come_apart w row past = rw (le-ltb row.group (length w.groups) past) refl
 
--- Whether a running task has a seat.
-pub seat_of : (w : WorkState) (row : Task) (answer : Bool) → is_running row.stage ≡ true
+-- Whether a running task is admitted.
+pub group_count_of : (w : WorkState) (row : Task) (answer : Bool) → is_running row.stage ≡ true
     → admits (limit_of w row.group) (unfinished_in row.group w.tasks) ≡ answer
     → (not (is_running row.stage) || is_admitted w (length w.tasks) row) ≡ answer
-seat_of w row answer running fits =
+group_count_of w row answer running fits =
     rw (running, running_unfinished row.stage running, take-length) fits
 
 -- A task can come if its group exists, its link is right, and the limit admits it if it is running.
-pub come_by : (w : WorkState) (row : Task) (seat linked : Bool) → row.group < length w.groups
-    → (not (is_running row.stage) || is_admitted w (length w.tasks) row) ≡ seat
+pub come_by : (w : WorkState) (row : Task) (group_count linked : Bool) → row.group < length w.groups
+    → (not (is_running row.stage) || is_admitted w (length w.tasks) row) ≡ group_count
     → linked ≡ is_linked w.tasks row
-    → (seat && linked) ≡ can_come w.layout w.groups w.tasks row
-come_by w row seat linked known seated is =
-    rw (lt-ltb row.group (length w.groups) known, seated) (ap (λ b. seat && b) is)
+    → (group_count && linked) ≡ can_come w.layout w.groups w.tasks row
+come_by w row group_count linked known seated is =
+    rw (lt-ltb row.group (length w.groups) known, seated) (ap (λ b. group_count && b) is)
 
 module _ (start : WorkState) (head : ImageHead) (bytes : List ℕ)
     (new : start ≡ new_work start.layout) where

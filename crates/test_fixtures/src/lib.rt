@@ -16,4 +16,4 @@ pub use forgetful::{ForgetfulSync, Settling};
 pub use listings::{Listing, are_same, going_at, have_same_rows, listing_of};
 pub use looks::{Going, GroupSeen, Seen, TaskSeen, going_of, is_group, is_task, seen_of};
 pub use numbers::{digits, numbered};
-pub use replies::{Said, answered, finished, said_by, started};
+pub use replies::{Replied, answered, finished, replied_by, started};

@@ -4,7 +4,7 @@ use run_model::{Answer, Fault, Phase, Refusal, Reply, Started};
 
 /// What a step is answered.
 #[derive(Clone, Copy, PartialEq)]
-pub enum Said<'a> {
+pub enum Replied<'a> {
     /// The number of a scope.
     Scope(u16),
     /// The numbers of a group and of its own scope.
@@ -57,32 +57,32 @@ pub fn finished(answer: Result<u64, Refusal>) -> Reply {
 }
 
 /// What a reply says.
-pub fn said_by(reply: &Reply) -> Said<'_> {
+pub fn replied_by(reply: &Reply) -> Replied<'_> {
     match reply {
-        Reply::Answer(answer) => said_by_answer(answer),
-        Reply::Started(started) => said_by_start(started),
-        Reply::Finished(event) => Said::Finished(*event),
-        Reply::Acked(event) => Said::Acked(*event),
-        Reply::Refused(refusal) => Said::Refused(*refusal),
-        Reply::Faulty(fault) => Said::Faulty(*fault),
+        Reply::Answer(answer) => replied_by_answer(answer),
+        Reply::Started(started) => replied_by_start(started),
+        Reply::Finished(event) => Replied::Finished(*event),
+        Reply::Acked(event) => Replied::Acked(*event),
+        Reply::Refused(refusal) => Replied::Refused(*refusal),
+        Reply::Faulty(fault) => Replied::Faulty(*fault),
     }
 }
 
-fn said_by_answer(answer: &Answer) -> Said<'_> {
+fn replied_by_answer(answer: &Answer) -> Replied<'_> {
     match answer {
-        Answer::Scope(scope) => Said::Scope(*scope),
-        Answer::Group(group, scope) => Said::Group(*group, *scope),
-        Answer::Done => Said::Done,
-        Answer::Task(task, Phase::Held) => Said::Held(*task),
-        Answer::Task(task, Phase::Ready) => Said::Ready(*task),
-        Answer::Task(_, _) => Said::Other,
-        Answer::Waited(Some(error)) => Said::Waited(Some(error.as_bytes())),
-        Answer::Waited(None) => Said::Waited(None),
+        Answer::Scope(scope) => Replied::Scope(*scope),
+        Answer::Group(group, scope) => Replied::Group(*group, *scope),
+        Answer::Done => Replied::Done,
+        Answer::Task(task, Phase::Held) => Replied::Held(*task),
+        Answer::Task(task, Phase::Ready) => Replied::Ready(*task),
+        Answer::Task(_, _) => Replied::Other,
+        Answer::Waited(Some(error)) => Replied::Waited(Some(error.as_bytes())),
+        Answer::Waited(None) => Replied::Waited(None),
     }
 }
 
-fn said_by_start(started: &Started) -> Said<'_> {
-    Said::Started(
+fn replied_by_start(started: &Started) -> Replied<'_> {
+    Replied::Started(
         started.event,
         started.info.task,
         started.info.job.as_bytes(),

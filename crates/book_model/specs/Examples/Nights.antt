@@ -322,8 +322,8 @@ two_jobs =
     ∷ []
 
 -- One of two tasks is running when the program crashes.
-abbrev pub stopped_night : Night
-stopped_night =
+abbrev pub crashed_night : Night
+crashed_night =
     (group "g" "root", group_made 0 1)
     ∷ (set_limit "g" 1, done)
     ∷ (go "g" "copy" "a", submitted 0 phase.Ready)

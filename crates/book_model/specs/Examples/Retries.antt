@@ -11,7 +11,7 @@ use Rattle.run_model.specs.Step.{step}
 use Rattle.run_model.specs.Session.{Session, begun_at, session_after}
 use Rattle.book_model.specs.Examples.Calls.{retry, start, finish, submitted, started_late, finished}
 use Rattle.book_model.specs.Examples.Calls.{refused}
-use Rattle.book_model.specs.Examples.Nights.{Night, steps_of, stopped_night, state_of}
+use Rattle.book_model.specs.Examples.Nights.{Night, steps_of, crashed_night, state_of}
 
 -- The session after an opening of what this session left.
 abbrev pub opened_again : Session → Session
@@ -24,7 +24,7 @@ after_night s night = session_after s (steps_of night)
 -- A store in whose group, which has a limit of 1, the first task was interrupted and the second one
 -- is ready.
 abbrev pub one_interrupted : Session
-one_interrupted = begun_at (step (state_of stopped_night) Restart)
+one_interrupted = begun_at (step (state_of crashed_night) Restart)
 
 -- The interrupted task is retried once. Of two other tasks one wasn't interrupted, and one doesn't
 -- exist.

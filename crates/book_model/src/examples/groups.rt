@@ -12,7 +12,7 @@ ghost use Rattle.book_model.specs.Examples.Nights.{limit_set_again, bare_group_i
 ghost use Rattle.book_model.specs.Examples.Nights.{IsAnswered, state_of, reason_after, cause_after};
 ghost use Rattle.book_model.specs.Examples.Nights.{limited_group, limit_of_zero, first_error};
 ghost use Rattle.book_model.specs.Examples.Nights.{bare_group, refused_calls, two_jobs};
-ghost use Rattle.book_model.specs.Examples.Nights.{stopped_night, below_a_done_scope};
+ghost use Rattle.book_model.specs.Examples.Nights.{crashed_night, below_a_done_scope};
 ghost use Rattle.book_model.specs.Examples.Nights.{limit_taken_away, reopened, two_groups};
 ghost use Rattle.book_model.specs.Examples.Nights.{two_reasons};
 
@@ -74,18 +74,18 @@ pub fn tasks_start_in_order_of_number()
 /// error of its group, which ends the scope of the group and admits the held task. One more opening
 /// changes nothing but the count.
 pub fn a_running_task_is_interrupted()
-    ensures answers { IsAnswered stopped_night }
-    ensures running { task_look_of (state_of stopped_night) 0 ≡ Some (record {
+    ensures answers { IsAnswered crashed_night }
+    ensures running { task_look_of (state_of crashed_night) 0 ≡ Some (record {
       group = 0;
       job = codes "copy";
       argument = codes "a";
       phase = phase.Running;
       retry_of = None;
     }) }
-    ensures held { phase_of (state_of stopped_night).work 1 ≡ Some phase.Held }
-    ensures interrupted { phase_of (reopened 1 stopped_night).work 0 ≡ Some phase.Interrupted }
-    ensures ready { phase_of (reopened 1 stopped_night).work 1 ≡ Some phase.Ready }
-    ensures result { group_look_of (reopened 1 stopped_night) 0 ≡ Some (record {
+    ensures held { phase_of (state_of crashed_night).work 1 ≡ Some phase.Held }
+    ensures interrupted { phase_of (reopened 1 crashed_night).work 0 ≡ Some phase.Interrupted }
+    ensures ready { phase_of (reopened 1 crashed_night).work 1 ≡ Some phase.Ready }
+    ensures result { group_look_of (reopened 1 crashed_night) 0 ≡ Some (record {
       name = codes "g";
       scope = 1;
       unfinished = 1;
@@ -93,10 +93,10 @@ pub fn a_running_task_is_interrupted()
       waited = false;
       error = Some (codes "interrupted");
     }) }
-    ensures reason { reason_of (reopened 1 stopped_night).tree.scopes 1 ≡ Some Canceled }
-    ensures cause { cause_of (reopened 1 stopped_night).tree.scopes 1 ≡ Some (codes "interrupted") }
-    ensures count { (reopened 1 stopped_night).count ≡ 7 }
-    ensures again { reopened 2 stopped_night ≡ record (reopened 1 stopped_night) { count = 8 } }
+    ensures reason { reason_of (reopened 1 crashed_night).tree.scopes 1 ≡ Some Canceled }
+    ensures cause { cause_of (reopened 1 crashed_night).tree.scopes 1 ≡ Some (codes "interrupted") }
+    ensures count { (reopened 1 crashed_night).count ≡ 7 }
+    ensures again { reopened 2 crashed_night ≡ record (reopened 1 crashed_night) { count = 8 } }
 {}
 
 /// Whether a scope exists is checked before whether a name is taken, and whether a task exists

@@ -12,7 +12,7 @@ ghost use Rattle.book_model.specs.Examples.TwoNights.{store};
 /// Three events were acknowledged before the first crash, a fourth was accepted, and a fifth was
 /// requested. The crash leaves the state after the first three, four or five of them, in their
 /// order: no acknowledged event is lost, and nothing else is stored.
-pub fn a_stop_leaves_one_of_three_states()
+pub fn a_crash_leaves_one_of_three_states()
     ensures { (q : State) → GoesOn (Stored store) (moves_of first_night) (Stored q)
         → (q ≡ after_first 3) ⊎ (q ≡ after_first 4) ⊎ (q ≡ after_first 5) }
 {}

@@ -21,7 +21,7 @@ pub fn a_failing_device_ends_a_night()
     ensures played { Plays (sound new_store) played stopped_at_the_flush (stuck after_three) }
     ensures accepted { accepted new_store (taken played stopped_at_the_flush) ≡ first_events }
     ensures acknowledged { acknowledged new_store played stopped_at_the_flush ≡ [] }
-    ensures untold { last_acked stopped_at_the_flush ≡ None }
+    ensures unreported { last_acked stopped_at_the_flush ≡ None }
 {}
 
 /// A broken book refuses all twelve steps.

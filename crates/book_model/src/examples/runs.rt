@@ -5,14 +5,14 @@ ghost use Rattle.run_model.specs.declared.layouts.Layout.TheVariants.{Small};
 ghost use Rattle.run_model.specs.Allowed.{IsPrefix, after};
 ghost use Rattle.run_model.specs.Event as event;
 ghost use Rattle.run_model.specs.State.{State, formatted};
-ghost use Rattle.book_model.specs.Examples.Nights.{new_store, reopened, state_of, stopped_night};
+ghost use Rattle.book_model.specs.Examples.Nights.{new_store, reopened, state_of, crashed_night};
 ghost use Rattle.book_model.specs.Examples.Runs.{at_seven, at_eight, two_advances};
 
 /// Every state allows a restart. A start is allowed only of the ready task with the lowest number.
 pub fn a_restart_is_always_allowed()
     ensures first { after (formatted Small) event.Restart ≡ Some new_store.state }
-    ensures again { after (state_of stopped_night) event.Restart
-        ≡ Some (reopened 1 stopped_night) }
+    ensures again { after (state_of crashed_night) event.Restart
+        ≡ Some (reopened 1 crashed_night) }
     ensures start { after new_store.state (event.Start 0) ≡ None }
 {}
 

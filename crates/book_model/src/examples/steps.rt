@@ -40,7 +40,7 @@ pub fn a_flush_is_done()
 /// The answer to the first of the three commands is scope 1 and no other, and after it the book has
 /// the event.
 pub fn a_command_is_answered_as_its_session_says()
-    ensures told { (new : BookView Counts) → AnswersStep state_of new_book first_command
+    ensures reported { (new : BookView Counts) → AnswersStep state_of new_book first_command
         (scope_made 2) new → ⊥ }
     ensures taken { AnswersStep state_of new_book first_command (scope_made 1) new_book → ⊥ }
 {}
@@ -76,7 +76,7 @@ pub fn a_flush_fails()
 /// A crash comes between two calls, or during the second one. The first call acknowledged three
 /// events, and the second one accepts two more. The state that is left has four, five or six
 /// events, including the opening.
-pub fn a_stop_comes_between_two_calls()
+pub fn a_crash_comes_between_two_calls()
     ensures acknowledged { acknowledged new_store first_call first_replies ≡ first_events }
     ensures accepted { accepted new_store
         (taken (first_call ++ second_call) (first_replies ++ second_replies))
@@ -98,7 +98,7 @@ pub fn a_disk_of_another_size_is_no_store()
 /// If the size is right, refused memory is reported before the first call, and a first read that
 /// fails is counted. Before any read, no fault of the bytes can be reported, and a failed device
 /// only if the disk is spent.
-pub fn a_recovery_is_told_by_its_reads()
+pub fn a_recovery_is_reported_by_its_reads()
     ensures memory { (d : Counts) → Recovers state_of d (Err Memory) d }
     ensures failed { (calls failures : ℕ) → Recovers state_of
         (record { calls = calls; failures = failures }) (Err DiskFailed)

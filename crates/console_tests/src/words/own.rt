@@ -79,6 +79,6 @@ fn shown_of(alloc: Global, words: &'static [&'static [u8]]) -> Result<String, Al
 #[test]
 fn a_word_that_is_no_text_is_refused(rt: HostRuntime) {
     let shown = done(&rt, shown_of(rt.alloc(), &NO_TEXT), "memory");
-    let is_told = shown.as_str() == "error: a word is no text in UTF-8\n";
-    holds(&rt, is_told, "text", 0);
+    let is_reported = shown.as_str() == "error: a word is no text in UTF-8\n";
+    holds(&rt, is_reported, "text", 0);
 }

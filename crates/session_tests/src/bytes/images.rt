@@ -92,9 +92,9 @@ pub fn read_again(
 ) -> Result<(ImageVersion, bool), Fault> {
     let (state, version) = read(alloc, layout, image)?;
     let mut out = room(rt, alloc);
-    let told = (version, is_written(&state, &mut out, again));
+    let reported = (version, is_written(&state, &mut out, again));
     drop(state);
-    Ok(told)
+    Ok(reported)
 }
 
 /// Says whether these bytes are read as an image of version 2, and written again.

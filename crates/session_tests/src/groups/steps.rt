@@ -45,7 +45,7 @@ pub enum Step {
     /// What is seen of a group.
     Look(u16, Seen),
     /// How many tasks of a group are unfinished, and whether one more would be ready.
-    Seats(u16, u16, bool),
+    GroupCounts(u16, u16, bool),
     /// How many tasks are running.
     Running(usize),
     /// A task's argument, and the task that it retries.
@@ -103,11 +103,11 @@ fn is_seen<A: Allocator>(groups: &Groups<A>, group: u16, seen: Seen) -> bool {
 }
 
 /// How many tasks of a group are unfinished, and whether one more would be ready.
-fn seats<A: Allocator>(groups: &Groups<A>, group: u16) -> Option<(u16, bool)> {
+fn counts<A: Allocator>(groups: &Groups<A>, group: u16) -> Option<(u16, bool)> {
     if groups.group_count() <= group as usize {
         return None;
     }
-    Some((groups.unfinished(group), groups.has_seat(group)))
+    Some((groups.unfinished(group), groups.admits_more(group)))
 }
 
 /// Says whether a task is of this argument, and retries this task.
@@ -156,7 +156,9 @@ fn is_shown<A: Allocator>(groups: &Groups<A>, step: Step) -> bool {
     match step {
         Step::Phases(phases) => are_at(groups, phases),
         Step::Look(group, seen) => is_seen(groups, group, seen),
-        Step::Seats(group, unfinished, seat) => { seats(groups, group) == Some((unfinished, seat)) }
+        Step::GroupCounts(group, unfinished, more) => {
+            counts(groups, group) == Some((unfinished, more))
+        }
         Step::Running(count) => groups.running() == count,
         Step::Again(task, argument, of) => is_again(groups, task, argument, of),
         Step::Groups(layout, count, scope) => are_groups(groups, layout, count, scope),
@@ -171,7 +173,7 @@ fn is_shown<A: Allocator>(groups: &Groups<A>, step: Step) -> bool {
 fn is_so<A: Allocator>(rt: &impl Abort, groups: &mut Groups<A>, step: Step) -> bool {
     match step {
         Step::Is(call, reply) => answer(rt, groups, call) == reply,
-        Step::Restart(told) => groups.restart().as_slice() == told,
+        Step::Restart(reported) => groups.restart().as_slice() == reported,
         _ => is_shown(groups, step),
     }
 }

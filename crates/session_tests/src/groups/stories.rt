@@ -3,7 +3,7 @@
 use crate::asserts::holds;
 use crate::groups::calls::Call::{Go, Limit, Lose, Make, Retry, Start, Succeed, Try, Wait};
 use crate::groups::steps::Step::{
-    Absent, Again, Groups, Is, Look, Names, Phases, Restart, Room, Running, Seats,
+    Absent, Again, GroupCounts, Groups, Is, Look, Names, Phases, Restart, Room, Running,
 };
 use crate::groups::steps::{At, Step, begun, play};
 use run_model::{Layout, Refusal};
@@ -39,10 +39,10 @@ static LIMITS: [Story; 3] = [
             Is(Limit(0, Some(3)), Err(Refusal::LimitWhileActive)),
             Phases(&[At::Success, At::Ready, At::Ready]),
             Look(0, (2, Some(2), false, None)),
-            Seats(0, 2, false),
+            GroupCounts(0, 2, false),
             Is(Start, Ok(Some(1))),
             Is(Succeed(1), Ok(None)),
-            Seats(0, 1, true),
+            GroupCounts(0, 1, true),
         ],
     ),
     (

@@ -7,7 +7,7 @@ use run_model::{Layout, Refusal};
 use std::alloc::Global;
 use std::process::Abort;
 use test_fixtures::Call::{Bare, Derive, Go, Group, Start, Succeed, Try, Wait};
-use test_fixtures::{Ask, Said};
+use test_fixtures::{Ask, Replied};
 
 /// There is room for no scope.
 static NO_SCOPES_LEFT: [Step; 2] = [
@@ -19,7 +19,7 @@ static NO_SCOPES_LEFT: [Step; 2] = [
         ),
         (Group(b"more", b"root"), Refusal::TooManyScopes),
     ]),
-    Says(&[(Bare(b"more", b"root"), Said::Group(0, None))]),
+    Says(&[(Bare(b"more", b"root"), Replied::Group(0, None))]),
 ];
 
 /// Asserts that there are so many scopes, root beside as many as this.
@@ -37,7 +37,7 @@ fn there_are_1_024_scopes_or_4_096(rt: HostRuntime) {
 }
 
 static MOST_GROUPS: [Step; 3] = [
-    Says(&[(Group(b"g", b"root"), Said::Group(0, Some(1)))]),
+    Says(&[(Group(b"g", b"root"), Replied::Group(0, Some(1)))]),
     Fills(Fill::Groups(1, 127)),
     Refuses(&[
         (Bare(b"more", b"root"), Refusal::TooManyGroups),
@@ -54,7 +54,7 @@ fn there_are_128_groups(rt: HostRuntime) {
 }
 
 static REFUSED_GROUPS: [Step; 7] = [
-    Says(&[(Group(b"both", b"root"), Said::Group(0, Some(1)))]),
+    Says(&[(Group(b"both", b"root"), Replied::Group(0, Some(1)))]),
     Fills(Fill::Groups(1, 126)),
     // No parent, before a name that is a scope's, a group's, or both.
     Refuses(&[
@@ -105,9 +105,9 @@ fn room_for_groups_is_asked_last(rt: HostRuntime) {
 
 static MOST_TASKS: [Step; 4] = [
     Says(&[
-        (Bare(b"g", b"root"), Said::Group(0, None)),
-        (Bare(b"h", b"root"), Said::Group(1, None)),
-        (Wait(b"h"), Said::Waited(None)),
+        (Bare(b"g", b"root"), Replied::Group(0, None)),
+        (Bare(b"h", b"root"), Replied::Group(1, None)),
+        (Wait(b"h"), Replied::Waited(None)),
     ]),
     Fills(Fill::Tasks(2_048)),
     Refuses(&[
@@ -118,11 +118,11 @@ static MOST_TASKS: [Step; 4] = [
         (Wait(b"g"), Refusal::Unfinished(2_048)),
     ]),
     Says(&[
-        (Start, Said::Started(2_053, 0, b"copy", b"a", false)),
-        (Succeed(0), Said::Finished(2_054)),
+        (Start, Replied::Started(2_053, 0, b"copy", b"a", false)),
+        (Succeed(0), Replied::Finished(2_054)),
         (
             Go(b"g", b"copy", b"a"),
-            Said::Refused(Refusal::TooManyTasks),
+            Replied::Refused(Refusal::TooManyTasks),
         ),
     ]),
 ];

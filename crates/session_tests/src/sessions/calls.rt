@@ -4,7 +4,7 @@ use run_model::{Refusal, Reply, Step};
 use run_session::Session;
 use std::alloc::Allocator;
 use std::process::Abort;
-use test_fixtures::{Call, Said, answered, finished, said_by, started, step_of};
+use test_fixtures::{Call, Replied, answered, finished, replied_by, started, step_of};
 
 /// Makes a call, which is one of a session's.
 pub fn reply<A: Allocator>(rt: &impl Abort, session: &mut Session<A>, call: Call) -> Reply {
@@ -20,10 +20,10 @@ pub fn reply<A: Allocator>(rt: &impl Abort, session: &mut Session<A>, call: Call
 pub fn first_unlike<A: Allocator>(
     rt: &impl Abort,
     session: &mut Session<A>,
-    rows: &[(Call, Said<'static>)],
+    rows: &[(Call, Replied<'static>)],
 ) -> Option<usize> {
     for (n, row) in rows.iter().enumerate() {
-        if said_by(&reply(rt, session, row.0)) != row.1 {
+        if replied_by(&reply(rt, session, row.0)) != row.1 {
             return Some(n);
         }
     }
@@ -38,7 +38,7 @@ pub fn first_unrefused<A: Allocator>(
 ) -> Option<usize> {
     let before = (session.count(), session.log_len());
     for (n, row) in rows.iter().enumerate() {
-        let refused = said_by(&reply(rt, session, row.0)) == Said::Refused(row.1);
+        let refused = replied_by(&reply(rt, session, row.0)) == Replied::Refused(row.1);
         if !refused || (session.count(), session.log_len()) != before {
             return Some(n);
         }

@@ -4,7 +4,7 @@ use crate::sessions::steps::Step::{Count, Refuses, Says, Scopes};
 use crate::sessions::steps::{Step, play};
 use run_model::Refusal;
 use test_fixtures::Call::{Advance, Cancel, Derive};
-use test_fixtures::{Ask, Said, Seen};
+use test_fixtures::{Ask, Replied, Seen};
 
 /// The text of a deadline's reason.
 const EXCEEDED: &[u8] = b"context deadline exceeded";
@@ -13,10 +13,13 @@ static EQUAL_DEADLINES: [Step; 3] = [
     Says(&[
         (
             Derive(b"p", b"root", Ask::Deadline(100, b"p")),
-            Said::Scope(1),
+            Replied::Scope(1),
         ),
-        (Derive(b"c", b"p", Ask::Deadline(100, b"c")), Said::Scope(2)),
-        (Advance(200), Said::Done),
+        (
+            Derive(b"c", b"p", Ask::Deadline(100, b"c")),
+            Replied::Scope(2),
+        ),
+        (Advance(200), Replied::Done),
     ]),
     Scopes(&[
         (1, Seen::Exceeded(b"p"), Some(100)),
@@ -34,10 +37,13 @@ static CHILD_EARLIER: [Step; 3] = [
     Says(&[
         (
             Derive(b"p", b"root", Ask::Deadline(150, b"p")),
-            Said::Scope(1),
+            Replied::Scope(1),
         ),
-        (Derive(b"c", b"p", Ask::Deadline(100, b"c")), Said::Scope(2)),
-        (Advance(200), Said::Done),
+        (
+            Derive(b"c", b"p", Ask::Deadline(100, b"c")),
+            Replied::Scope(2),
+        ),
+        (Advance(200), Replied::Done),
     ]),
     Scopes(&[
         (1, Seen::Exceeded(b"p"), Some(150)),
@@ -56,13 +62,13 @@ const NOW: u64 = 1_704_074_400;
 
 static AT_THE_CLOCK: [Step; 3] = [
     Says(&[
-        (Advance(NOW), Said::Done),
-        (Derive(b"t", b"root", Ask::Timeout(0)), Said::Scope(1)),
+        (Advance(NOW), Replied::Done),
+        (Derive(b"t", b"root", Ask::Timeout(0)), Replied::Scope(1)),
         (
             Derive(b"u", b"root", Ask::Deadline(NOW, b"")),
-            Said::Scope(2),
+            Replied::Scope(2),
         ),
-        (Advance(NOW), Said::Refused(Refusal::ClockNotForward)),
+        (Advance(NOW), Replied::Refused(Refusal::ClockNotForward)),
     ]),
     Scopes(&[
         (1, Seen::Exceeded(EXCEEDED), Some(NOW)),
@@ -80,16 +86,25 @@ static SEVERAL_DEADLINES: [Step; 4] = [
     Says(&[
         (
             Derive(b"a", b"root", Ask::Deadline(300, b"a")),
-            Said::Scope(1),
+            Replied::Scope(1),
         ),
-        (Derive(b"b", b"a", Ask::Deadline(100, b"b")), Said::Scope(2)),
-        (Derive(b"c", b"b", Ask::Deadline(200, b"c")), Said::Scope(3)),
+        (
+            Derive(b"b", b"a", Ask::Deadline(100, b"b")),
+            Replied::Scope(2),
+        ),
+        (
+            Derive(b"c", b"b", Ask::Deadline(200, b"c")),
+            Replied::Scope(3),
+        ),
         (
             Derive(b"d", b"root", Ask::Deadline(250, b"d")),
-            Said::Scope(4),
+            Replied::Scope(4),
         ),
-        (Derive(b"e", b"d", Ask::Deadline(50, b"e")), Said::Scope(5)),
-        (Advance(250), Said::Done),
+        (
+            Derive(b"e", b"d", Ask::Deadline(50, b"e")),
+            Replied::Scope(5),
+        ),
+        (Advance(250), Replied::Done),
     ]),
     Scopes(&[
         (1, Seen::Live, Some(300)),
@@ -98,7 +113,7 @@ static SEVERAL_DEADLINES: [Step; 4] = [
         (4, Seen::Exceeded(b"d"), Some(250)),
         (5, Seen::Exceeded(b"e"), Some(50)),
     ]),
-    Says(&[(Advance(300), Said::Done)]),
+    Says(&[(Advance(300), Replied::Done)]),
     Scopes(&[
         (1, Seen::Exceeded(b"a"), Some(300)),
         (3, Seen::Exceeded(b"b"), Some(100)),
@@ -114,11 +129,11 @@ static CANCELLED_FIRST: [Step; 2] = [
     Says(&[
         (
             Derive(b"t", b"root", Ask::Deadline(100, b"late")),
-            Said::Scope(1),
+            Replied::Scope(1),
         ),
-        (Cancel(b"t", b"x"), Said::Refused(Refusal::CauseNotTaken)),
-        (Cancel(b"t", b""), Said::Done),
-        (Advance(200), Said::Done),
+        (Cancel(b"t", b"x"), Replied::Refused(Refusal::CauseNotTaken)),
+        (Cancel(b"t", b""), Replied::Done),
+        (Advance(200), Replied::Done),
     ]),
     Scopes(&[(1, Seen::Canceled(b"context canceled"), Some(100))]),
 ];
@@ -132,7 +147,7 @@ fn a_cancelled_deadline_stays_cancelled(rt: HostRuntime) {
 const PAST: Ask = Ask::Timeout(252_999_999_001);
 
 static LONG_TIMEOUTS: [Step; 4] = [
-    Says(&[(Advance(1_000), Said::Done)]),
+    Says(&[(Advance(1_000), Replied::Done)]),
     // The clock and these seconds: past the greatest moment by 1, and past every number. What
     // comes before is asked first.
     Refuses(&[
@@ -147,9 +162,9 @@ static LONG_TIMEOUTS: [Step; 4] = [
     Says(&[
         (
             Derive(b"t", b"root", Ask::Timeout(252_999_999_000)),
-            Said::Scope(1),
+            Replied::Scope(1),
         ),
-        (Advance(253_000_000_000), Said::Done),
+        (Advance(253_000_000_000), Replied::Done),
     ]),
     Scopes(&[(1, Seen::Exceeded(EXCEEDED), Some(253_000_000_000))]),
 ];

@@ -5,7 +5,7 @@ use run_model::{Command, Wish};
 use run_session::Session;
 use std::alloc::Allocator;
 use std::process::Abort;
-use test_fixtures::{Call, Said, answered, command_of, said_by};
+use test_fixtures::{Call, Replied, answered, command_of, replied_by};
 
 /// Many calls of one kind.
 #[derive(Clone, Copy)]
@@ -51,12 +51,12 @@ fn command(rt: &impl Abort, fill: Fill, number: u16, second: u64) -> Command {
 }
 
 /// What the call of a number is answered.
-fn said(fill: Fill, number: u16) -> Said<'static> {
+fn replied(fill: Fill, number: u16) -> Replied<'static> {
     match fill {
-        Fill::Again(_, _) | Fill::Advances(_) => Said::Done,
-        Fill::Scopes(_, _) => Said::Scope(number),
-        Fill::Groups(_, _) => Said::Group(number, None),
-        Fill::Tasks(_) => Said::Ready(number),
+        Fill::Again(_, _) | Fill::Advances(_) => Replied::Done,
+        Fill::Scopes(_, _) => Replied::Scope(number),
+        Fill::Groups(_, _) => Replied::Group(number, None),
+        Fill::Tasks(_) => Replied::Ready(number),
     }
 }
 
@@ -70,7 +70,7 @@ pub fn first_unfilled<A: Allocator>(
     for n in first..=last {
         let number = n.min(65_535) as u16;
         let reply = answered(session.command(&command(rt, fill, number, n)));
-        if said_by(&reply) != said(fill, number) {
+        if replied_by(&reply) != replied(fill, number) {
             return Some(n as usize);
         }
     }

@@ -8,7 +8,7 @@ use run_model::Refusal;
 use test_fixtures::Call::{
     Advance, Bare, Cancel, Derive, Fail, Go, Group, Limit, Start, Succeed, Try, Wait,
 };
-use test_fixtures::{Ask, Said};
+use test_fixtures::{Ask, Replied};
 
 static RECORDS: [Step; 3] = [
     Appends(&[
@@ -50,13 +50,13 @@ fn each_accepted_call_appends_its_record(rt: HostRuntime) {
 
 static NO_RECORDS: [Step; 3] = [
     Says(&[
-        (Bare(b"h", b"root"), Said::Group(0, None)),
-        (Wait(b"h"), Said::Waited(None)),
-        (Wait(b"h"), Said::Waited(None)),
-        (Go(b"h", b"copy", b"a"), Said::Refused(Refusal::Waited)),
-        (Succeed(0), Said::Refused(Refusal::NoSuchTask)),
-        (Start, Said::Refused(Refusal::NothingReady)),
-        (Advance(0), Said::Refused(Refusal::ClockNotForward)),
+        (Bare(b"h", b"root"), Replied::Group(0, None)),
+        (Wait(b"h"), Replied::Waited(None)),
+        (Wait(b"h"), Replied::Waited(None)),
+        (Go(b"h", b"copy", b"a"), Replied::Refused(Refusal::Waited)),
+        (Succeed(0), Replied::Refused(Refusal::NoSuchTask)),
+        (Start, Replied::Refused(Refusal::NothingReady)),
+        (Advance(0), Replied::Refused(Refusal::ClockNotForward)),
     ]),
     Log(12),
     Count(3),
@@ -71,11 +71,11 @@ static HISTORY: [Step; 3] = [
     // The opening has no record.
     Events(&[]),
     Says(&[
-        (Derive(b"t", b"root", Ask::Timeout(30)), Said::Scope(1)),
-        (Group(b"g", b"t"), Said::Group(0, Some(2))),
-        (Go(b"g", b"copy", b"a"), Said::Ready(0)),
-        (Start, Said::Started(5, 0, b"copy", b"a", false)),
-        (Fail(0, b"x"), Said::Finished(6)),
+        (Derive(b"t", b"root", Ask::Timeout(30)), Replied::Scope(1)),
+        (Group(b"g", b"t"), Replied::Group(0, Some(2))),
+        (Go(b"g", b"copy", b"a"), Replied::Ready(0)),
+        (Start, Replied::Started(5, 0, b"copy", b"a", false)),
+        (Fail(0, b"x"), Replied::Finished(6)),
     ]),
     Events(&[
         EventView::Derive {

@@ -9,7 +9,7 @@ use run_session::{Session, State};
 use std::alloc::Global;
 use std::process::Abort;
 use test_fixtures::Call::{Bare, Go, Group, Limit, Retry, Start, Succeed, Wait};
-use test_fixtures::{Call, Going, Said, Seen, command_of};
+use test_fixtures::{Call, Going, Replied, Seen, command_of};
 
 /// Changes a state by what a command asks for.
 fn obey(state: &mut State, command: &Command) -> Result<(), Refusal> {
@@ -67,22 +67,22 @@ static ONE_RETRY: [Step; 10] = [
     Step::Group(b"g", (1, 1, Some(1), false, Some(b"interrupted"))),
     Count(7),
     Says(&[
-        (Retry(0), Said::Held(2)),
-        (Retry(0), Said::Refused(Refusal::AlreadyRetried)),
-        (Retry(1), Said::Refused(Refusal::NotInterrupted)),
-        (Retry(3), Said::Refused(Refusal::NoSuchTask)),
+        (Retry(0), Replied::Held(2)),
+        (Retry(0), Replied::Refused(Refusal::AlreadyRetried)),
+        (Retry(1), Replied::Refused(Refusal::NotInterrupted)),
+        (Retry(3), Replied::Refused(Refusal::NoSuchTask)),
     ]),
     Tasks(&[Going::Interrupted, Going::Ready, Going::Held]),
     Task((2, b"copy", b"a", Some(0))),
     Count(8),
     Records(b"\x0c\x00\x02\x00\x00"),
     Says(&[
-        (Start, Said::Started(9, 1, b"copy", b"b", true)),
-        (Succeed(1), Said::Finished(10)),
-        (Start, Said::Started(11, 2, b"copy", b"a", true)),
-        (Succeed(2), Said::Finished(12)),
-        (Wait(b"g"), Said::Waited(Some(b"interrupted"))),
-        (Retry(0), Said::Refused(Refusal::AlreadyRetried)),
+        (Start, Replied::Started(9, 1, b"copy", b"b", true)),
+        (Succeed(1), Replied::Finished(10)),
+        (Start, Replied::Started(11, 2, b"copy", b"a", true)),
+        (Succeed(2), Replied::Finished(12)),
+        (Wait(b"g"), Replied::Waited(Some(b"interrupted"))),
+        (Retry(0), Replied::Refused(Refusal::AlreadyRetried)),
     ]),
 ];
 
@@ -118,9 +118,9 @@ static THREE_ENDED: [Step; 7] = [
     ]),
     Running(0),
     Says(&[
-        (Wait(b"j"), Said::Waited(Some(b"interrupted"))),
-        (Retry(3), Said::Refused(Refusal::Waited)),
-        (Retry(2), Said::Ready(5)),
+        (Wait(b"j"), Replied::Waited(Some(b"interrupted"))),
+        (Retry(3), Replied::Refused(Refusal::Waited)),
+        (Retry(2), Replied::Ready(5)),
     ]),
 ];
 
@@ -133,11 +133,11 @@ fn a_restart_ends_each_group_that_has_a_running_task(rt: HostRuntime) {
 
 static NO_RETRIES: [Step; 4] = [
     Says(&[
-        (Group(b"g", b"root"), Said::Group(0, Some(1))),
-        (Go(b"g", b"copy", b"a"), Said::Ready(0)),
+        (Group(b"g", b"root"), Replied::Group(0, Some(1))),
+        (Go(b"g", b"copy", b"a"), Replied::Ready(0)),
     ]),
     Refuses(&[(Retry(0), Refusal::NotInterrupted)]),
-    Says(&[(Start, Said::Started(4, 0, b"copy", b"a", false))]),
+    Says(&[(Start, Replied::Started(4, 0, b"copy", b"a", false))]),
     Refuses(&[
         (Retry(0), Refusal::NotInterrupted),
         (Retry(1), Refusal::NoSuchTask),

@@ -10,7 +10,7 @@ use run_session::{Session, State};
 use std::alloc::Global;
 use std::process::Abort;
 use test_fixtures::Call::{Advance, Bare, Cancel, Derive, Go, Group, Limit, Start, Try, Wait};
-use test_fixtures::{Ask, Call, Going, Said, Seen};
+use test_fixtures::{Ask, Call, Going, Replied, Seen};
 
 /// How many bytes a state alone takes of a heap.
 fn bytes_of_a_state(rt: &impl Abort, heap: &LocalHeap) -> usize {
@@ -57,23 +57,23 @@ fn each_growth_can_be_refused(rt: HostRuntime) {
 
 static ALL_CALLS: [Step; 4] = [
     Says(&[
-        (Derive(b"a", b"root", Ask::Cause), Said::Scope(1)),
+        (Derive(b"a", b"root", Ask::Cause), Replied::Scope(1)),
         (
             Derive(b"v", b"a", Ask::Value(b"region", b"eu")),
-            Said::Scope(2),
+            Replied::Scope(2),
         ),
-        (Cancel(b"a", b"disk"), Said::Done),
-        (Cancel(b"a", b""), Said::Refused(Refusal::AlreadyDone)),
-        (Advance(5), Said::Done),
-        (Group(b"g", b"root"), Said::Group(0, Some(3))),
-        (Bare(b"h", b"a"), Said::Group(1, None)),
-        (Limit(b"g", Some(1)), Said::Done),
-        (Go(b"g", b"copy", b"a"), Said::Ready(0)),
-        (Go(b"g", b"copy", b"b"), Said::Held(1)),
-        (Try(b"h", b"copy", b"c"), Said::Ready(2)),
-        (Start, Said::Started(12, 0, b"copy", b"a", false)),
-        (Call::Fail(0, b"x"), Said::Finished(13)),
-        (Wait(b"g"), Said::Refused(Refusal::Unfinished(1))),
+        (Cancel(b"a", b"disk"), Replied::Done),
+        (Cancel(b"a", b""), Replied::Refused(Refusal::AlreadyDone)),
+        (Advance(5), Replied::Done),
+        (Group(b"g", b"root"), Replied::Group(0, Some(3))),
+        (Bare(b"h", b"a"), Replied::Group(1, None)),
+        (Limit(b"g", Some(1)), Replied::Done),
+        (Go(b"g", b"copy", b"a"), Replied::Ready(0)),
+        (Go(b"g", b"copy", b"b"), Replied::Held(1)),
+        (Try(b"h", b"copy", b"c"), Replied::Ready(2)),
+        (Start, Replied::Started(12, 0, b"copy", b"a", false)),
+        (Call::Fail(0, b"x"), Replied::Finished(13)),
+        (Wait(b"g"), Replied::Refused(Refusal::Unfinished(1))),
     ]),
     Scopes(&[(2, Seen::Canceled(b"disk"), None)]),
     Value(2, b"region", Some(b"eu")),

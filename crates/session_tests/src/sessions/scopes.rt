@@ -8,14 +8,14 @@ use run_model::{Layout, Name, Refusal};
 use run_session::State;
 use std::process::Abort;
 use test_fixtures::Call::{Advance, Cancel, Derive};
-use test_fixtures::{Ask, Said, Seen};
+use test_fixtures::{Ask, Replied, Seen};
 
 static CANCELLED_PARENT: [Step; 2] = [
     Says(&[
-        (Derive(b"a", b"root", Ask::Cause), Said::Scope(1)),
-        (Derive(b"b", b"a", Ask::Cancel), Said::Scope(2)),
-        (Cancel(b"a", b"disk"), Said::Done),
-        (Derive(b"c", b"b", Ask::Cause), Said::Scope(3)),
+        (Derive(b"a", b"root", Ask::Cause), Replied::Scope(1)),
+        (Derive(b"b", b"a", Ask::Cancel), Replied::Scope(2)),
+        (Cancel(b"a", b"disk"), Replied::Done),
+        (Derive(b"c", b"b", Ask::Cause), Replied::Scope(3)),
     ]),
     Scopes(&[
         (0, Seen::Live, None),
@@ -32,12 +32,12 @@ fn a_cancel_reaches_the_scopes_below(rt: HostRuntime) {
 
 static CHILD_FIRST: [Step; 2] = [
     Says(&[
-        (Derive(b"a", b"root", Ask::Cause), Said::Scope(1)),
-        (Derive(b"b", b"a", Ask::Cause), Said::Scope(2)),
-        (Derive(b"c", b"root", Ask::Cause), Said::Scope(3)),
-        (Cancel(b"b", b"first"), Said::Done),
-        (Cancel(b"a", b"second"), Said::Done),
-        (Cancel(b"c", b""), Said::Done),
+        (Derive(b"a", b"root", Ask::Cause), Replied::Scope(1)),
+        (Derive(b"b", b"a", Ask::Cause), Replied::Scope(2)),
+        (Derive(b"c", b"root", Ask::Cause), Replied::Scope(3)),
+        (Cancel(b"b", b"first"), Replied::Done),
+        (Cancel(b"a", b"second"), Replied::Done),
+        (Cancel(b"c", b""), Replied::Done),
     ]),
     Scopes(&[
         (1, Seen::Canceled(b"second"), None),
@@ -52,8 +52,8 @@ fn a_scope_that_is_done_stays_as_it_ended(rt: HostRuntime) {
 }
 
 static ONE_SCOPE: [Step; 1] = [Says(&[
-    (Derive(b"a", b"root", Ask::Cause), Said::Scope(1)),
-    (Advance(7), Said::Done),
+    (Derive(b"a", b"root", Ask::Cause), Replied::Scope(1)),
+    (Advance(7), Replied::Done),
 ])];
 
 /// The numbers of a scope and of a group of this name.
@@ -114,8 +114,8 @@ static REFUSED_IN_ORDER: [Step; 3] = [
         (Advance(0), Refusal::ClockNotForward),
     ]),
     Says(&[
-        (Derive(b"a", b"root", Ask::Cancel), Said::Scope(1)),
-        (Cancel(b"a", b""), Said::Done),
+        (Derive(b"a", b"root", Ask::Cancel), Replied::Scope(1)),
+        (Cancel(b"a", b""), Replied::Done),
     ]),
     Refuses(&[
         (Cancel(b"a", b"x"), Refusal::CauseNotTaken),
@@ -132,14 +132,14 @@ static DETACHED_PART: [Step; 3] = [
     Says(&[
         (
             Derive(b"v", b"root", Ask::Value(b"region", b"eu")),
-            Said::Scope(1),
+            Replied::Scope(1),
         ),
-        (Derive(b"x", b"v", Ask::Cause), Said::Scope(2)),
-        (Derive(b"d", b"x", Ask::Detached), Said::Scope(3)),
-        (Derive(b"k", b"d", Ask::Cancel), Said::Scope(4)),
-        (Cancel(b"x", b"stop"), Said::Done),
-        (Cancel(b"v", b""), Said::Refused(Refusal::NotCancellable)),
-        (Cancel(b"d", b""), Said::Refused(Refusal::NotCancellable)),
+        (Derive(b"x", b"v", Ask::Cause), Replied::Scope(2)),
+        (Derive(b"d", b"x", Ask::Detached), Replied::Scope(3)),
+        (Derive(b"k", b"d", Ask::Cancel), Replied::Scope(4)),
+        (Cancel(b"x", b"stop"), Replied::Done),
+        (Cancel(b"v", b""), Replied::Refused(Refusal::NotCancellable)),
+        (Cancel(b"d", b""), Replied::Refused(Refusal::NotCancellable)),
     ]),
     Scopes(&[
         (2, Seen::Canceled(b"stop"), None),
@@ -158,15 +158,15 @@ static NEAREST_VALUES: [Step; 7] = [
     Says(&[
         (
             Derive(b"far", b"root", Ask::Value(b"region", b"eu")),
-            Said::Scope(1),
+            Replied::Scope(1),
         ),
         (
             Derive(b"near", b"far", Ask::Value(b"region", b"us")),
-            Said::Scope(2),
+            Replied::Scope(2),
         ),
         (
             Derive(b"other", b"near", Ask::Value(b"zone", b"1")),
-            Said::Scope(3),
+            Replied::Scope(3),
         ),
     ]),
     // There is no scope 4.

@@ -13,13 +13,13 @@ use run_model::{Layout, Refusal};
 use run_session::Session;
 use std::alloc::{Allocator, Global};
 use std::process::Abort;
-use test_fixtures::{Call, Going, GroupSeen, Said};
+use test_fixtures::{Call, Going, GroupSeen, Replied};
 
 /// A step of a test.
 #[derive(Clone, Copy)]
 pub enum Step {
     /// Calls, and what each is answered.
-    Says(&'static [(Call, Said<'static>)]),
+    Says(&'static [(Call, Replied<'static>)]),
     /// Calls, each of which is refused so and changes nothing.
     Refuses(&'static [(Call, Refusal)]),
     /// Calls, each with the record that it appends.

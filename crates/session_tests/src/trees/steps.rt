@@ -78,13 +78,13 @@ fn derive<A: Allocator>(
 /// Takes a step, and says why it was refused, if it was. A scope that is derived has the next
 /// number.
 pub fn take<A: Allocator>(rt: &impl Abort, runner: &mut Runner<A>, step: Step) -> Option<Refusal> {
-    let told = match step {
+    let reported = match step {
         Step::Derive(called, parent, ask) => derive(rt, runner, called, parent, ask),
         Step::Cancel(s, bytes) => runner.cancel(s, cause(rt, bytes).as_ref()),
         Step::HitGroups(a, b, bytes) => runner.hit_groups(a, b, cause(rt, bytes).as_ref()),
         Step::Advance(seconds) => runner.advance(moment(rt, seconds)),
     };
-    told.err()
+    reported.err()
 }
 
 /// Takes each step, of which none is refused.
@@ -102,8 +102,8 @@ pub fn refuse_all<A: Allocator>(
     what: &str,
 ) {
     for (n, (step, refusal)) in steps.iter().enumerate() {
-        let told = take(rt, runner, *step);
-        holds_in(rt, told == Some(*refusal), what, "refused step", n);
+        let reported = take(rt, runner, *step);
+        holds_in(rt, reported == Some(*refusal), what, "refused step", n);
     }
 }
 

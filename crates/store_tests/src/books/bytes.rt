@@ -12,7 +12,7 @@ use run_model::Layout;
 use std::alloc::Global;
 use std::process::Abort;
 use test_fixtures::Call::Checkpoint;
-use test_fixtures::{Call, Said};
+use test_fixtures::{Call, Replied};
 
 /// A slot of generation 0 with root alone, before any event.
 pub const FORMATTED: &[u8; 36] = b"\xa7\0\0\0\0\0\0\0\0\0\0\0\x17\x02\0\0\0\0\0\0\0\0\
@@ -51,7 +51,7 @@ fn a_store_is_formatted_so(rt: HostRuntime) {
 fn assert_left(
     rt: &impl Abort,
     alloc: Global,
-    steps: &[&[(Call, Said<'static>)]],
+    steps: &[&[(Call, Replied<'static>)]],
     calls: u64,
     rows: &[At],
 ) {
@@ -85,7 +85,10 @@ fn two_flushes_leave_two_batches(rt: HostRuntime) {
     assert_left(&rt, rt.alloc(), &FLUSHED, 30, &FLUSHED_SO);
 }
 
-static CHECKPOINTED: [&[(Call, Said<'static>)]; 2] = [&FIRST, &[(Checkpoint, Said::Acked(4))]];
+static CHECKPOINTED: [&[(Call, Replied<'static>)]; 2] = [
+    &FIRST,
+    &[(Checkpoint, Replied::Acked(4))],
+];
 
 static CHECKPOINTED_SO: [At; 3] = [
     ("slot 0", 0, CANCELED),

@@ -6,7 +6,7 @@ use run_disk::RunDisk;
 use run_model::{Name, Reply, Step, Trouble};
 use std::alloc::{Allocator, Global};
 use std::process::Abort;
-use test_fixtures::{Call, Said, answered, finished, said_by, started, step_of};
+use test_fixtures::{Call, Replied, answered, finished, replied_by, started, step_of};
 
 pub fn name(rt: &impl Abort, bytes: &[u8]) -> Name {
     given(rt, Name::read(bytes), "name")
@@ -37,7 +37,11 @@ pub fn take<D: RunDisk, A: Allocator>(book: &mut Book<D, A>, step: &Step) -> Rep
 }
 
 /// The steps of tables, one after the other.
-pub fn steps_of(rt: &impl Abort, alloc: Global, lists: &[&[(Call, Said<'static>)]]) -> Vec<Step> {
+pub fn steps_of(
+    rt: &impl Abort,
+    alloc: Global,
+    lists: &[&[(Call, Replied<'static>)]],
+) -> Vec<Step> {
     let mut steps = Vec::new(alloc);
     for rows in lists.iter() {
         add_steps(rt, &mut steps, rows);
@@ -51,44 +55,44 @@ pub fn add(rt: &impl Abort, steps: &mut Vec<Step>, step: Step) {
 }
 
 /// Adds the steps of a table.
-pub fn add_steps(rt: &impl Abort, steps: &mut Vec<Step>, rows: &[(Call, Said<'static>)]) {
+pub fn add_steps(rt: &impl Abort, steps: &mut Vec<Step>, rows: &[(Call, Replied<'static>)]) {
     for row in rows.iter() {
         add(rt, steps, step(rt, row.0));
     }
 }
 
 /// Asserts that there is one reply for each step of the tables, which says what stands there.
-pub fn assert_replies(rt: &impl Abort, replies: &[Reply], lists: &[&[(Call, Said<'static>)]]) {
+pub fn assert_replies(rt: &impl Abort, replies: &[Reply], lists: &[&[(Call, Replied<'static>)]]) {
     let mut rest = replies;
     for rows in lists.iter() {
-        let (front, back) = rest.split_at_checked(rows.len()).expect(rt, "replies");
-        assert_rows(rt, front, rows);
+        let (prefix, back) = rest.split_at_checked(rows.len()).expect(rt, "replies");
+        assert_rows(rt, prefix, rows);
         rest = back;
     }
     holds(rt, rest.is_empty(), "replies too many", rest.len() as u64);
 }
 
 /// Asserts that the last replies are those of this table.
-pub fn assert_last(rt: &impl Abort, replies: &[Reply], rows: &[(Call, Said<'static>)]) {
-    let front = replies.len().checked_sub(rows.len()).expect(rt, "replies");
-    let (_, last) = replies.split_at_checked(front).expect(rt, "replies");
+pub fn assert_last(rt: &impl Abort, replies: &[Reply], rows: &[(Call, Replied<'static>)]) {
+    let prefix = replies.len().checked_sub(rows.len()).expect(rt, "replies");
+    let (_, last) = replies.split_at_checked(prefix).expect(rt, "replies");
     assert_rows(rt, last, rows);
 }
 
-fn assert_rows(rt: &impl Abort, replies: &[Reply], rows: &[(Call, Said<'static>)]) {
+fn assert_rows(rt: &impl Abort, replies: &[Reply], rows: &[(Call, Replied<'static>)]) {
     for (n, (reply, row)) in replies.iter().zip(rows.iter()).enumerate() {
-        holds(rt, said_by(reply) == row.1, "row", n as u64);
+        holds(rt, replied_by(reply) == row.1, "row", n as u64);
     }
 }
 
 /// Takes the steps of a table one by one, and asserts what each is answered.
-pub fn assert_said<D: RunDisk, A: Allocator>(
+pub fn assert_replied<D: RunDisk, A: Allocator>(
     rt: &impl Abort,
     book: &mut Book<D, A>,
-    rows: &[(Call, Said<'static>)],
+    rows: &[(Call, Replied<'static>)],
 ) {
     for (n, row) in rows.iter().enumerate() {
         let reply = take(book, &step(rt, row.0));
-        holds(rt, said_by(&reply) == row.1, "row", n as u64);
+        holds(rt, replied_by(&reply) == row.1, "row", n as u64);
     }
 }

@@ -13,22 +13,22 @@ use run_model::{Fault, Layout, Refusal, Step, Trouble};
 use std::alloc::Global;
 use std::process::Abort;
 use test_fixtures::Call::{Flush, Go, Group, Start, Succeed};
-use test_fixtures::{Call, Going, Said, going_at};
+use test_fixtures::{Call, Going, Replied, going_at};
 
 /// Two tasks, flushed, and a start of the first that is not.
-static FIRST: [(Call, Said<'static>); 5] = [
-    (Group(b"g", b"root"), Said::Group(0, Some(1))),
-    (Go(b"g", b"copy", b"a"), Said::Ready(0)),
-    (Go(b"g", b"copy", b"b"), Said::Ready(1)),
-    (Flush, Said::Acked(4)),
-    (Start, Said::Started(5, 0, b"copy", b"a", false)),
+static FIRST: [(Call, Replied<'static>); 5] = [
+    (Group(b"g", b"root"), Replied::Group(0, Some(1))),
+    (Go(b"g", b"copy", b"a"), Replied::Ready(0)),
+    (Go(b"g", b"copy", b"b"), Replied::Ready(1)),
+    (Flush, Replied::Acked(4)),
+    (Start, Replied::Started(5, 0, b"copy", b"a", false)),
 ];
 
 /// The second task, after two more openings: the first was interrupted, so its group's scope is
 /// done.
-static SECOND: [(Call, Said<'static>); 2] = [
-    (Start, Said::Started(8, 1, b"copy", b"b", true)),
-    (Succeed(1), Said::Finished(9)),
+static SECOND: [(Call, Replied<'static>); 2] = [
+    (Start, Replied::Started(8, 1, b"copy", b"b", true)),
+    (Succeed(1), Replied::Finished(9)),
 ];
 
 /// The rows of calls over a new store, and then over its disk, each with its replies.
@@ -97,7 +97,7 @@ fn stopped(rt: &impl Abort, alloc: Global, steps: &[Step], call: u64) -> Option<
 }
 
 #[test]
-fn a_row_of_calls_tells_why_it_stops(rt: HostRuntime) {
+fn a_row_of_calls_reports_why_it_stops(rt: HostRuntime) {
     let steps = steps_of(&rt, rt.alloc(), &[&FIRST]);
     for (call, wanted) in STOPPED.iter() {
         let why = stopped(&rt, rt.alloc(), &steps, *call);

@@ -4,7 +4,7 @@
 //! after so many reads, and nothing is written. That its memory is given back no clause says.
 
 use crate::asserts::{done, holds};
-use crate::books::disks::{AMPLE, counted, counted_on, heap, put, small_disk, told_by_opening};
+use crate::books::disks::{AMPLE, counted, counted_on, heap, put, reported_by_opening, small_disk};
 use crate::books::six_events::FIRST_BATCH;
 use crate::bytes::disk_of;
 use linked_list_allocator::LocalHeap;
@@ -183,7 +183,7 @@ static IN_TWO_PLACES: [Damage; 5] = [
 ];
 
 /// Asserts what each damage is told as, after images of this version.
-fn assert_told(rt: &impl Abort, alloc: Global, version: u8, rows: &[Damage]) {
+fn assert_reported(rt: &impl Abort, alloc: Global, version: u8, rows: &[Damage]) {
     for row in rows.iter() {
         let found = counted(rt, alloc, damaged(rt, alloc, version, row.1));
         holds(rt, found == row.2, row.0, version as u64);
@@ -191,12 +191,12 @@ fn assert_told(rt: &impl Abort, alloc: Global, version: u8, rows: &[Damage]) {
 }
 
 #[test]
-fn the_first_damage_is_told(rt: HostRuntime) {
+fn the_first_damage_is_reported(rt: HostRuntime) {
     for version in [1, 2] {
-        assert_told(&rt, rt.alloc(), version, &IN_SLOTS);
-        assert_told(&rt, rt.alloc(), version, &IN_IMAGES);
-        assert_told(&rt, rt.alloc(), version, &IN_SEGMENTS);
-        assert_told(&rt, rt.alloc(), version, &IN_TWO_PLACES);
+        assert_reported(&rt, rt.alloc(), version, &IN_SLOTS);
+        assert_reported(&rt, rt.alloc(), version, &IN_IMAGES);
+        assert_reported(&rt, rt.alloc(), version, &IN_SEGMENTS);
+        assert_reported(&rt, rt.alloc(), version, &IN_TWO_PLACES);
     }
 }
 
@@ -237,7 +237,7 @@ static UNOPENED: [(&'static str, Puts, Fault); 11] = [
 ];
 
 /// What a recovery of such a store tells: only what goes on from it needs numbers.
-fn told_by_recovery(fault: Fault) -> Result<u64, Fault> {
+fn reported_by_recovery(fault: Fault) -> Result<u64, Fault> {
     match fault {
         Fault::NumbersSpent => Ok(1 << 62),
         fault => Err(fault),
@@ -255,11 +255,11 @@ fn assert_nothing_left(
 ) -> MemoryDisk {
     let mut disk = disk_of(rt, alloc, damaged(rt, alloc, 2, row.1));
     let found = (counted_on(heap, &mut disk), heap.used());
-    holds(rt, found == (told_by_recovery(row.2), 0), row.0, 1);
-    let (told, new) = migrated(heap, &mut disk, new);
+    holds(rt, found == (reported_by_recovery(row.2), 0), row.0, 1);
+    let (reported, new) = migrated(heap, &mut disk, new);
     let old = Some(MigrateFault::Old(row.2));
-    holds(rt, (told, heap.used()) == (old, 0), row.0, 2);
-    let (fault, _calls) = told_by_opening(heap, disk);
+    holds(rt, (reported, heap.used()) == (old, 0), row.0, 2);
+    let (fault, _calls) = reported_by_opening(heap, disk);
     holds(rt, (fault, heap.used()) == (Some(row.2), 0), row.0, 3);
     new
 }

@@ -13,7 +13,7 @@ use run_disk::{MemoryDisk, RunDisk, Torn};
 use run_model::{Fault, Layout, Reply, Step};
 use std::alloc::{Allocator, Global};
 use std::process::Abort;
-use test_fixtures::{Call, Listing, Said};
+use test_fixtures::{Call, Listing, Replied};
 
 /// How a crash may tear what was not synced.
 pub static TEARS: [Torn; 6] = [
@@ -21,8 +21,8 @@ pub static TEARS: [Torn; 6] = [
     Torn::Take,
     Torn::Fill(0),
     Torn::Fill(0xA7),
-    Torn::Front(0),
-    Torn::Front(1),
+    Torn::Prefix(0),
+    Torn::Prefix(1),
 ];
 
 /// A disk of a layout's size, formatted by eight calls.
@@ -84,7 +84,7 @@ pub fn played_on<D: RunDisk + Drop>(
     rt: &impl Abort,
     alloc: Global,
     disk: D,
-    lists: &[&[(Call, Said<'static>)]],
+    lists: &[&[(Call, Replied<'static>)]],
 ) -> D {
     let steps = steps_of(rt, alloc, lists);
     let (disk, replies) = play(rt, alloc, disk, &steps);
@@ -98,7 +98,7 @@ pub fn played(
     rt: &impl Abort,
     alloc: Global,
     layout: Layout,
-    lists: &[&[(Call, Said<'static>)]],
+    lists: &[&[(Call, Replied<'static>)]],
 ) -> MemoryDisk {
     played_on(rt, alloc, formatted(rt, alloc, layout), lists)
 }
@@ -126,9 +126,9 @@ fn numbers_of(state: &State) -> (Layout, u64, usize) {
 /// All that a book over a disk with these bytes shows, as it is opened.
 pub fn opened_over(rt: &impl Abort, alloc: Global, bytes: Vec<u8>) -> (Shown, Listing) {
     let book = book_of(rt, alloc, disk_of(rt, alloc, bytes));
-    let told = (shown_by(&book), listed(rt, alloc, book.state()));
+    let reported = (shown_by(&book), listed(rt, alloc, book.state()));
     drop(book);
-    told
+    reported
 }
 
 /// A heap of so many bytes.
@@ -177,7 +177,10 @@ pub fn small_disk(rt: &impl Abort, alloc: Global, rows: &[(usize, &[u8])]) -> Ve
 }
 
 /// Why a disk isn't opened, if it isn't, and how many calls it counts.
-pub fn told_by_opening<A: Allocator + Copy>(alloc: A, disk: MemoryDisk) -> (Option<Fault>, u64) {
+pub fn reported_by_opening<A: Allocator + Copy>(
+    alloc: A,
+    disk: MemoryDisk,
+) -> (Option<Fault>, u64) {
     match Book::open(alloc, disk) {
         Ok(book) => (None, book.into_disk().calls()),
         Err((fault, disk)) => (Some(fault), disk.calls()),

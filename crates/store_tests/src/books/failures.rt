@@ -15,11 +15,11 @@ use run_disk::{FailOnce, Fuse, MemoryDisk, RunDisk};
 use run_model::{Fault, Layout, Refusal, Reply, Step};
 use std::alloc::Global;
 use std::process::Abort;
-use test_fixtures::{Said, said_by};
+use test_fixtures::{Replied, replied_by};
 
-const BROKEN: Said<'static> = Said::Refused(Refusal::Broken);
+const BROKEN: Replied<'static> = Replied::Refused(Refusal::Broken);
 
-const FAILED: Said<'static> = Said::Faulty(Fault::DiskFailed);
+const FAILED: Replied<'static> = Replied::Faulty(Fault::DiskFailed);
 
 /// A disk as it is handed back, by a book or with the fault of an opening, and the replies.
 type Back<D> = (D, Option<Fault>, Vec<Reply>);
@@ -87,7 +87,7 @@ fn step_of(call: u64) -> Option<usize> {
 
 /// What step `n` of the night is answered where the step at a place fails: all after it are
 /// refused.
-fn wanted(n: usize, failing: usize) -> Said<'static> {
+fn wanted(n: usize, failing: usize) -> Replied<'static> {
     if n == failing {
         return FAILED;
     }
@@ -101,7 +101,7 @@ fn wanted(n: usize, failing: usize) -> Said<'static> {
 /// many there are, if there are not as many replies.
 fn first_unlike(replies: &[Reply], failing: usize) -> Option<usize> {
     for (n, reply) in replies.iter().enumerate() {
-        if said_by(reply) != wanted(n, failing) {
+        if replied_by(reply) != wanted(n, failing) {
             return Some(n);
         }
     }

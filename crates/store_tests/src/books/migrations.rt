@@ -23,8 +23,8 @@ use test_fixtures::{Going, Listing, Seen, TaskSeen};
 fn taken_over(rt: &impl Abort, alloc: Global) -> MemoryDisk {
     let mut old = small(rt, alloc, &[]);
     let (fault, new) = migrated(alloc, &mut old, zeros(rt, alloc, LARGE_LEN));
-    let told = (fault, old.calls(), new.calls());
-    holds(rt, told == (None, 3, 8), "calls", 11);
+    let reported = (fault, old.calls(), new.calls());
+    holds(rt, reported == (None, 3, 8), "calls", 11);
     let is_same = has(rt, alloc, &old, SMALL_LEN, &SMALL);
     holds(rt, is_same, "the old disk's bytes", SMALL_LEN as u64);
     new

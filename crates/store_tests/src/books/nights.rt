@@ -13,23 +13,23 @@ use run_model::Layout;
 use std::alloc::Global;
 use std::process::Abort;
 use test_fixtures::Call::{Cancel, Checkpoint, Derive, Flush, Go, Group, Start};
-use test_fixtures::{Ask, Call, Said};
+use test_fixtures::{Ask, Call, Replied};
 
 /// The steps, each with its answer. The opening makes ten device calls, each flush six, and the
 /// checkpoint seven: 35 in sum.
-pub static NIGHT: [(Call, Said<'static>); 12] = [
-    (Derive(b"a", b"root", Ask::Cause), Said::Scope(1)),
-    (Derive(b"b", b"a", Ask::Cancel), Said::Scope(2)),
-    (Cancel(b"a", b"disk"), Said::Done),
-    (Flush, Said::Acked(4)),
-    (Derive(b"c", b"root", Ask::Cancel), Said::Scope(3)),
-    (Derive(b"d", b"root", Ask::Cancel), Said::Scope(4)),
-    (Flush, Said::Acked(6)),
-    (Group(b"g", b"root"), Said::Group(0, Some(5))),
-    (Go(b"g", b"copy", b"a"), Said::Ready(0)),
-    (Checkpoint, Said::Acked(8)),
-    (Start, Said::Started(9, 0, b"copy", b"a", false)),
-    (Flush, Said::Acked(9)),
+pub static NIGHT: [(Call, Replied<'static>); 12] = [
+    (Derive(b"a", b"root", Ask::Cause), Replied::Scope(1)),
+    (Derive(b"b", b"a", Ask::Cancel), Replied::Scope(2)),
+    (Cancel(b"a", b"disk"), Replied::Done),
+    (Flush, Replied::Acked(4)),
+    (Derive(b"c", b"root", Ask::Cancel), Replied::Scope(3)),
+    (Derive(b"d", b"root", Ask::Cancel), Replied::Scope(4)),
+    (Flush, Replied::Acked(6)),
+    (Group(b"g", b"root"), Replied::Group(0, Some(5))),
+    (Go(b"g", b"copy", b"a"), Replied::Ready(0)),
+    (Checkpoint, Replied::Acked(8)),
+    (Start, Replied::Started(9, 0, b"copy", b"a", false)),
+    (Flush, Replied::Acked(9)),
 ];
 
 /// The last call after which a stop leaves so many events: where a torn gate stays closed, and
@@ -61,7 +61,7 @@ pub fn left(calls: u64, torn: Torn) -> u64 {
 
 /// Says whether a write of an open gate is left so by this kind of tearing.
 pub fn opens(torn: Torn) -> bool {
-    matches!(torn, Torn::Take | Torn::Fill(0xA7) | Torn::Front(1))
+    matches!(torn, Torn::Take | Torn::Fill(0xA7) | Torn::Prefix(1))
 }
 
 /// Asserts what each stop of the night leaves of a disk that had made so many calls before.

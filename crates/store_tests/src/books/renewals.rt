@@ -18,10 +18,16 @@ use std::process::Abort;
 use test_fixtures::Call::{Bare, Flush};
 
 /// What a renewal tells: its fault, if it has one, and how many calls both disks count.
-type Told = (Option<MigrateFault>, u64, u64);
+type Reported = (Option<MigrateFault>, u64, u64);
 
 /// What a renewal to a disk of zeros tells whose memory is taken of a heap.
-fn told(rt: &impl Abort, alloc: Global, heap: &LocalHeap, mut old: MemoryDisk, to: Layout) -> Told {
+fn reported(
+    rt: &impl Abort,
+    alloc: Global,
+    heap: &LocalHeap,
+    mut old: MemoryDisk,
+    to: Layout,
+) -> Reported {
     let new = done(
         rt,
         MemoryDisk::new(alloc, to.store_len() as usize),
@@ -44,17 +50,17 @@ static BESIDE_STATE: [(Layout, Layout, usize, usize); 3] = [
 ];
 
 /// Asserts what a renewal over so many bytes of memory tells, and that they are given back.
-fn assert_told(
+fn assert_reported(
     rt: &impl Abort,
     alloc: Global,
     bytes: usize,
     layouts: (Layout, Layout),
-    wanted: Told,
+    wanted: Reported,
 ) {
     let heap = heap(rt, alloc, bytes);
     let old = formatted(rt, alloc, layouts.0);
-    let told = told(rt, alloc, &heap, old, layouts.1);
-    holds(rt, told == wanted, "with bytes", bytes as u64);
+    let reported = reported(rt, alloc, &heap, old, layouts.1);
+    holds(rt, reported == wanted, "with bytes", bytes as u64);
     holds(rt, heap.used() == 0, "given back of bytes", bytes as u64);
 }
 
@@ -70,9 +76,9 @@ fn a_renewal_takes_so_much_memory(rt: HostRuntime) {
     for row in BESIDE_STATE.iter() {
         let bytes = bytes_of(&rt, rt.alloc(), row);
         let layouts = (row.0, row.1);
-        assert_told(&rt, rt.alloc(), bytes, layouts, (None, 11, 8));
+        assert_reported(&rt, rt.alloc(), bytes, layouts, (None, 11, 8));
         let wanting = (Some(MigrateFault::Memory), 8, 0);
-        assert_told(&rt, rt.alloc(), bytes.saturating_sub(16), layouts, wanting);
+        assert_reported(&rt, rt.alloc(), bytes.saturating_sub(16), layouts, wanting);
     }
 }
 
@@ -96,8 +102,13 @@ fn crowded(rt: &impl Abort, alloc: Global) -> MemoryDisk {
 fn assert_marks(rt: &impl Abort, alloc: Global, state: &State, bytes: usize) {
     for units in 0..bytes / 16 {
         let heap = heap(rt, alloc, units.saturating_mul(16));
-        let told = (Renewal::new(&heap, state).err(), heap.used());
-        holds(rt, told == (Some(Fault::Memory), 0), "units", units as u64);
+        let reported = (Renewal::new(&heap, state).err(), heap.used());
+        holds(
+            rt,
+            reported == (Some(Fault::Memory), 0),
+            "units",
+            units as u64,
+        );
     }
     let heap = heap(rt, alloc, bytes);
     let _marks = done(rt, Renewal::new(&heap, state), "marks");
@@ -119,8 +130,8 @@ fn marks_take_so_much_memory(rt: HostRuntime) {
 fn a_renewal_without_room_leaves_no_memory_in_use(rt: HostRuntime) {
     let heap = heap(&rt, rt.alloc(), AMPLE);
     let old = crowded(&rt, rt.alloc());
-    let told = told(&rt, rt.alloc(), &heap, old, Layout::Small);
+    let reported = reported(&rt, rt.alloc(), &heap, old, Layout::Small);
     let wanted = (Some(MigrateFault::New(Fault::WrongSize)), 27, 0);
-    holds(&rt, told == wanted, "calls", told.1);
+    holds(&rt, reported == wanted, "calls", reported.1);
     holds(&rt, heap.used() == 0, "bytes left", heap.used() as u64);
 }

@@ -17,7 +17,7 @@ use std::process::Abort;
 use test_fixtures::Call::{
     Advance, Bare, Cancel, Checkpoint, Derive, Flush, Go, Group, Limit, Retry, Start, Succeed, Wait,
 };
-use test_fixtures::{Ask, Call, Said, said_by};
+use test_fixtures::{Ask, Call, Replied, replied_by};
 
 /// How many bytes a state has in memory.
 pub fn bytes_of_state(rt: &impl Abort, alloc: Global, layout: Layout) -> usize {
@@ -52,10 +52,10 @@ fn unopened(heap: &LocalHeap, disk: MemoryDisk) -> Option<(Fault, MemoryDisk)> {
 fn refused(rt: &impl Abort, alloc: Global, disk: MemoryDisk, bytes: usize) -> MemoryDisk {
     let heap = heap(rt, alloc, bytes);
     let (fault, disk) = given(rt, unopened(&heap, disk), "fault");
-    let told = (fault, disk.calls(), heap.used());
+    let reported = (fault, disk.calls(), heap.used());
     holds(
         rt,
-        told == (Fault::Memory, 8, 0),
+        reported == (Fault::Memory, 8, 0),
         "with bytes",
         bytes as u64,
     );
@@ -113,37 +113,37 @@ fn a_refused_growth_comes_before_any_device_call(rt: HostRuntime) {
 }
 
 /// A night whose task is running as it ends.
-static FIRST: [(Call, Said<'static>); 4] = [
-    (Group(b"g", b"root"), Said::Group(0, Some(1))),
-    (Go(b"g", b"copy", b"a"), Said::Ready(0)),
-    (Start, Said::Started(4, 0, b"copy", b"a", false)),
-    (Flush, Said::Acked(4)),
+static FIRST: [(Call, Replied<'static>); 4] = [
+    (Group(b"g", b"root"), Replied::Group(0, Some(1))),
+    (Go(b"g", b"copy", b"a"), Replied::Ready(0)),
+    (Start, Replied::Started(4, 0, b"copy", b"a", false)),
+    (Flush, Replied::Acked(4)),
 ];
 
 /// After a restart, a step of each kind and each command, each with its answer.
-static SECOND: [(Call, Said<'static>); 22] = [
-    (Retry(0), Said::Ready(1)),
-    (Derive(b"a", b"root", Ask::Cause), Said::Scope(2)),
-    (Derive(b"p", b"a", Ask::Cancel), Said::Scope(3)),
-    (Cancel(b"a", b"disk"), Said::Done),
-    (Cancel(b"a", b""), Said::Refused(Refusal::AlreadyDone)),
-    (Advance(5), Said::Done),
-    (Bare(b"h", b"root"), Said::Group(1, None)),
-    (Limit(b"h", Some(1)), Said::Done),
-    (Go(b"h", b"copy", b"b"), Said::Ready(2)),
-    (Go(b"h", b"copy", b"c"), Said::Held(3)),
-    (Flush, Said::Acked(14)),
-    (Start, Said::Started(15, 1, b"copy", b"a", true)),
-    (Start, Said::Started(16, 2, b"copy", b"b", false)),
-    (Checkpoint, Said::Acked(16)),
-    (Succeed(1), Said::Finished(17)),
-    (Call::Fail(2, b"x"), Said::Finished(18)),
-    (Wait(b"g"), Said::Waited(Some(b"interrupted"))),
-    (Wait(b"g"), Said::Waited(Some(b"interrupted"))),
-    (Start, Said::Started(20, 3, b"copy", b"c", false)),
-    (Flush, Said::Acked(20)),
-    (Group(b"i", b"root"), Said::Group(2, Some(4))),
-    (Checkpoint, Said::Acked(21)),
+static SECOND: [(Call, Replied<'static>); 22] = [
+    (Retry(0), Replied::Ready(1)),
+    (Derive(b"a", b"root", Ask::Cause), Replied::Scope(2)),
+    (Derive(b"p", b"a", Ask::Cancel), Replied::Scope(3)),
+    (Cancel(b"a", b"disk"), Replied::Done),
+    (Cancel(b"a", b""), Replied::Refused(Refusal::AlreadyDone)),
+    (Advance(5), Replied::Done),
+    (Bare(b"h", b"root"), Replied::Group(1, None)),
+    (Limit(b"h", Some(1)), Replied::Done),
+    (Go(b"h", b"copy", b"b"), Replied::Ready(2)),
+    (Go(b"h", b"copy", b"c"), Replied::Held(3)),
+    (Flush, Replied::Acked(14)),
+    (Start, Replied::Started(15, 1, b"copy", b"a", true)),
+    (Start, Replied::Started(16, 2, b"copy", b"b", false)),
+    (Checkpoint, Replied::Acked(16)),
+    (Succeed(1), Replied::Finished(17)),
+    (Call::Fail(2, b"x"), Replied::Finished(18)),
+    (Wait(b"g"), Replied::Waited(Some(b"interrupted"))),
+    (Wait(b"g"), Replied::Waited(Some(b"interrupted"))),
+    (Start, Replied::Started(20, 3, b"copy", b"c", false)),
+    (Flush, Replied::Acked(20)),
+    (Group(b"i", b"root"), Replied::Group(2, Some(4))),
+    (Checkpoint, Replied::Acked(21)),
 ];
 
 /// Which questions of a book find something, and how many scopes, groups, tasks and running tasks
@@ -176,8 +176,8 @@ fn assert_kept(rt: &impl Abort, alloc: Global, layout: Layout) {
     let used = heap.used();
     for (n, row) in SECOND.iter().enumerate() {
         let reply = take(&mut book, &step(rt, row.0));
-        let told = (said_by(&reply), heap.used());
-        holds(rt, told == (row.1, used), "bytes after row", n as u64);
+        let reported = (replied_by(&reply), heap.used());
+        holds(rt, reported == (row.1, used), "bytes after row", n as u64);
     }
     let found = [true, false, true, true, true, true, true];
     holds(rt, asked(rt, &book) == (found, [5, 3, 4, 1]), "answers", 0);
@@ -208,8 +208,13 @@ fn a_device_that_fails_an_opening_leaves_no_memory_in_use(rt: HostRuntime) {
     let heap = heap(&rt, rt.alloc(), AMPLE);
     for calls in 0..10 {
         let disk = Fuse::new(formatted(&rt, rt.alloc(), Layout::Small), calls);
-        let told = (fault_of(&heap, disk), heap.used());
-        holds(&rt, told == (Some(Fault::DiskFailed), 0), "calls", calls);
+        let reported = (fault_of(&heap, disk), heap.used());
+        holds(
+            &rt,
+            reported == (Some(Fault::DiskFailed), 0),
+            "calls",
+            calls,
+        );
     }
 }
 
@@ -219,10 +224,10 @@ fn a_disk_of_another_size_leaves_no_memory_in_use(rt: HostRuntime) {
     for size in [0, 4_096, 1_572_863] {
         let bytes = done(&rt, vec![in rt.alloc(); 0u8; size], "memory");
         let disk = disk_of(&rt, rt.alloc(), bytes);
-        let told = (fault_of(&heap, disk), heap.used());
+        let reported = (fault_of(&heap, disk), heap.used());
         holds(
             &rt,
-            told == (Some(Fault::WrongSize), 0),
+            reported == (Some(Fault::WrongSize), 0),
             "size",
             size as u64,
         );

@@ -10,7 +10,7 @@ use run_model::{Layout, Step};
 use std::alloc::Global;
 use std::process::Abort;
 use test_fixtures::Call::{Advance, Flush, Group, Limit};
-use test_fixtures::{Call, Said};
+use test_fixtures::{Call, Replied};
 
 /// Adds so many advances of the clock, by one second each: 11 bytes each.
 fn add_advances(rt: &impl Abort, steps: &mut Vec<Step>, advances: u64) {
@@ -18,7 +18,7 @@ fn add_advances(rt: &impl Abort, steps: &mut Vec<Step>, advances: u64) {
         add_steps(
             rt,
             steps,
-            &[(Advance(before.saturating_add(1)), Said::Done)],
+            &[(Advance(before.saturating_add(1)), Replied::Done)],
         );
     }
 }
@@ -29,10 +29,10 @@ fn pending(rt: &impl Abort, alloc: Global, limits: u64, advances: u64) -> Vec<St
     add_steps(
         rt,
         &mut steps,
-        &[(Group(b"g", b"root"), Said::Group(0, Some(1)))],
+        &[(Group(b"g", b"root"), Replied::Group(0, Some(1)))],
     );
     for _ in 0..limits {
-        add_steps(rt, &mut steps, &[(Limit(b"g", Some(2)), Said::Done)]);
+        add_steps(rt, &mut steps, &[(Limit(b"g", Some(2)), Replied::Done)]);
     }
     add_advances(rt, &mut steps, advances);
     steps
@@ -45,7 +45,7 @@ fn played_after(
     alloc: Global,
     layout: Layout,
     steps: Vec<Step>,
-    rows: &[(Call, Said<'static>)],
+    rows: &[(Call, Replied<'static>)],
 ) -> MemoryDisk {
     let mut steps = steps;
     add_steps(rt, &mut steps, rows);
@@ -69,7 +69,7 @@ static FLUSHED: [Flushed; 4] = [
 fn assert_flushed(rt: &impl Abort, alloc: Global, row: Flushed) {
     let (layout, limits, advances, calls, acked) = row;
     let steps = pending(rt, alloc, limits, advances);
-    let rows = [(Flush, Said::Acked(acked))];
+    let rows = [(Flush, Replied::Acked(acked))];
     let mut disk = played_after(rt, alloc, layout, steps, &rows);
     holds(rt, disk.calls() == calls, "calls, after advances", advances);
     let found = counted_on(alloc, &mut disk);
@@ -102,20 +102,20 @@ static FILLED: [At; 4] = [
 #[test]
 fn a_segment_is_filled_to_its_last_byte(rt: HostRuntime) {
     let steps = filling(&rt, rt.alloc());
-    let rows = [(Flush, Said::Acked(23_833))];
+    let rows = [(Flush, Replied::Acked(23_833))];
     let disk = played_after(&rt, rt.alloc(), Layout::Small, steps, &rows);
     assert_bytes(&rt, &now(&rt, rt.alloc(), &disk), &FILLED);
 }
 
 /// After a full segment a flush of nothing, a checkpoint, and a flush of six bytes into the other
 /// segment.
-static AFTER: [(Call, Said<'static>); 6] = [
-    (Flush, Said::Acked(23_833)),
-    (Flush, Said::Acked(23_833)),
-    (Limit(b"g", Some(3)), Said::Done),
-    (Flush, Said::Acked(23_834)),
-    (Limit(b"g", Some(4)), Said::Done),
-    (Flush, Said::Acked(23_835)),
+static AFTER: [(Call, Replied<'static>); 6] = [
+    (Flush, Replied::Acked(23_833)),
+    (Flush, Replied::Acked(23_833)),
+    (Limit(b"g", Some(3)), Replied::Done),
+    (Flush, Replied::Acked(23_834)),
+    (Limit(b"g", Some(4)), Replied::Done),
+    (Flush, Replied::Acked(23_835)),
 ];
 
 static OTHER_SEGMENT: [At; 2] = [

@@ -10,7 +10,7 @@ use run_disk::{MemoryDisk, Torn};
 use std::alloc::Global;
 use std::process::Abort;
 use test_fixtures::Call::{Flush, Retry};
-use test_fixtures::{Going, Listing, Said, Seen, TaskSeen};
+use test_fixtures::{Going, Listing, Replied, Seen, TaskSeen};
 
 /// Slot 0 of generation 0 with an image of version 1, of 57 bytes: six events, group `g` of limit
 /// 1 with its scope, task 0, which runs, and task 1, which is held.
@@ -99,7 +99,7 @@ fn a_store_of_either_version_is_recovered(rt: HostRuntime) {
 /// A disk on which a store of version 1 was opened, by ten calls, and its task 0 retried, by six.
 fn taken_over(rt: &impl Abort, alloc: Global) -> MemoryDisk {
     let disk = disk_with(rt, alloc, &[(0, RUNNING)]);
-    let rows = [(Retry(0), Said::Held(2)), (Flush, Said::Acked(8))];
+    let rows = [(Retry(0), Replied::Held(2)), (Flush, Replied::Acked(8))];
     played_on(rt, alloc, disk, &[&rows])
 }
 

@@ -21,11 +21,11 @@ ghost use Rattle.task_group.specs.Lasting.{EndsStay};
 ghost use Rattle.task_group.specs.Outcomes.{outcome_with};
 ghost use Rattle.task_group.specs.Restarting.{RestartsTasks};
 ghost use Rattle.task_group.specs.Rows.{HasPlace, submitted};
-ghost use Rattle.task_group.specs.Told.{told_by_end, told_by_restart};
+ghost use Rattle.task_group.specs.Cancels.{cancels_by_end, cancels_by_restart};
 
+use crate::counts::{enter, leave, link, push_counts};
 use crate::flags::note_retry;
 use crate::groups::Groups;
-use crate::seats::{enter, leave, link, push_seats};
 use crate::work_rows::{
     admits, end_in_group, interruption, push_group, push_task, set_row_limit, set_stage,
     set_waited, stage_with,
@@ -59,7 +59,7 @@ impl<A: Allocator> Groups<A> {
                 error: None,
             },
         );
-        push_seats(&mut self.seats);
+        push_counts(&mut self.counts);
         n
     }
 
@@ -147,7 +147,7 @@ impl<A: Allocator> Groups<A> {
     pub fn finish(&mut self, task: u16, error: Option<&[u8]>) -> Option<u16>
         requires error { IfSome error (λ e. IsText e.now) }
         requires running { IsTrue (has_stage is_running self.old task) }
-        ensures told { result ≡ told_by_end task (option_copied error.entry) self.old }
+        ensures cancels { result ≡ cancels_by_end task (option_copied error.entry) self.old }
         ensures after { self.new
             ≡ after_end task (stage_of (outcome_with (option_copied error.entry)))
             (error_of (outcome_with (option_copied error.entry))) self.old }
@@ -163,14 +163,14 @@ impl<A: Allocator> Groups<A> {
     pub fn wait(&mut self, group: u16) -> Option<u16>
         requires accepted { IsTrue
             (is_open self.old group && (unfinished_in group self.old.tasks == 0)) }
-        ensures told { result ≡ own_scope self.old group }
+        ensures cancels { result ≡ own_scope self.old group }
         ensures after { self.new ≡ after_wait group self.old }
         ensures stays { EndsStay self.old self.new }
     {
         let row = &self.groups[group as usize];
-        let told = (!row.bare).then_some(row.scope);
+        let cancels = (!row.bare).then_some(row.scope);
         set_waited(&mut self.groups, group as usize);
-        told
+        cancels
     }
 
     /// Interrupts the running tasks, in the order of their numbers. Returns the scopes that the
@@ -178,20 +178,20 @@ impl<A: Allocator> Groups<A> {
     /// have just got their first error, each once and in that order. After that no task runs, and
     /// the held tasks that the limits admit are ready. Takes no memory.
     pub fn restart(&mut self) -> ArrayVec<u16, MOST_GROUPS>
-        ensures told { result.items ≡ told_by_restart self.old }
+        ensures cancels { result.items ≡ cancels_by_restart self.old }
         ensures after { self.new ≡ fold after_interrupt self.old (running_tasks self.old) }
         ensures tasks { RestartsTasks self.old self.new }
         ensures stays { EndsStay self.old self.new }
     {
-        let mut told = ArrayVec::new();
+        let mut cancels = ArrayVec::new();
         let count = self.task_count();
         for n in 0..count {
             if self.is_running(n as u16) {
                 let scope = self.interrupt(n as u16);
-                note(&mut told, scope);
+                note(&mut cancels, scope);
             }
         }
-        told
+        cancels
     }
 
     /// Appends a task, which may be a retry of another one.
@@ -218,10 +218,10 @@ impl<A: Allocator> Groups<A> {
     {
         let n = self.tasks.len() as u16;
         let g = row.group as usize;
-        let seats = self.seats[g];
-        let admitted = admits(self.groups[g].limit, seats.unfinished as usize);
-        link(&mut self.next, admitted, seats, n);
-        enter(&mut self.seats, g, admitted, n);
+        let counts = self.counts[g];
+        let admitted = admits(self.groups[g].limit, counts.unfinished as usize);
+        link(&mut self.next, admitted, counts, n);
+        enter(&mut self.counts, g, admitted, n);
         note_retry(&mut self.retried, row.retry_of);
         self.ready.set(n, admitted);
         push_task(&mut self.tasks, row);
@@ -233,7 +233,7 @@ impl<A: Allocator> Groups<A> {
         requires error { IfSome error (λ e. IsText e.now) }
         requires running { IsTrue (has_stage is_running self.old task) }
         requires done { is_unfinished stage ≡ false }
-        ensures told { result ≡ told_by_end task (option_copied error.entry) self.old }
+        ensures cancels { result ≡ cancels_by_end task (option_copied error.entry) self.old }
         ensures after { self.new ≡ after_end task stage (option_copied error.entry) self.old }
         ensures admits { AdmitsOldest self.old task self.new }
         ensures stays { EndsStay self.old self.new }
@@ -245,7 +245,7 @@ impl<A: Allocator> Groups<A> {
         set_stage(&mut self.tasks, n, stage);
         let scope = self.groups[g].scope;
         let first = end_in_group(&mut self.groups, g, error);
-        let next = leave(&mut self.seats, &self.next, g);
+        let next = leave(&mut self.counts, &self.next, g);
         self.ready.put(next);
         self.running -= 1;
         first.then_some(scope)
@@ -255,7 +255,7 @@ impl<A: Allocator> Groups<A> {
     /// canceled.
     fn interrupt(&mut self, task: u16) -> Option<u16>
         requires { IsTrue (has_stage is_running self.old task) }
-        ensures told { result ≡ told_by_end task (Some interruption) self.old }
+        ensures cancels { result ≡ cancels_by_end task (Some interruption) self.old }
         ensures after { self.new ≡ after_interrupt self.old task }
         ensures groups { length self.new.groups ≤ MOST_GROUPS }
         ensures stays { EndsStay self.old self.new }
@@ -265,11 +265,11 @@ impl<A: Allocator> Groups<A> {
 }
 
 /// Adds a scope that must be canceled to the list, if there is one.
-fn note(told: &mut ArrayVec<u16, MOST_GROUPS>, scope: Option<u16>)
-    requires { length told.old.items + length (option_to_list scope) ≤ MOST_GROUPS }
-    ensures { told.new.items ≡ told.old.items ++ option_to_list scope }
+fn note(cancels: &mut ArrayVec<u16, MOST_GROUPS>, scope: Option<u16>)
+    requires { length cancels.old.items + length (option_to_list scope) ≤ MOST_GROUPS }
+    ensures { cancels.new.items ≡ cancels.old.items ++ option_to_list scope }
 {
     if let Some(scope) = scope {
-        told.push(scope);
+        cancels.push(scope);
     }
 }

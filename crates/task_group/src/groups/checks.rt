@@ -80,7 +80,7 @@ impl<A: Allocator> Groups<A> {
         ensures { (job argument : List ℕ) → Answers self.now (TryGo group job argument) result }
     {
         self.check_go(group)?;
-        if !self.has_seat(group) {
+        if !self.admits_more(group) {
             return Err(Refusal::AtLimit);
         }
         Ok(())

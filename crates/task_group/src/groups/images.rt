@@ -25,11 +25,11 @@ ghost use Rattle.task_group.specs.Rows.{HasPlace};
 
 use super::Groups;
 use crate::between::{fit_scopes, have_groups};
+use crate::counts::{enter, push_counts, push_none};
 use crate::flags::note_retry;
 use crate::image_rows::{
     can_retry, group_copy, is_fresh, lost_groups, put_groups, put_tasks, task_copy,
 };
-use crate::seats::{enter, push_none, push_seats};
 use crate::work_rows::{is_running, push_group, push_task};
 use row_view::{ImageHead, read_group, read_task};
 use run_model::{Fault, Group, Layout, MOST_GROUPS, Scope, Task};
@@ -173,7 +173,7 @@ impl<A: Allocator> Groups<A> {
         if self.group_count() <= row.group as usize {
             return false;
         }
-        if is_running(&row.stage) && !self.has_seat(row.group) {
+        if is_running(&row.stage) && !self.admits_more(row.group) {
             return false;
         }
         self.is_linked(row)
@@ -199,7 +199,7 @@ impl<A: Allocator> Groups<A> {
         ensures { self.new ≡ record self.old { groups = self.old.groups ++ row ∷ [] } }
     {
         push_group(&mut self.groups, row);
-        push_seats(&mut self.seats);
+        push_counts(&mut self.counts);
     }
 
     /// Appends a task, which must be able to come after the existing ones.
@@ -227,7 +227,7 @@ impl<A: Allocator> Groups<A> {
     {
         let n = self.tasks.len() as u16;
         let g = row.group as usize;
-        enter(&mut self.seats, g, true, n);
+        enter(&mut self.counts, g, true, n);
         push_none(&mut self.next);
         note_retry(&mut self.retried, row.retry_of);
         self.running += 1;

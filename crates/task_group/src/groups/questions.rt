@@ -77,16 +77,16 @@ impl<A: Allocator> Groups<A> {
         requires { group < length self.now.groups }
         ensures { result ≡ unfinished_in group self.now.tasks }
     {
-        self.seats[group as usize].unfinished
+        self.counts[group as usize].unfinished
     }
 
     /// Returns whether a task that was submitted now would be ready.
-    pub fn has_seat(&self, group: u16) -> bool
+    pub fn admits_more(&self, group: u16) -> bool
         requires { group < length self.now.groups }
         ensures { result ≡ admits (limit_of self.now group) (unfinished_in group self.now.tasks) }
     {
         let g = group as usize;
-        admits(self.groups[g].limit, self.seats[g].unfinished as usize)
+        admits(self.groups[g].limit, self.counts[g].unfinished as usize)
     }
 
     /// Returns the number of tasks.
@@ -113,7 +113,7 @@ impl<A: Allocator> Groups<A> {
         let Some(row) = self.task_row(task) else {
             return None;
         };
-        let first = self.seats[row.group as usize].first;
+        let first = self.counts[row.group as usize].first;
         Some(stage_phase(&row.stage, is_from(first, task)))
     }
 

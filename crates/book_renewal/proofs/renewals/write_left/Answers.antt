@@ -62,9 +62,9 @@ returns-in-Err-clause-not g c =
     let p = c.args.state.now in
     let given = c.args.new.now in
     let new = c.write_fitting-written.new.new in
-    let told : c.in-Err.fault ≡ DiskFailed =
+    let reported : c.in-Err.fault ≡ DiskFailed =
     subst (λ r. IfErr r (λ f. f ≡ DiskFailed)) c.in-Err.is c.write_fitting-written.ensures.fault in
-    subst (λ f. WritesNot to p given (why.New f) new) (sym told) (record {
+    subst (λ f. WritesNot to p given (why.New f) new) (sym reported) (record {
       layout = c.args.to;
       size = c.requires.size;
       failed = subst (λ r. Writes c.args.to (renewed_in c.args.to p) (to given) r (to new))

@@ -12,16 +12,16 @@ abbrev AllFit : List Take → List ℕ → Type 0
 AllFit takes pools =
     All (λ row. nat_le (takes_of takes row.pool) (slice_index pools row.pool) ≡ true) takes
 
-told : (b : Bool) (command : Command) (pools : List ℕ)
+reported : (b : Bool) (command : Command) (pools : List ℕ)
     → IsTrue b ↔ AllFit command.takes.items pools
     → MatchBool b (TakesWithin pools command) (IsTooMuch pools command)
-told true command pools both = enough_or command.takes.items pools (both.0 refl)
-told false command pools both =
+reported true command pools both = enough_or command.takes.items pools (both.0 refl)
+reported false command pools both =
     let short = short_of command.takes.items pools (λ all. absurd (false≢true (both.1 all))) in
     record { pool = short.0; more = short.1 }
 
 pub returns : goal.returns
 returns c =
-    told c.fits.result c.args.command.now c.args.pools.now
+    reported c.fits.result c.args.command.now c.args.pools.now
     (subst (λ (xs : List Take). IsTrue c.fits.result ↔ AllFit xs c.args.pools.now)
     c.as_slice.ensures.value c.fits.ensures)

@@ -1,12 +1,12 @@
 use Rattle.std.proofs.Common.{◌≡◌, ◌∙◌, ◌+◌, List, ap, arith, length}
 use Rattle.std.proofs.Common.{slice_get, slice_index, slice_set, subst, sym}
 use Rattle.std.proofs.lemmas.Option.{same_Some, slice_get_within}
-use Rattle.night_plan.specs.declared.standings.Tally.{Tally}
+use Rattle.night_plan.specs.declared.standings.Summary.{Summary}
 use Rattle.night_plan.specs.Nights.{night}
 use Rattle.night_plan.specs.Standings.{Stands}
-use Rattle.night_plan.specs.Hopes.{AreStanding, IsPlaced, no_tally, tally_of, with_both}
+use Rattle.night_plan.specs.Hopes.{AreStanding, IsPlaced, no_summary, summary_of, with_both}
 use Rattle.night_plan.proofs.Rows.{get_replicate, read}
-use Rattle.night_plan.proofs.Hoping.{tally_none}
+use Rattle.night_plan.proofs.Hoping.{summary_none}
 use Rattle.night_plan.proofs.Passing.{standing_more}
 use Rattle.night_plan.proofs.standings.standings.Goals as goal
 
@@ -67,9 +67,9 @@ loop-p-preserved c =
     let sized = c.loop-p.invariant.grouped in
     let at_t = read tallies command.group before (omega (arith, own, sized))
     c.index-before.ensures in
-    let new : c.both.result ≡ with_both before (tally_of s) =
-    c.both.ensures ∙ ap (with_both before) c.tally_one.ensures in
-    subst (λ (t : Tally). AreStanding n c.args.now plan.order.items (p + 1) (slice_set all i s)
+    let new : c.both.result ≡ with_both before (summary_of s) =
+    c.both.ensures ∙ ap (with_both before) c.summary_one.ensures in
+    subst (λ (t : Summary). AreStanding n c.args.now plan.order.items (p + 1) (slice_set all i s)
     (slice_set tallies command.group t)) (sym new)
     (standing_more n c.args.now (length plan.pools.items) p i plan.order.items plan.places.items
     all
@@ -85,11 +85,11 @@ loop-p-init c =
       grouped = omega (arith, c.in_ok-tallies.ensures.len, c.len-2.ensures);
       stood = λ q d never. absurd (omega (arith, never));
       counted = λ g within. (
-        no_tally,
-        ap (λ (ts : List Tally). slice_get ts g)
+        no_summary,
+        ap (λ (ts : List Summary). slice_get ts g)
             (c.in_ok-tallies.ensures.items_if_clones_equal (λ y same. same))
-            ∙ get_replicate c.len-2.result g no_tally (omega (arith, within, c.len-2.ensures)),
-        tally_none n (IsPlaced n plan.order.items g 0)
+            ∙ get_replicate c.len-2.result g no_summary (omega (arith, within, c.len-2.ensures)),
+        summary_none n (IsPlaced n plan.order.items g 0)
             (λ d it. let never = it.below in omega (arith, never)),
       );
     }

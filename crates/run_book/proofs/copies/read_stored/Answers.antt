@@ -1,14 +1,14 @@
 use Rattle.run_model.proofs.Common.{◌<◌, ◌≤◌, ◌^◌, sym, subst, HasLayout}
 use Rattle.book_model.specs.Migrations.{ReadsNot}
 use Rattle.book_model.proofs.Meaning.{means_layout}
-use Rattle.run_book.proofs.Copying.{told_unread}
+use Rattle.run_book.proofs.Copying.{reported_unread}
 use Rattle.run_book.proofs.copies.read_stored.Goals as goal
 
 pub returns-in-Err-clause-none : goal.returns-in-Err-clause-none
 returns-in-Err-clause-none g c =
     let state = g.D.RunDisk.state in
     subst (λ w. ReadsNot state c.args.old.now w c.read_state.new.disk) (sym c.of_old.ensures)
-    (told_unread state c.args.old.now c.read_state.new.disk c.in-Err.fault
+    (reported_unread state c.args.old.now c.read_state.new.disk c.in-Err.fault
     c.args.state.tree.layout c.requires.size c.in-Err.ensures.none)
 
 pub returns-then-count-clause-none : goal.returns-then-count-clause-none

@@ -30,11 +30,11 @@ returns-in-Err-clause-stops g c =
     (g.W.Write.contents c.stop.new.output) c.in_ok-make_room.ensures.buffered c.stop.ensures
 
 -- The closing line is buffered.
-told : (g : Over) (c : After-write_out g)
+reported : (g : Over) (c : After-write_out g)
     → Buffered (closing c.args.book.now.session) c.args.buffer.now.items
     c.append_reply.new.buffer.items (g.W.Write.contents c.args.output.now)
     (g.W.Write.contents c.make_room.new.output)
-told g c =
+reported g c =
     let s = c.args.book.now.session in
     let m = c.make_room.new.buffer.items in
     buffered_more (closing s) c.args.buffer.now.items m c.append_reply.new.buffer.items
@@ -53,7 +53,7 @@ returns-clause-closes g c =
     let Done : Type 0 =
     Closes g.D.RunDisk.state c.args.book.now c.step_reply.new.book f w0 w2 in
     let done : Appends w1 w2 h → Done = λ all. record {
-      told = buffered_written (closing c.args.book.now.session) f h w0 w1 w2 (told g c) all;
+      reported = buffered_written (closing c.args.book.now.session) f h w0 w1 w2 (reported g c) all;
       taken = c.in-Ok.ensures.taken;
       saved = c.in-Ok.ensures.saved tt;
     } in
@@ -70,7 +70,7 @@ returns-clause-stops g c =
     fault_known c.write_out.result fault.Output _ Stops
     (λ h. inr (
       c.in-Ok.ensures.saved tt,
-      buffered_cut end f c.append_reply.new.buffer.items w0 w1 w2 (told g c) h,
+      buffered_cut end f c.append_reply.new.buffer.items w0 w1 w2 (reported g c) h,
     ))
     c.write_out.ensures.fault c.write_out.ensures.cut
 

@@ -7,10 +7,10 @@ use Rattle.run_console.proofs.line_inputs.run_part.Given as goal
 -- after it.
 abbrev pub invariant-loop-end : goal.invariant-loop-end
 invariant-loop-end g l =
-    (front : List ℕ)
-    × (l.part ≡ front ++ l.rest)
+    (prefix : List ℕ)
+    × (l.part ≡ prefix ++ l.rest)
     × ((begun : List ℕ) → l.initial.tail.items ≡ kept begun →
-    PartRan g.D.RunDisk.state l.until l.initial.number l.number begun front
+    PartRan g.D.RunDisk.state l.until l.initial.number l.number begun prefix
     l.initial.book l.book l.tail.items l.initial.buffer.items l.buffer.items
     (g.W.Write.contents l.initial.output) (g.W.Write.contents l.output))
     × (l.number + length l.rest ≤ l.initial.number + length l.part)

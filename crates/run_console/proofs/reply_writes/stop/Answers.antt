@@ -2,7 +2,7 @@ use Rattle.std.specs.Prelude.{◌++◌}
 use Rattle.std.proofs.Common.{refl, ap, ◌∙◌}
 use Rattle.console_lines.specs.declared.line_replies.LineReply.TheVariants as printed
 use Rattle.console_lines.specs.Replies.{reply_line}
-use Rattle.run_console.proofs.Ends.{trouble_told}
+use Rattle.run_console.proofs.Ends.{trouble_reported}
 use Rattle.run_console.proofs.reply_writes.stop.Goals as goal
 
 pub returns-in-Err : goal.returns-in-Err
@@ -11,7 +11,7 @@ returns-in-Err g c = rw c.in-Err.ensures.fault c.in-Err.ensures.cut
 pub returns : goal.returns
 returns g c = (
   refl,
-  trouble_told c.write_out-written.result c.args.trouble c.args.buffer.now.items
+  trouble_reported c.write_out-written.result c.args.trouble c.args.buffer.now.items
       c.append.new.out.items (g.W.Write.contents c.args.output.now)
       (g.W.Write.contents c.write_out.new.output)
       (g.W.Write.contents c.write_out-written.new.output)

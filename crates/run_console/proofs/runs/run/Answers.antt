@@ -3,7 +3,7 @@ use Rattle.std.specs.Prelude.{Ok, Option}
 use Rattle.console_lines.specs.declared.rejections.RejectedLine.{RejectedLine}
 use Rattle.run_console.specs.declared.untils.Until.TheVariants.{End}
 use Rattle.run_console.specs.RunProgress.{DoesRun}
-use Rattle.run_console.proofs.Fronts.{stops_begin}
+use Rattle.run_console.proofs.Prefixes.{stops_begin}
 use Rattle.run_console.proofs.runs.run.Goals as goal
 
 -- A run to the end of its input has no rejected line.

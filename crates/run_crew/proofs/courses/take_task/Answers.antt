@@ -1,6 +1,6 @@
 use Rattle.run_model.proofs.Common.{ap, arith, rules, ◌<◌, ◌∙◌, length, common_steps}
 use Rattle.run_model.specs.declared.bounds.TheConstants.{MOST_TASKS}
-use Rattle.run_crew.specs.Seats.{one_finish}
+use Rattle.run_crew.specs.OwnCounts.{one_finish}
 use Rattle.run_crew.proofs.Coursing.{finished, not_finished}
 use Rattle.run_crew.proofs.courses.take_task.Goals as goal
 
@@ -14,9 +14,9 @@ returns-in_default-finish-clause-calls g c =
     c.in-Some.is c.in_default-finish.is room c.start.ensures.calls c.run-outcome.ensures.calls
     c.finish.ensures.step
 
-pub returns-clause-seat : goal.returns-clause-seat
-returns-clause-seat g c =
-    (c.in-Ok.ensures.seat ∙ ap one_finish c.in-Some.ensures.seat, grind (arith, common_steps))
+pub returns-clause-own : goal.returns-clause-own
+returns-clause-own g c =
+    (c.in-Ok.ensures.own ∙ ap one_finish c.in-Some.ensures.own, grind (arith, common_steps))
 
 pub returns-clause-calls : goal.returns-clause-calls
 returns-clause-calls g c =
@@ -25,4 +25,4 @@ returns-clause-calls g c =
     c.start.result c.in-Some.started c.run-outcome.result c.finish.result c.in-Ok.event
     c.args.notes.now c.note.new.self _ _ _ _ _ _ c.start.ensures.jobs c.in-Some.is c.in-Ok.is
     c.note.ensures.added c.start.ensures.calls c.run-outcome.ensures.calls
-    c.finish.ensures.step c.ring.ensures.step (search rules)
+    c.finish.ensures.step c.wake.ensures.step (search rules)

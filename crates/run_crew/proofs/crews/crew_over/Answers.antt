@@ -1,6 +1,6 @@
 use Rattle.std.proofs.Common.{◌∙◌, Err, ap, inl, inr, refl}
 use Rattle.console_lines.specs.Faults.{stopped}
-use Rattle.run_crew.proofs.PrintedNights.{acks_told, keeps_night}
+use Rattle.run_crew.proofs.PrintedNights.{acks_reported, keeps_night}
 use Rattle.run_crew.proofs.crews.crew_over.Goals as goal
 
 pub returns-in-Err : goal.returns-in-Err
@@ -17,14 +17,14 @@ pub returns-in-Err-report : goal.returns-in-Err-report
 returns-in-Err-report g c =
     let state = g.D.RunDisk.state in
     let b = c.in-Ok.book in
-    let told = rw c.in-Err-report.is at c.work-report.ensures.worked in
+    let reported = rw c.in-Err-report.is at c.work-report.ensures.worked in
     let left = c.work-report.ensures.left in
     inr (
       b,
       c.in-Ok.ensures.opens.answer,
       c.in-Ok.ensures.session,
       inl (
-        ap Err (c.from-in-Err-report.ensures ∙ ap stopped told),
+        ap Err (c.from-in-Err-report.ensures ∙ ap stopped reported),
         refl,
         λ honest rest p stores. (
           left.book.session.history,
@@ -55,7 +55,8 @@ returns-in-Ok-report g c =
         λ honest rest p stores. (
           keeps_night state c.args.disk b c.in-Ok.ensures.opens c.in-Ok.ensures.session honest rest
               p stores worked.desk.book worked.carries left worked.disk,
-          acks_told state c.args.disk b c.in-Ok.ensures.opens c.in-Ok.ensures.session honest rest
+          acks_reported state c.args.disk b c.in-Ok.ensures.opens c.in-Ok.ensures.session honest
+              rest
               p stores worked.desk.book worked.carries left report.flushed worked.disk
               worked.replays worked.durable worked.acked,
         ),

@@ -4,7 +4,7 @@ use Rattle.book_model.specs.Books.{BookView}
 use Rattle.run_crew.specs.Courses.{IsGates, IsSomeShift}
 use Rattle.run_crew.specs.Desks.{DeskView}
 use Rattle.run_crew.specs.Notes.{noted}
-use Rattle.run_crew.specs.Seats.{SeatView}
+use Rattle.run_crew.specs.OwnCounts.{OwnCountsView}
 use Rattle.run_crew.proofs.Working.{acknowledged, no_finishes, no_starts, shares_count}
 use Rattle.run_crew.proofs.crews.work.Goals as goal
 
@@ -15,9 +15,9 @@ pub returns-clause-worked : goal.returns-clause-worked
 returns-clause-worked g c =
     let begun = c.requires.begun in
     let counts = shares_count _ _ _ _ _ _ _ _ _
-    (ap (λ (s : SeatView). s.starts) c.new-desk.ensures.seat ∙ no_starts c.args.book begun)
-    (ap (λ (s : SeatView). s.finishes) c.new-desk.ensures.seat ∙ no_finishes c.args.book begun)
-    c.in-Ok.ensures.seat.finishes c.in-Ok.ensures.seat.starts c.in-Ok.ensures.seat.one_more
+    (ap (λ (s : OwnCountsView). s.starts) c.new-desk.ensures.own ∙ no_starts c.args.book begun)
+    (ap (λ (s : OwnCountsView). s.finishes) c.new-desk.ensures.own ∙ no_finishes c.args.book begun)
+    c.in-Ok.ensures.own.finishes c.in-Ok.ensures.own.starts c.in-Ok.ensures.own.one_more
     c.settle-starts.ensures.counted.0 c.settle-starts.ensures.counted.1
     (ap noted c.as_slice.ensures.value) in
     record {
@@ -40,7 +40,8 @@ returns-clause-worked g c =
       started = c.settle-starts.ensures.history.0;
       finished = c.settle-starts.ensures.history.1;
       gate = subst (λ l. All (IsSomeShift (IsGates (g.G.Gate.lets c.args.gate.now)
-          (g.G.Gate.told c.args.gate.now))) l) (sym c.as_slice.ensures.value) c.in-Ok.ensures.gate;
+          (g.G.Gate.reported c.args.gate.now))) l)
+          (sym c.as_slice.ensures.value) c.in-Ok.ensures.gate;
       each_has_a_list = c.as_slice.ensures.len ∙ c.in-Ok.ensures.workers;
       each_is_noted = counts.0;
       each_was_started = counts.1;

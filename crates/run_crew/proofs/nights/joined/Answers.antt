@@ -17,8 +17,8 @@ loop-handle-init g c =
     let P : H → Type 0 = λ h. h.promise.gate.now ≡ c.args.gate.now in
     let R : H → WorkerEnd g.row.S.Denot g.row.F.Denot → Type 0 =
     λ h end. IsOfShift (IsAnswered g.T.CountedPlace.starts g.T.Place.holds g.T.Place.flushes
-    g.T.Place.tells g.T.CountedPlace.finishes (g.G.Gate.lets c.args.gate.now)
-    (g.G.Gate.told c.args.gate.now)) g.J.Job.answers g.J.Job.turns h.promise.jobs.value.items
+    g.T.Place.reports g.T.CountedPlace.finishes (g.G.Gate.lets c.args.gate.now)
+    (g.G.Gate.reported c.args.gate.now)) g.J.Job.answers g.J.Job.turns h.promise.jobs.value.items
     end.notes in
     let gives = c.into_iter-handle-iterator.ensures.into_iter_gives in
     let r = all_left _ _ _ _ _ c.requires.room c.requires.empty gives.1 c.requires.few in (
@@ -42,8 +42,8 @@ loop-handle-preserved g c =
     let P : H → Type 0 = λ h. h.promise.gate.now ≡ c.args.gate.now in
     let R : H → WorkerEnd g.row.S.Denot g.row.F.Denot → Type 0 =
     λ h end. IsOfShift (IsAnswered g.T.CountedPlace.starts g.T.Place.holds g.T.Place.flushes
-    g.T.Place.tells g.T.CountedPlace.finishes (g.G.Gate.lets c.args.gate.now)
-    (g.G.Gate.told c.args.gate.now)) g.J.Job.answers g.J.Job.turns h.promise.jobs.value.items
+    g.T.Place.reports g.T.CountedPlace.finishes (g.G.Gate.lets c.args.gate.now)
+    (g.G.Gate.reported c.args.gate.now)) g.J.Job.answers g.J.Job.turns h.promise.jobs.value.items
     end.notes in
     let i = c.loop-handle.invariant in
     let handle = c.in-Some.handle in
@@ -53,7 +53,7 @@ loop-handle-preserved g c =
     let first : P handle = All-head P _ _ (All-same P _ _ (sym steps.0) i.2) in
     let kept : R handle c.join.result =
     subst (λ gate. IsOfShift (IsAnswered g.T.CountedPlace.starts g.T.Place.holds g.T.Place.flushes
-    g.T.Place.tells g.T.CountedPlace.finishes (g.G.Gate.lets gate) (g.G.Gate.told gate))
+    g.T.Place.reports g.T.CountedPlace.finishes (g.G.Gate.lets gate) (g.G.Gate.reported gate))
     g.J.Job.answers g.J.Job.turns handle.promise.jobs.value.items c.join.result.notes) first
     c.join.ensures in (
       r.0,

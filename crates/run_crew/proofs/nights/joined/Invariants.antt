@@ -11,6 +11,6 @@ invariant-loop-handle g l =
     × All (λ h. h.promise.gate.now ≡ l.gate) (into_iter_items l.handle-iterator)
     × (taken : List _) × (taken ++ into_iter_items l.handle-iterator ≡ l.fn.handles.items)
     × AllZip (λ h end. IsOfShift (IsAnswered g.T.CountedPlace.starts g.T.Place.holds
-    g.T.Place.flushes g.T.Place.tells g.T.CountedPlace.finishes (g.G.Gate.lets l.gate)
-    (g.G.Gate.told l.gate)) g.J.Job.answers g.J.Job.turns h.promise.jobs.value.items end.notes)
+    g.T.Place.flushes g.T.Place.reports g.T.CountedPlace.finishes (g.G.Gate.lets l.gate)
+    (g.G.Gate.reported l.gate)) g.J.Job.answers g.J.Job.turns h.promise.jobs.value.items end.notes)
     taken l.shifts.items

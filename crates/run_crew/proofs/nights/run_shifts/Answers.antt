@@ -6,8 +6,8 @@ use Rattle.run_crew.proofs.GatedShifts.{gated_shifts}
 use Rattle.run_crew.proofs.Zipping.{maps_of_zip}
 use Rattle.run_crew.proofs.nights.run_shifts.Goals as goal
 
-pub returns-clause-seat : goal.returns-clause-seat
-returns-clause-seat g c =
+pub returns-clause-own : goal.returns-clause-own
+returns-clause-own g c =
     let workers = c.in-Ok-workers_of.ensures in
     let shifts = c.in-Ok-shifts_of.ensures in
     record {
@@ -22,8 +22,8 @@ pub returns-clause-shifts : goal.returns-clause-shifts
 returns-clause-shifts g c =
     let T = g.T in
     let K : Vec g.row.J.Denot Global → List Note → Type 0 = λ list notes. IsOfShift
-    (IsAnswered T.CountedPlace.starts T.Place.holds T.Place.flushes T.Place.tells
-    T.CountedPlace.finishes (g.G.Gate.lets c.args.gate.now) (g.G.Gate.told c.args.gate.now))
+    (IsAnswered T.CountedPlace.starts T.Place.holds T.Place.flushes T.Place.reports
+    T.CountedPlace.finishes (g.G.Gate.lets c.args.gate.now) (g.G.Gate.reported c.args.gate.now))
     g.J.Job.answers g.J.Job.turns list.items notes in
     subst (λ l. AllZip K l c.gather.new.notes.items) c.in-Ok-workers_of.ensures.jobs
     (subst (λ l. AllZip K (map (λ worker. worker.jobs) c.in-Ok-workers_of.workers.items) l)
@@ -33,7 +33,7 @@ returns-clause-shifts g c =
 pub returns-clause-gate : goal.returns-clause-gate
 returns-clause-gate g c =
     let T = g.T in
-    gated_shifts T.CountedPlace.starts T.Place.holds T.Place.flushes T.Place.tells
-    T.CountedPlace.finishes (g.G.Gate.lets c.args.gate.now) (g.G.Gate.told c.args.gate.now)
+    gated_shifts T.CountedPlace.starts T.Place.holds T.Place.flushes T.Place.reports
+    T.CountedPlace.finishes (g.G.Gate.lets c.args.gate.now) (g.G.Gate.reported c.args.gate.now)
     g.J.Job.answers g.J.Job.turns (λ list. list.items) c.args.jobs.items c.gather.new.notes.items
     (returns-clause-shifts g c)

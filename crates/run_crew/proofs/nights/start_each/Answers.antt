@@ -64,8 +64,8 @@ push_reserved-requires g c =
 pub spawn_with-requires-clause-keeps : goal.spawn_with-requires-clause-keeps
 spawn_with-requires-clause-keeps g c =
     λ lifetimes outlives end post. subst (λ (jobs : Vec g.row.J.Denot Global). IsOfShift
-    (IsAnswered g.T.CountedPlace.starts g.T.Place.holds g.T.Place.flushes g.T.Place.tells
-    g.T.CountedPlace.finishes (g.G.Gate.lets c.args.gate.now) (g.G.Gate.told c.args.gate.now))
+    (IsAnswered g.T.CountedPlace.starts g.T.Place.holds g.T.Place.flushes g.T.Place.reports
+    g.T.CountedPlace.finishes (g.G.Gate.lets c.args.gate.now) (g.G.Gate.reported c.args.gate.now))
     g.J.Job.answers g.J.Job.turns jobs.items end.notes) (sym c.of.ensures) post
 
 pub returns-clause-few : goal.returns-clause-few

@@ -1,5 +1,5 @@
 use Rattle.run_model.proofs.Common.{◌∙◌, ap, map, sym, run}
-use Rattle.state_renewal.specs.Told.{event_anew}
+use Rattle.state_renewal.specs.PartEvents.{event_renumbered}
 use Rattle.state_renewal.specs.GoingOn.{going_on}
 use Rattle.state_renewal.proofs.Begins.{begins}
 use Rattle.state_renewal.proofs.Over.{led_on}
@@ -10,5 +10,5 @@ returns-clause-begins c = begins
 
 pub returns-clause-run : goal.returns-clause-run
 returns-clause-run c = λ p q events goes.
-    ap (λ r. run r (map (event_anew (going_on p)) events)) (sym (begins p goes.rules))
+    ap (λ r. run r (map (event_renumbered (going_on p)) events)) (sym (begins p goes.rules))
     ∙ (led_on p q events goes).run

@@ -21,9 +21,9 @@ put_group-end-requires-clause-room g c =
     (group_by c.args.scopes.now) c.args.groups.now.groups c.loop-g.g c.args.at
     c.loop-g.end c.args.out.now c.loop-g.out row c.loop-g.invariant found
     c.if-flags-g.true
-    (group_len_most (group_by c.args.scopes.now row) c.group_anew.ensures.kept)
+    (group_len_most (group_by c.args.scopes.now row) c.group_renumbered.ensures.kept)
     c.requires.room in
-    let size = ap (λ r. length (group_bytes r)) c.group_anew.ensures.value in
+    let size = ap (λ r. length (group_bytes r)) c.group_renumbered.ensures.value in
     omega (arith, size, room)
 
 pub loop-g-preserved : goal.loop-g-preserved
@@ -35,12 +35,13 @@ loop-g-preserved g c =
           left_next group_bytes is_kept_group 103 c.args.flags.now
           (group_by c.args.scopes.now) c.args.groups.now.groups c.loop-g.g c.args.at
           c.loop-g.end c.if-flags-g.end c.args.out.now c.loop-g.out c.if-flags-g.out row
-          c.loop-g.invariant found w.if-flags-g.true w.group_anew.ensures.kept
-          (group_len_most (group_by c.args.scopes.now row) w.group_anew.ensures.kept)
+          c.loop-g.invariant found w.if-flags-g.true w.group_renumbered.ensures.kept
+          (group_len_most (group_by c.args.scopes.now row) w.group_renumbered.ensures.kept)
           (w.end-is ∙ w.put_group-end.ensures.end
-          ∙ ap (λ r. c.loop-g.end + length (group_bytes r)) w.group_anew.ensures.value)
+          ∙ ap (λ r. c.loop-g.end + length (group_bytes r)) w.group_renumbered.ensures.value)
           (w.out-is ∙ w.put_group-end.ensures.written
-          ∙ ap (λ r. put_at c.loop-g.out c.loop-g.end (group_bytes r)) w.group_anew.ensures.value)
+          ∙ ap (λ r. put_at c.loop-g.out c.loop-g.end (group_bytes r))
+          w.group_renumbered.ensures.value)
           c.requires.room (ap (λ b. length b) w.out-is ∙ omega (arith, w.put_group-end.auto.out))
       | else-flags-g w ↦
           left_same group_bytes is_kept_group 103 c.args.flags.now

@@ -13,14 +13,14 @@ loop-n-init g c =
     (scope_by c.args.scopes.now) c.args.rows.now c.args.at
     c.args.out.now
 
-pub scope_anew-requires-clause-below_root : goal.scope_anew-requires-clause-below_root
-scope_anew-requires-clause-below_root g c =
+pub scope_renumbered-requires-clause-below_root : goal.scope_renumbered-requires-clause-below_root
+scope_renumbered-requires-clause-below_root g c =
     (c.requires.rows c.loop-n.n c.index-rows-n.result
     (slice_get_read c.args.rows.now _ c.loop-n.n c.index-rows-n.result refl
     (omega (arith, c.loop-n-test.true)) c.index-rows-n.is)).below_root
 
-pub scope_anew-requires-clause-known : goal.scope_anew-requires-clause-known
-scope_anew-requires-clause-known g c =
+pub scope_renumbered-requires-clause-known : goal.scope_renumbered-requires-clause-known
+scope_renumbered-requires-clause-known g c =
     c.requires.known c.loop-n.n c.index-rows-n.result
     (slice_get_read c.args.rows.now _ c.loop-n.n c.index-rows-n.result refl
     (omega (arith, c.loop-n-test.true)) c.index-rows-n.is)
@@ -34,8 +34,8 @@ put_scope-end-requires-clause-room g c =
     (scope_by c.args.scopes.now) c.args.rows.now c.loop-n.n c.args.at
     c.loop-n.end c.args.out.now c.loop-n.out row c.loop-n.invariant found
     c.if-flags-n.true (scope_len_most (scope_by c.args.scopes.now row)
-    c.scope_anew.ensures.kept (c.requires.rows c.loop-n.n row found).can) c.requires.room in
-    let size = ap (λ r. length (scope_bytes r)) c.scope_anew.ensures.value in
+    c.scope_renumbered.ensures.kept (c.requires.rows c.loop-n.n row found).can) c.requires.room in
+    let size = ap (λ r. length (scope_bytes r)) c.scope_renumbered.ensures.value in
     omega (arith, size, room)
 
 pub loop-n-preserved : goal.loop-n-preserved
@@ -48,13 +48,14 @@ loop-n-preserved g c =
           left_next scope_bytes is_kept_scope 192 c.args.flags.now
           (scope_by c.args.scopes.now) c.args.rows.now c.loop-n.n c.args.at
           c.loop-n.end c.if-flags-n.end c.args.out.now c.loop-n.out c.if-flags-n.out row
-          c.loop-n.invariant found w.if-flags-n.true w.scope_anew.ensures.kept
+          c.loop-n.invariant found w.if-flags-n.true w.scope_renumbered.ensures.kept
           (scope_len_most (scope_by c.args.scopes.now row)
-          w.scope_anew.ensures.kept (c.requires.rows c.loop-n.n row found).can)
+          w.scope_renumbered.ensures.kept (c.requires.rows c.loop-n.n row found).can)
           (w.end-is ∙ w.put_scope-end.ensures.end
-          ∙ ap (λ r. c.loop-n.end + length (scope_bytes r)) w.scope_anew.ensures.value)
+          ∙ ap (λ r. c.loop-n.end + length (scope_bytes r)) w.scope_renumbered.ensures.value)
           (w.out-is ∙ w.put_scope-end.ensures.written
-          ∙ ap (λ r. put_at c.loop-n.out c.loop-n.end (scope_bytes r)) w.scope_anew.ensures.value)
+          ∙ ap (λ r. put_at c.loop-n.out c.loop-n.end (scope_bytes r))
+          w.scope_renumbered.ensures.value)
           c.requires.room (ap (λ b. length b) w.out-is ∙ omega (arith, w.put_scope-end.auto.out))
       | else-flags-n w ↦
           left_same scope_bytes is_kept_scope 192 c.args.flags.now

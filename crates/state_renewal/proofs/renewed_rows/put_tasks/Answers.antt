@@ -22,9 +22,10 @@ put_task-end-requires-clause-room g c =
     (task_by c.args.stay.now c.args.tasks.now) c.args.groups.now.tasks c.loop-n.n c.args.at
     c.loop-n.end c.args.out.now c.loop-n.out row c.loop-n.invariant found
     (ap (λ l. is_flagged l c.loop-n.n) (sym c.flags-flags.ensures) ∙ c.if-flags-n.true)
-    (task_len_most Two (task_by c.args.stay.now c.args.tasks.now row) c.task_anew.ensures.kept)
+    (task_len_most Two
+    (task_by c.args.stay.now c.args.tasks.now row) c.task_renumbered.ensures.kept)
     c.requires.room in
-    let size = ap (λ r. length ((task_bytes Two) r)) c.task_anew.ensures.value in
+    let size = ap (λ r. length ((task_bytes Two) r)) c.task_renumbered.ensures.value in
     omega (arith, size, room)
 
 pub loop-n-preserved : goal.loop-n-preserved
@@ -38,14 +39,14 @@ loop-n-preserved g c =
           c.loop-n.end c.if-flags-n.end c.args.out.now c.loop-n.out c.if-flags-n.out row
           c.loop-n.invariant found
           (ap (λ l. is_flagged l c.loop-n.n) (sym c.flags-flags.ensures) ∙ w.if-flags-n.true)
-          w.task_anew.ensures.kept
+          w.task_renumbered.ensures.kept
           (task_len_most Two (task_by c.args.stay.now c.args.tasks.now row)
-          w.task_anew.ensures.kept)
+          w.task_renumbered.ensures.kept)
           (w.end-is ∙ w.put_task-end.ensures.end
-          ∙ ap (λ r. c.loop-n.end + length ((task_bytes Two) r)) w.task_anew.ensures.value)
+          ∙ ap (λ r. c.loop-n.end + length ((task_bytes Two) r)) w.task_renumbered.ensures.value)
           (w.out-is ∙ w.put_task-end.ensures.written
           ∙ ap (λ r. put_at c.loop-n.out c.loop-n.end ((task_bytes Two) r))
-          w.task_anew.ensures.value)
+          w.task_renumbered.ensures.value)
           c.requires.room (ap (λ b. length b) w.out-is ∙ omega (arith, w.put_task-end.auto.out))
       | else-flags-n w ↦
           left_same (task_bytes Two) (is_kept_task Two) 136 c.args.tasks.now

@@ -85,10 +85,10 @@ pub fn migrated<D: RunDisk, E: RunDisk, A: Allocator + Copy>(
 }
 
 /// What a migration tells: its fault, if it has one, and how many calls both disks count.
-pub type Told = (Option<MigrateFault>, u64, u64);
+pub type Reported = (Option<MigrateFault>, u64, u64);
 
 /// What a migration of these disks tells.
-pub fn told<A: Allocator + Copy>(alloc: A, old: &mut MemoryDisk, new: MemoryDisk) -> Told {
+pub fn reported<A: Allocator + Copy>(alloc: A, old: &mut MemoryDisk, new: MemoryDisk) -> Reported {
     let (fault, new) = migrated(alloc, old, new);
     (fault, old.calls(), new.calls())
 }

@@ -1,18 +1,18 @@
 use Rattle.run_model.proofs.Common.{◌<◌, length, refl, sym, ap, ◌∙◌, slice_get_read}
-use Rattle.task_group.specs.Told.{is_first_error}
+use Rattle.task_group.specs.Cancels.{is_first_error}
 use Rattle.task_group.proofs.work_rows.end_in_group.Goals as goal
 
 pub fail-requires-clause-text : goal.fail-requires-clause-text
 fail-requires-clause-text g c = rw c.in-Some.is at c.requires.error
 
-pub returns-in-None-clause-tells : goal.returns-in-None-clause-tells
-returns-in-None-clause-tells g c = rw c.in-None.is refl
+pub returns-in-None-clause-brings_first_error : goal.returns-in-None-clause-brings_first_error
+returns-in-None-clause-brings_first_error g c = rw c.in-None.is refl
 
 pub returns-in-None-clause-failed : goal.returns-in-None-clause-failed
 returns-in-None-clause-failed g c = rw c.in-None.is refl
 
-pub returns-in-Some-clause-tells : goal.returns-in-Some-clause-tells
-returns-in-Some-clause-tells g c =
+pub returns-in-Some-clause-brings_first_error : goal.returns-in-Some-clause-brings_first_error
+returns-in-Some-clause-brings_first_error g c =
     let rows = c.args.groups.now.items in
     let known : c.args.g < length rows = rw (← c.args.groups.now.ok.0) c.requires.known in
     rw c.in-Some.is

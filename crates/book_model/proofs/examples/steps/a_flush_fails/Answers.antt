@@ -19,13 +19,13 @@ returns-clause-answered c =
       flush_faulty,
       (
         failed,
-        record { told = refl; same = refl },
-        (failed, record { told = refl; same = refl }, refl),
+        record { reported = refl; same = refl },
+        (failed, record { reported = refl; same = refl }, refl),
       ),
     )
 
 pub returns-clause-caused : goal.returns-clause-caused
-returns-clause-caused c tells =
+returns-clause-caused c reports =
     let left =
-    step_left state_of book_after_three flush (faulty DiskFailed) book_after_three tells in
+    step_left state_of book_after_three flush (faulty DiskFailed) book_after_three reports in
     cc ((left.failed refl).1)

@@ -9,18 +9,19 @@ pub returns-clause-answered : goal.returns-clause-answered
 returns-clause-answered c =
     three_then (flush ∷ []) (acked 4 ∷ []) flushed (
       flushed,
-      record { result = Ok 4; told = refl; saves = search (rules, fits); layout = refl },
+      record { result = Ok 4; reported = refl; saves = search (rules, fits); layout = refl },
       refl,
     )
 
 pub returns-clause-again : goal.returns-clause-again
-returns-clause-again c = record { result = Ok 4; told = refl; saves = search rules; layout = refl }
+returns-clause-again c = record
+    { result = Ok 4; reported = refl; saves = search rules; layout = refl }
 
 pub returns-clause-counted : goal.returns-clause-counted
-returns-clause-counted c new tells =
-    omega (arith, (done (Flushes state_of) book_after_three new 3 tells).saves.answer.counted)
+returns-clause-counted c new reports =
+    omega (arith, (done (Flushes state_of) book_after_three new 3 reports).saves.answer.counted)
 
 pub returns-clause-batched : goal.returns-clause-batched
-returns-clause-batched c tells =
-    let flushes = done (Flushes state_of) book_after_three flushed_twice 4 tells in
+returns-clause-batched c reports =
+    let flushes = done (Flushes state_of) book_after_three flushed_twice 4 reports in
     omega (arith, (flushes.added (omega arith) fits).0.clock)

@@ -11,18 +11,18 @@ returns-clause-answered c = (
   last_book,
   record {
     result = Err (Faulty NumbersSpent);
-    told = refl;
+    reported = refl;
     saves = search (rules, inl, inr);
     layout = refl;
   },
   (
     last_flushed,
-    record { result = Ok 4; told = refl; saves = search (rules, fits); layout = refl },
+    record { result = Ok 4; reported = refl; saves = search (rules, fits); layout = refl },
     refl,
   ),
 )
 
 pub returns-clause-undone : goal.returns-clause-undone
-returns-clause-undone c n new tells =
+returns-clause-undone c n new reports =
     let spent : Ok n ≡ Err (Faulty NumbersSpent) =
-    (done (Checkpoints state_of) last_book new n tells).spent refl refl in cc
+    (done (Checkpoints state_of) last_book new n reports).spent refl refl in cc

@@ -11,17 +11,17 @@ invariant_of-self g c =
     let b = c.self.inside.book in
     let x = step.Finish c.args.task c.args.outcome.now in
     let new = c.finish-number.new.self in
-    let told = c.finish-number.ensures in
-    let grown = history_grown b new x told.after in
+    let reported = c.finish-number.ensures in
+    let grown = history_grown b new x reported.after in
     let one = counts_one c.finish-number.result c.is_ok.result c.from.result c.is_ok.ensures.value
     c.from.ensures in
     let totals = finish_totals b new c.args.task c.args.outcome.now c.finish-number.result
-    c.self.inside.starts.total c.self.inside.finishes.total c.from.result told.reply
-    told.refused grown one c.self.invariant.0 c.self.invariant.1 in (
+    c.self.inside.starts.total c.self.inside.finishes.total c.from.result reported.reply
+    reported.refused grown one c.self.invariant.0 c.self.invariant.1 in (
       totals.0,
       c.add.ensures.total ∙ totals.1,
       carries_more g.D.RunDisk.state g.O.Opening.opening b new (added_by b x)
-          c.self.invariant.2 told.carries_on grown
+          c.self.invariant.2 reported.carries_on grown
           (λ _. finish_works b c.args.task c.args.outcome.now),
     )
 
@@ -47,9 +47,9 @@ returns-clause-refused g c =
     OnErr c.finish-number.result (c.finish-number.new.self ≡ d.book) in
     subst Refuses c.self.view_is c.finish-number.ensures.refused
 
-pub returns-clause-seat : goal.returns-clause-seat
-returns-clause-seat g c =
+pub returns-clause-own : goal.returns-clause-own
+returns-clause-own g c =
     finish_counted c.finish-number.result _ _ c.add.new.share.parts c.add.new.share.amount
-    c.from.result c.seat.view_is c.add.ensures.parts c.add.ensures.amount
+    c.from.result c.own.view_is c.add.ensures.parts c.add.ensures.amount
     (counts_one c.finish-number.result c.is_ok.result c.from.result c.is_ok.ensures.value
     c.from.ensures)

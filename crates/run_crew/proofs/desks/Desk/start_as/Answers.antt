@@ -10,17 +10,17 @@ pub invariant_of-self : goal.invariant_of-self
 invariant_of-self g c =
     let b = c.self.inside.book in
     let new = c.start-started.new.self in
-    let told = c.start-started.ensures in
-    let grown = history_grown b new step.Start told.after in
+    let reported = c.start-started.ensures in
+    let grown = history_grown b new step.Start reported.after in
     let one = counts_one c.start-started.result c.is_ok.result c.from.result c.is_ok.ensures.value
     c.from.ensures in
     let totals = start_totals b new c.start-started.result c.self.inside.starts.total
-    c.self.inside.finishes.total c.from.result told.reply told.refused grown one
+    c.self.inside.finishes.total c.from.result reported.reply reported.refused grown one
     c.self.invariant.0 c.self.invariant.1 in (
       c.add.ensures.total ∙ totals.0,
       totals.1,
       carries_more g.D.RunDisk.state g.O.Opening.opening b new (added_by b step.Start)
-          c.self.invariant.2 told.carries_on grown (λ _. start_works b),
+          c.self.invariant.2 reported.carries_on grown (λ _. start_works b),
     )
 
 pub returns-clause-reply : goal.returns-clause-reply
@@ -45,9 +45,9 @@ returns-clause-refused g c =
     OnErr c.start-started.result (c.start-started.new.self ≡ d.book) in
     subst Refuses c.self.view_is c.start-started.ensures.refused
 
-pub returns-clause-seat : goal.returns-clause-seat
-returns-clause-seat g c =
+pub returns-clause-own : goal.returns-clause-own
+returns-clause-own g c =
     start_counted c.start-started.result _ _ c.add.new.share.parts c.add.new.share.amount
-    c.from.result c.seat.view_is c.add.ensures.parts c.add.ensures.amount
+    c.from.result c.own.view_is c.add.ensures.parts c.add.ensures.amount
     (counts_one c.start-started.result c.is_ok.result c.from.result c.is_ok.ensures.value
     c.from.ensures)

@@ -13,8 +13,8 @@ returns g c =
         went.0,
         subst (λ n. IsShift n c.take_tasks.new.notes went.0) c.args.self.jobs.ok.0 went.1,
         seen_path _ (λ w. w.gate.now) (λ w. w.jobs.items)
-            (λ gate call. IsAnswered counted.starts place.holds place.flushes place.tells
-            counted.finishes (g.G.Gate.lets gate) (g.G.Gate.told gate) call)
+            (λ gate call. IsAnswered counted.starts place.holds place.flushes place.reports
+            counted.finishes (g.G.Gate.lets gate) (g.G.Gate.reported gate) call)
             (StepsJobs g.J.Job.answers g.J.Job.turns) (λ a x b is. is) went.0 _ _ went.2,
       ),
     )

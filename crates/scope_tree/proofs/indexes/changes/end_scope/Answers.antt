@@ -4,7 +4,7 @@ use Rattle.scope_tree.specs.Marks.{AreKept, mark_of}
 use Rattle.scope_tree.specs.Spread.{IsSpread}
 use Rattle.scope_tree.proofs.Striking.{kept_struck, no_spread}
 use Rattle.scope_tree.proofs.Spread.{not_some}
-use Rattle.scope_tree.proofs.Fronts.{set_is_at_row}
+use Rattle.scope_tree.proofs.Prefixes.{set_is_at_row}
 use Rattle.std.proofs.Math.ListN.{set}
 use Rattle.scope_tree.proofs.indexes.changes.end_scope.Given.{Over}
 use Rattle.scope_tree.proofs.indexes.changes.end_scope.Goals as goal

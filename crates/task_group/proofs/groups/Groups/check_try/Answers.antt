@@ -9,7 +9,7 @@ use Rattle.run_model.proofs.RefusalLemmas.{unless_tested}
 use Rattle.task_group.specs.Checks.{Answers}
 use Rattle.task_group.proofs.groups.Groups.check_try.Goals as goal
 
--- A task that is to be ready at once is asked what each task is, and for its seat.
+-- A task that is to be ready at once is asked what each task is, and whether it is admitted.
 try_asked : (w : WorkState) (g : ℕ) (answer : Result (Unit {0}) Refusal)
     (job argument : List ℕ) (count : ℕ) (tree : TreeState)
     → ((job argument : List ℕ) → Answers w (event.Go g job argument) answer)
@@ -18,11 +18,12 @@ try_asked : (w : WorkState) (g : ℕ) (answer : Result (Unit {0}) Refusal)
     ≡ tested (refusals (record { count = count; tree = tree; work = w })
     (event.TryGo g job argument))
 try_asked w g answer job argument count tree asked =
-    let seat : Result (Unit {0}) Refusal =
+    let group_count : Result (Unit {0}) Refusal =
     tested ((not (admits (limit_of w g) (unfinished_in g w.tasks)), refusal.AtLimit) ∷ []) in
-    ap (λ a. and_then a (λ _. seat)) (asked job argument count tree)
+    ap (λ a. and_then a (λ _. group_count)) (asked job argument count tree)
     ∙ sym (unless_tested
-    (refusals (record { count = count; tree = tree; work = w }) (event.Go g job argument)) seat)
+    (refusals (record { count = count; tree = tree; work = w }) (event.Go g job argument))
+    group_count)
 
 pub returns-in_err-check_go : goal.returns-in_err-check_go
 returns-in_err-check_go g c job argument count tree =
@@ -31,8 +32,8 @@ returns-in_err-check_go g c job argument count tree =
     ∙ try_asked c.args.self.now c.args.group (Err c.in_err-check_go.field-0.0) job argument count
     tree c.in_err-check_go.ensures
 
-pub has_seat-requires : goal.has_seat-requires
-has_seat-requires g c =
+pub admits_more-requires : goal.admits_more-requires
+admits_more-requires g c =
     let w = c.args.self.now in
     let asked = refusals (record { count = 0; tree = new_tree w.layout; work = w })
     (event.Go c.args.group [] []) in
@@ -40,16 +41,16 @@ has_seat-requires g c =
     (sym (c.in_ok-check_go.ensures [] [] 0 (new_tree w.layout)))).0 in
     ltb-true c.args.group (length w.groups) (not-false _ (each_fails asked none).0)
 
-pub returns-then-not-has_seat : goal.returns-then-not-has_seat
-returns-then-not-has_seat g c job argument count tree =
+pub returns-then-not-admits_more : goal.returns-then-not-admits_more
+returns-then-not-admits_more g c job argument count tree =
     ap (λ b. tested ((not b, refusal.AtLimit) ∷ []))
-    (sym c.if-not-has_seat.true ∙ c.has_seat.ensures)
+    (sym c.if-not-admits_more.true ∙ c.admits_more.ensures)
     ∙ try_asked c.args.self.now c.args.group (Ok tt) job argument count tree
     c.in_ok-check_go.ensures
 
 pub returns : goal.returns
 returns g c job argument count tree =
     ap (λ b. tested ((not b, refusal.AtLimit) ∷ []))
-    (sym c.if-not-has_seat.false ∙ c.has_seat.ensures)
+    (sym c.if-not-admits_more.false ∙ c.admits_more.ensures)
     ∙ try_asked c.args.self.now c.args.group (Ok tt) job argument count tree
     c.in_ok-check_go.ensures

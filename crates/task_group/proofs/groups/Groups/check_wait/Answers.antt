@@ -1,4 +1,4 @@
-use Rattle.task_group.proofs.Checks.{wait_busy, wait_missed, wait_told}
+use Rattle.task_group.proofs.Checks.{wait_busy, wait_missed, wait_cancels}
 use Rattle.task_group.proofs.groups.Groups.check_wait.Goals as goal
 
 pub returns-then-group_count-group : goal.returns-then-group_count-group
@@ -18,14 +18,14 @@ returns-then-unfinished-ne0 g c count tree =
 
 pub returns-then-was_waited : goal.returns-then-was_waited
 returns-then-was_waited g c count tree =
-    rw c.if-was_waited.true at (wait_told c.args.self.now c.args.group
+    rw c.if-was_waited.true at (wait_cancels c.args.self.now c.args.group
     c.unfinished-unfinished.result c.was_waited.result
     (rw c.group_count.ensures.len at c.if-group_count-group.false)
     c.unfinished-unfinished.ensures c.if-unfinished-ne0.false c.was_waited.ensures)
 
 pub returns : goal.returns
 returns g c count tree =
-    rw c.if-was_waited.false at (wait_told c.args.self.now c.args.group
+    rw c.if-was_waited.false at (wait_cancels c.args.self.now c.args.group
     c.unfinished-unfinished.result c.was_waited.result
     (rw c.group_count.ensures.len at c.if-group_count-group.false)
     c.unfinished-unfinished.ensures c.if-unfinished-ne0.false c.was_waited.ensures)

@@ -12,11 +12,11 @@ invariant_of-self g c =
     let place = rw (← c.self.view_is) at c.requires.place in (
       subst
           (λ (l : List Task).
-          AreKept (work s.layout s.groups.items l) s.seats.items c.push_none.new.next.items s.ready
+          AreKept (work s.layout s.groups.items l) s.counts.items c.push_none.new.next.items s.ready
           s.running c.note_retry.new.flags.items)
           (sym c.push_task.ensures.appended)
           (rw (c.push_none.ensures.pushed, c.note_retry.ensures.noted)
-          (ended_comes w c.args.row s.seats.items s.next.items s.ready s.running
+          (ended_comes w c.args.row s.counts.items s.next.items s.ready s.running
           s.retried.items c.requires.ended place.known place.room place.link
           c.self.invariant.0)),
       room_stays c.self.invariant.1 refl c.push_task.ensures.capacity refl

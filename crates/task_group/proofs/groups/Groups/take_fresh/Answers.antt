@@ -3,12 +3,12 @@ use Rattle.run_model.specs.declared.tasks.Task.{Task}
 use Rattle.task_group.specs.Kept.{IsWithin}
 use Rattle.task_group.specs.Sound.{work, AreKept}
 use Rattle.task_group.proofs.Comings.{fresh_comes}
-use Rattle.task_group.proofs.Rooms.{seat_room, last_known, room_stays}
+use Rattle.task_group.proofs.Rooms.{group_count_room, last_known, room_stays}
 use Rattle.task_group.proofs.groups.Groups.take_fresh.Goals as goal
 
-pub index-seats-requires : goal.index-seats-requires
-index-seats-requires g c =
-    rw (c.self.inside.seats.ok.0, c.self.invariant.0.seated.as_groups)
+pub index-counts-requires : goal.index-counts-requires
+index-counts-requires g c =
+    rw (c.self.inside.counts.ok.0, c.self.invariant.0.seated.as_groups)
     (rw (← c.self.view_is) at c.requires.place).known
 
 pub index-requires : goal.index-requires
@@ -21,11 +21,11 @@ link-requires-clause-known g c =
     let w = work s.layout s.groups.items s.tasks.items in
     let kept = c.self.invariant.0.seated in
     let place = rw (← c.self.view_is) at c.requires.place in
-    let seats = c.index-seats.result.now in
-    let row = slice_get_read s.seats.items (length s.seats.items) c.args.row.group seats refl
-    (omega (arith, place.known, kept.as_groups)) c.index-seats.ensures in
-    subst (λ (n : ℕ). IsWithin seats.first seats.last n) (sym kept.as_tasks)
-    (last_known w c.args.row.group seats (kept.right c.args.row.group seats row))
+    let counts = c.index-counts.result.now in
+    let row = slice_get_read s.counts.items (length s.counts.items) c.args.row.group counts refl
+    (omega (arith, place.known, kept.as_groups)) c.index-counts.ensures in
+    subst (λ (n : ℕ). IsWithin counts.first counts.last n) (sym kept.as_tasks)
+    (last_known w c.args.row.group counts (kept.right c.args.row.group counts row))
 
 pub link-requires-clause-room : goal.link-requires-clause-room
 link-requires-clause-room g c =
@@ -34,12 +34,12 @@ link-requires-clause-room g c =
 
 pub enter-requires-clause-known : goal.enter-requires-clause-known
 enter-requires-clause-known g c =
-    rw (c.self.inside.seats.ok.0, c.self.invariant.0.seated.as_groups)
+    rw (c.self.inside.counts.ok.0, c.self.invariant.0.seated.as_groups)
     (rw (← c.self.view_is) at c.requires.place).known
 
 pub enter-requires-clause-room : goal.enter-requires-clause-room
 enter-requires-clause-room g c row here =
-    seat_room c.self.invariant.0 (rw (← c.self.view_is) at c.requires.place) row here
+    group_count_room c.self.invariant.0 (rw (← c.self.view_is) at c.requires.place) row here
 
 pub note_retry-requires-clause-room : goal.note_retry-requires-clause-room
 note_retry-requires-clause-room g c =
@@ -67,14 +67,14 @@ invariant_of-self g c =
     let w = work s.layout s.groups.items s.tasks.items in
     let n : c.len-n.result ≡ length s.tasks.items = omega arith in
     let place = rw (← c.self.view_is) at c.requires.place in
-    let row = slice_get_read s.seats.items (length s.seats.items) c.args.row.group
-    c.index-seats.result.now refl (omega (arith, place.known, c.self.invariant.0.seated.as_groups))
-    c.index-seats.ensures in
+    let row = slice_get_read s.counts.items (length s.counts.items) c.args.row.group
+    c.index-counts.result.now refl (omega (arith, place.known, c.self.invariant.0.seated.as_groups))
+    c.index-counts.ensures in
     let group = slice_get_read s.groups.items (length s.groups.items) c.args.row.group
     c.index.result.now refl place.known c.index.ensures in (
       subst
           (λ (l : List Task).
-          AreKept (work s.layout s.groups.items l) c.enter.new.seats.items c.link.new.next.items
+          AreKept (work s.layout s.groups.items l) c.enter.new.counts.items c.link.new.next.items
           c.set.new.self s.running c.note_retry.new.flags.items)
           (sym c.push_task.ensures.appended)
           (rw (
@@ -84,8 +84,8 @@ invariant_of-self g c =
             c.note_retry.ensures.noted,
             n,
           )
-          (fresh_comes w c.args.row s.seats.items s.next.items s.ready s.running s.retried.items
-          c.index-seats.result.now c.index.result.now c.admits-admitted.result c.requires.fresh
+          (fresh_comes w c.args.row s.counts.items s.next.items s.ready s.running s.retried.items
+          c.index-counts.result.now c.index.result.now c.admits-admitted.result c.requires.fresh
           c.self.invariant.0 row group place.room place.link c.admits-admitted.ensures)),
       room_stays c.self.invariant.1 refl c.push_task.ensures.capacity c.enter.ensures.capacity
           c.link.ensures.capacity c.note_retry.ensures.capacity,

@@ -12,12 +12,14 @@ invariant_of-self g c =
     let room = rw (← c.self.view_is) at c.requires in (
       subst
           (λ (l : List Group).
-          AreKept (work s.layout l s.tasks.items) c.push_seats.new.seats.items s.next.items s.ready
+          AreKept (work s.layout l s.tasks.items) c.push_counts.new.counts.items s.next.items
+          s.ready
           s.running s.retried.items)
           (sym c.push_group.ensures.appended)
-          (rw c.push_seats.ensures.pushed
-          (make_keeps w c.args.row s.seats.items s.next.items s.ready s.running s.retried.items
+          (rw c.push_counts.ensures.pushed
+          (make_keeps w c.args.row s.counts.items s.next.items s.ready s.running s.retried.items
           room c.self.invariant.0)),
-      room_stays c.self.invariant.1 c.push_group.ensures.capacity refl c.push_seats.ensures.capacity
+      room_stays c.self.invariant.1 c.push_group.ensures.capacity refl
+          c.push_counts.ensures.capacity
           refl refl,
     )

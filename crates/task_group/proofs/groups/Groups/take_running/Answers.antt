@@ -3,7 +3,7 @@ use Rattle.run_model.proofs.Common.{most_tasks_most}
 use Rattle.run_model.specs.declared.tasks.Task.{Task}
 use Rattle.task_group.specs.Sound.{work, AreKept}
 use Rattle.task_group.proofs.Comings.{running_comes}
-use Rattle.task_group.proofs.Rooms.{running_few, seat_room, room_stays}
+use Rattle.task_group.proofs.Rooms.{running_few, group_count_room, room_stays}
 use Rattle.task_group.proofs.groups.Groups.take_running.Goals as goal
 
 pub push_none-requires : goal.push_none-requires
@@ -13,12 +13,12 @@ push_none-requires g c =
 
 pub enter-requires-clause-known : goal.enter-requires-clause-known
 enter-requires-clause-known g c =
-    rw (c.self.inside.seats.ok.0, c.self.invariant.0.seated.as_groups)
+    rw (c.self.inside.counts.ok.0, c.self.invariant.0.seated.as_groups)
     (rw (← c.self.view_is) at c.requires.place).known
 
 pub enter-requires-clause-room : goal.enter-requires-clause-room
 enter-requires-clause-room g c row here =
-    seat_room c.self.invariant.0 (rw (← c.self.view_is) at c.requires.place) row here
+    group_count_room c.self.invariant.0 (rw (← c.self.view_is) at c.requires.place) row here
 
 pub note_retry-requires-clause-room : goal.note_retry-requires-clause-room
 note_retry-requires-clause-room g c =
@@ -43,7 +43,7 @@ invariant_of-self g c =
     let place = rw (← c.self.view_is) at c.requires.place in (
       subst
           (λ (l : List Task).
-          AreKept (work s.layout s.groups.items l) c.enter.new.seats.items
+          AreKept (work s.layout s.groups.items l) c.enter.new.counts.items
           c.push_none.new.next.items s.ready (s.running + 1) c.note_retry.new.flags.items)
           (sym c.push_task.ensures.appended)
           (rw (
@@ -52,7 +52,7 @@ invariant_of-self g c =
             c.note_retry.ensures.noted,
             n,
           )
-          (running_comes w c.args.row s.seats.items s.next.items s.ready s.running
+          (running_comes w c.args.row s.counts.items s.next.items s.ready s.running
           s.retried.items c.requires.running (rw (← c.self.view_is) at c.requires.admitted)
           place.known place.room place.link c.self.invariant.0)),
       room_stays c.self.invariant.1 refl c.push_task.ensures.capacity c.enter.ensures.capacity
