@@ -245,7 +245,7 @@ fn an_input_that_fails_is_reported(rt: HostRuntime) {
 /// Words that something is told of, and the status.
 type Reporting = (&'static [&'static str], u8);
 
-static TOLD: [Reporting; 3] = [(&["crew"], 2), (&["script", "none"], 3), (&[], 2)];
+static REPORTED: [Reporting; 3] = [(&["crew"], 2), (&["script", "none"], 3), (&[], 2)];
 
 /// Asserts how a run ends that can tell nothing.
 fn assert_unreported<R: Threads + Wait + Sync + Abort>(
@@ -275,7 +275,7 @@ fn assert_unreported<R: Threads + Wait + Sync + Abort>(
 
 #[test]
 fn what_could_not_be_reported_is_printed(rt: HostRuntime) {
-    for (row, reporting) in TOLD.iter().enumerate() {
+    for (row, reporting) in REPORTED.iter().enumerate() {
         assert_unreported(&rt, rt.alloc(), row, reporting);
     }
 }
