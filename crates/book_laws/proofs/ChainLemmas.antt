@@ -339,11 +339,11 @@ module _ {D : Type 0} (state : D → DiskState) (given : D) (layout : Layout)
       (one_layout is.layout layout (sym is.sized ∙ whole))
       (is.stores honest (state new).now (disk.now_is_image (is.passed.honest honest)))
 
-  stops : (new : D) (other : Layout) → (state given).honest → IsAtRest (state given)
+  crashes : (new : D) (other : Layout) → (state given).honest → IsAtRest (state given)
       → AreZeros (state given).now → (state given).size ≡ store_len other
       → CrashesInFormat other (state given) (state new)
       → LeavesOnly (StoresNothingOr (formatted layout)) (state given) (state new)
-  stops new other honest rest zeros sized run =
+  crashes new other honest rest zeros sized run =
       subst (λ l. LeavesOnly (StoresNothingOr (formatted l)) (state given) (state new))
       (one_layout other layout (sym sized ∙ whole))
       (run honest (λ x left. subst AreZeros (sym (rest.only x left)) zeros))
@@ -362,7 +362,7 @@ module _ {D : Type 0} (state : D → DiskState) (given : D) (layout : Layout)
         held =
             leaves_only_more (StoresNothingOr p) (HoldsOne p events) (HoldsOneOrNothing p events)
             (state given) (state new) (state behind)
-            (stops new is.layout honest rest zeros is.sized is.stops) stayed.held
+            (crashes new is.layout honest rest zeros is.sized is.crashes) stayed.held
             (λ x left. inl left) (λ x left. inr left);
       }
 
@@ -380,7 +380,7 @@ module _ {D : Type 0} (state : D → DiskState) (given : D) (layout : Layout)
             absurd (no_size layout (state given).size whole failed.0)
         | inr failed ↦
             let is = subst (λ w. FormatsNot state given w new) failed not in
-            stops new is.sized.0 honest rest zeros is.sized.1 is.stops
+            crashes new is.sized.0 honest rest zeros is.sized.1 is.crashes
       ] in
       record {
         answers = [];

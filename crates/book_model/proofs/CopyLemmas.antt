@@ -81,7 +81,7 @@ module _ {D : Type 0} (from : D → DiskState) (old read : D) (disk : IsDisk (fr
         | inl many ↦
             absurd (stores_not_both (from old).now many.1.state other
             (many.1.recovered.holds honest) none)
-        | inr crashes ↦ elim (recovers_none from old read (Err f) other disk honest crashes none) [
+        | inr stops ↦ elim (recovers_none from old read (Err f) other disk honest stops none) [
           | inl same ↦ inl (ap (λ g. why.Old g) same)
           | inr (inl memory) ↦ absurd (not_memory from old read f is memory)
           | inr (inr failed) ↦ inr (inr (ap (λ g. why.Old g) failed))

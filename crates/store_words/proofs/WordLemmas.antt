@@ -177,7 +177,7 @@ module _ {D : Type 0} (state : D → DiskState) (disk : (d : D) → IsDisk (stat
   format_leaves made left layout done w0 w1 honest zeros sized (inl (formats, rest, prints)) =
       subst (λ l. LeavesOnly (StoresNothingOr (formatted l)) (state made) (state left))
       (one_layout formats.layout layout (sym formats.sized ∙ sized))
-      (formats.stops honest zeros)
+      (formats.crashes honest zeros)
   format_leaves made left layout done w0 w1 honest zeros sized (inr (why, reported, not, quiet)) =
       by why not
     where
@@ -195,7 +195,7 @@ module _ {D : Type 0} (state : D → DiskState) (disk : (d : D) → IsDisk (stat
       by fault.DiskFailed failed =
           subst (λ l. LeavesOnly (StoresNothingOr (formatted l)) (state made) (state left))
           (one_layout failed.sized.0 layout (sym failed.sized.1 ∙ sized))
-          (failed.stops honest zeros)
+          (failed.crashes honest zeros)
       by fault.NotAStore none = absurd none
       by fault.BadSlot none = absurd none
       by fault.BadImage none = absurd none
