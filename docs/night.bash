@@ -65,28 +65,34 @@ _night_run() {
             mapfile -t COMPREPLY < <(compgen -W "html text prom" -- "$current")
             return ;;
         --cancel)
-            # the groups of the file of commands, if it stands before
-            [[ -f ${COMP_WORDS[2]} ]] || return
+            # the groups of the file of commands, if it stands before, or else of the last run
             mapfile -t COMPREPLY < <(
-                compgen -W "night $(_night_run_groups "${COMP_WORDS[2]}" "$current")" -- "$current")
+                compgen -W "$(_night_run_groups "$current" night)" -- "$current")
+            return ;;
+        --tail | --output)
+            # the commands of the group once there is a slash
+            mapfile -t COMPREPLY < <(compgen -W "$(_night_run_groups "$current")" -- "$current")
             return ;;
     esac
     if [[ $current == -* ]]; then
         mapfile -t COMPREPLY < <(
             compgen -W "-j --grace --keep --failed --again --nightly --resume --quiet \
-                --on-begin --on-success --on-failure --list --json --dry-run --report --cancel \
-                --version --help" -- "$current")
+                --on-begin --on-success --on-failure --list --json --dry-run --report \
+                --status --watch --tail --output --cancel --version --help" -- "$current")
     else
         compopt -o filenames 2> /dev/null
         mapfile -t COMPREPLY < <(compgen -f -- "$current")
     fi
 }
 
-# The groups of a file of commands, or its commands once there is a slash.
+# The groups of the file of commands, and these other names; or its commands once there is a slash.
 _night_run_groups() {
-    local what='$1'
-    [[ ${2-} != */* ]] || what='$1 "/" $2'
-    awk "\$1 ~ /^[a-z0-9_-]+\$/ && \$2 ~ /^[a-z0-9_-]+\$/ && NF > 2 { print $what }" "$1" | sort -u
+    local what='$1' file=${COMP_WORDS[2]}
+    [[ $1 != */* ]] || what='$1 "/" $2'
+    [[ -f $file ]] || file=${COMP_WORDS[1]}.tries/plan
+    [[ -f $file ]] || return
+    printf '%s\n' "${@:2}"
+    awk "\$1 ~ /^[a-z0-9_-]+\$/ && \$2 ~ /^[a-z0-9_-]+\$/ && NF > 2 { print $what }" "$file" | sort -u
 }
 
 complete -F _night night

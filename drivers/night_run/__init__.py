@@ -20,6 +20,10 @@
     mounts     looks that may never end            clock       whether the machine's is set
     strangers  others who have the store open      foreign     files that aren't night-run's
     raised     alarms that were given              descriptors how many files may be open
+    status     how a night stands now: status_command prints it, status_screen lays it out, and
+               status_output prints what commands print. status_plan is what the last run was to do,
+               status_times how long commands usually take, status_forecast when a night will end,
+               and status_line the line of progress
 
 docs/pipe.md has the rules that keep it safe, and docs/troubles.md its limits.
 """

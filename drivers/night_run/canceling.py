@@ -57,7 +57,7 @@ class Target:
         return f"{self.group}/{self.key}" if self.key else self.group
 
 
-def target_of(word: str) -> Target:
+def target_of(word: str, flag: str = "--cancel") -> Target:
     group, slash, key = word.partition("/")
     made = Target(base_of(group), key)
     try:
@@ -67,7 +67,7 @@ def target_of(word: str) -> Target:
             if made.group == OF_ALL:
                 raise Wrong(f"the group {OF_ALL} stands for all groups")
     except Wrong as wrong:
-        raise Mistake(f"--cancel {short(word)}: {wrong}") from None
+        raise Mistake(f"{flag} {short(word)}: {wrong}") from None
     return made
 
 

@@ -22,6 +22,7 @@ import collections
 import errno
 import os
 import re
+from collections.abc import Iterable
 from dataclasses import dataclass
 
 from . import Fault, Mistake, Name, descriptors
@@ -87,7 +88,8 @@ class Job:
 class Jobs:
     """The commands by group and key, in the file's order, and the settings of each group."""
 
-    def __init__(self, path: str) -> None:
+    def __init__(self, path: str, lines: Iterable[str] | None = None) -> None:
+        """Reads the file of this path; or these lines, which are called by the path."""
         self.path = path
         self.texts: dict[Name, str] = {}
         self.lines: dict[Name, int] = {}
@@ -95,7 +97,7 @@ class Jobs:
         self.own: dict[Name, Settings] = {}
         self.wrong: set[tuple[int, str]] = set()  # the mistakes, by their lines
         self.misread: set[Name] = set()  # what lines with a mistake may have meant as commands
-        for number, line in enumerate(lines_of(path), 1):
+        for number, line in enumerate(lines_of(path) if lines is None else lines, 1):
             self.read(number, line)
         for group, its in self.groups.items():
             self.check_way(group, its)

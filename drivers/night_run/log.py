@@ -117,11 +117,11 @@ def round_in(group: bytes) -> int:
     return round_of(group.decode("ascii", "replace")).number
 
 
-def backwards(file: int) -> Iterator[bytes]:
+def backwards(file: int, most: int = MOST_READ) -> Iterator[bytes]:
     """The lines of a file, the last one first. A line that is too long is skipped, and so is what
-    stands before the last ones of a file that is."""
+    stands before this many bytes at its end."""
     at, tail, is_cut = os.fstat(file).st_size, b"", False
-    first_read = max(0, at - MOST_READ)
+    first_read = max(0, at - most)
     while at > first_read:
         size = min(BLOCK, at)
         at -= size

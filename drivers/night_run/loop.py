@@ -18,7 +18,8 @@
  7. A command that has ended has no process left in its session, unless it has `background keep`.
  8. A file that can't be read (a cancel, a log, the ends of a renewed store) ends no night: it is
     reported once and passed over, or the night doesn't begin.
- 9. `--list`, `--report` and `--dry-run` write nothing, lock nothing, and show one moment.
+ 9. `--list`, `--report`, `--dry-run` and `--status` write nothing, lock nothing, and show one
+    moment.
 10. At its end, even after a fault, a run prints what the night did: how many commands ran now,
     which ended before, and which weren't started and why. The status is 0 only if every command of
     the file is ok.
@@ -62,8 +63,8 @@ from .scoping import Scopes
 from .signals import Signals
 from .state import ENDED, JOB, State
 from .standing import Standing
+from .status_line import Line
 from .stopping import Stopper
-from .summary import so_far
 from .telling import error_text, note, progress, tell, tell_once
 from .timing import Deadlines, cause_of, moments
 from .tries import Tries
@@ -104,6 +105,7 @@ class Driver:
         self.is_fruitless = self.is_woken = self.has_mark = False
         self.acked = 0
         self.inherited = dict(os.environ)
+        self.line = Line(files, planner)
         signals.raises = False
         planner.meanwhile = self.meanwhile
 
@@ -262,8 +264,7 @@ class Driver:
         while True:
             self.round()
             if progress.is_on:
-                progress.show(so_far(self.facts.ends.values(), len(self.jobs.all),
-                                     len(self.commands)))
+                progress.show(self.line.text(self))
             if self.is_over():
                 return
             self.wait()

@@ -12,8 +12,10 @@ import signal
 import sys
 import threading
 
+# Goes to the begin of a line, and clears it.
+CLEAR_LINE = "\r\x1b[K"
 # Takes away the line of progress, which only a terminal gets.
-CLEAR = "\r\x1b[K" if sys.stderr is not None and sys.stderr.isatty() else ""
+CLEAR = CLEAR_LINE if sys.stderr is not None and sys.stderr.isatty() else ""
 # How many texts wait at most; what comes then is lost.
 MOST = 10_000
 # How many seconds are given to the last ones.

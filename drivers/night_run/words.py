@@ -9,6 +9,7 @@ from __future__ import annotations
 import argparse
 import contextlib
 import dataclasses
+import errno
 import json
 import os
 import re
@@ -18,7 +19,7 @@ from collections.abc import Iterable
 from typing import NoReturn
 
 from . import (Fault, Mistake, Name, cancels, clock, descriptors, early, exits, foreign,
-               raised, rows, strangers, telling)
+               raised, rows, status_command, status_output, strangers, telling)
 from .beside import Umask
 from .canceling import cancel
 from .exits import Hooks, Outcome, hooks_of, outcome_of
@@ -40,6 +41,7 @@ from .rest import Rest
 from .rounds import Role, role_name
 from .signals import Signals
 from .state import State
+from .status_plan import write_plan
 from .summary import (changed, failed_count, failures, is_well, left_count, list_lines,
                       names_not_there, nothing_to_do, total)
 from .telling import note
@@ -120,7 +122,8 @@ FORMS = ("html", "text", "prom")
 # The commands that a night runs as it begins and ends.
 HOOKS = {"--on-begin": "begin", "--on-success": "success", "--on-failure": "failure"}
 # Words with which no night is run.
-LOOKS = ("--list", "--dry-run", "--report", "--cancel", "--help", "-h", "--version")
+LOOKS = ("--list", "--dry-run", "--report", "--status", "--tail", "--output", "--cancel", "--help",
+         "-h", "--version")
 
 
 class Unusable(Mistake):
@@ -151,6 +154,8 @@ def read_words(given: list[str]) -> argparse.Namespace:
               "                       [--on-failure COMMAND]\n"
               "       night-run STORE JOBS --list [--json] | --report html|text|prom\n"
               "       night-run STORE JOBS --dry-run [--failed | --again | --nightly]\n"
+              "       night-run STORE [JOBS] --status [--watch | --json]\n"
+              "       night-run STORE [JOBS] --tail GROUP/KEY | --output GROUP/KEY\n"
               "       night-run STORE [JOBS] --cancel GROUP[/KEY] [WHY..]\n"
               "       night-run --version | --help",
         formatter_class=argparse.RawDescriptionHelpFormatter)
@@ -189,26 +194,45 @@ def read_words(given: list[str]) -> argparse.Namespace:
                       help="print the commands that aren't ok, and change nothing")
     what.add_argument("--report", choices=FORMS, metavar="html|text|prom",
                       help="print the night as a web page, as text for a mail, or as metrics")
+    what.add_argument("--status", action="store_true",
+                      help="print what runs, what failed, what waits and for what, and when the"
+                      " night will end")
+    what.add_argument("--tail", metavar="GROUP/KEY",
+                      help="print what a command prints, until it ends")
+    what.add_argument("--output", metavar="GROUP/KEY",
+                      help="print what the last try of a command has printed")
     what.add_argument("--cancel", nargs="+", metavar=("GROUP", "WHY"),
                       help="cancel a group, one command (GROUP/KEY), or all groups (`night`), also"
                       " while another night-run runs them")
     reader.add_argument("--dry-run", action="store_true",
                         help="print what would be started, also with --failed, --again or"
                         " --nightly, and change nothing")
+    reader.add_argument("--watch", action="store_true",
+                        help="with --status: show it again every two seconds, until Ctrl-C")
     reader.add_argument("--json", action="store_true",
-                        help="with --list: print every command, as JSON")
+                        help="with --list: print every command, as JSON; with --status: print it as"
+                        " JSON")
     reader.add_argument("--version", action="version", version=f"night-run {version()}",
                         help="print the version")
     found = reader.parse_args(given)
     if not found.store:
         reader.error("STORE is empty")
-    if not found.cancel and found.jobs is None:
+    if not (found.cancel or is_status(found)) and found.jobs is None:
         reader.error("JOBS is missing: give the file of commands after STORE")
-    if found.json and not found.list:
-        reader.error("--json goes with --list")
+    if found.json and not (found.list or found.status):
+        reader.error("--json goes with --list or --status")
+    if found.watch and (not found.status or found.json):
+        reader.error("--watch goes with --status, and not with --json")
     if found.dry_run and (found.list or found.report or found.cancel):
         reader.error("--dry-run goes with none of --list, --report and --cancel")
+    if found.dry_run and is_status(found):
+        reader.error("--dry-run goes with none of --status, --tail and --output")
     return found
+
+
+def is_status(words: argparse.Namespace) -> bool:
+    """Whether a night is to be looked at as it stands, which needs no file of commands."""
+    return bool(words.status or words.tail is not None or words.output is not None)
 
 
 def number(word: str) -> int:
@@ -235,7 +259,7 @@ def run() -> int:
         return exits.leave(Outcome(exits.WELL, lines=(str(text).rstrip("\n"),)), Hooks())
     except Unusable as mistake:
         return unusable(given, mistake)
-    if words.list or words.report or words.dry_run or words.cancel:
+    if words.list or words.report or words.dry_run or words.cancel or is_status(words):
         early.let_be()
         return exits.leave(looked(words), Hooks())
     signals = Signals()
@@ -281,8 +305,11 @@ def looked(words: argparse.Namespace) -> Outcome:
         become_owner(words.store)
         files = Files(words.store)
         files.look()
-        lines = [cancel(files, words.jobs, *words.cancel)] if words.cancel else \
-            shown(files, Planner(Jobs(words.jobs)), words)
+        if is_status(words):
+            lines = standing(files, words)
+        else:
+            lines = [cancel(files, words.jobs, *words.cancel)] if words.cancel else \
+                shown(files, Planner(Jobs(words.jobs)), words)
         return Outcome(exits.WELL, lines=tuple(lines))
     except (Exception, KeyboardInterrupt) as error:
         return outcome_of(error)
@@ -325,6 +352,22 @@ def shown(files: Files, planner: Planner, words: argparse.Namespace) -> list[str
     if words.json:
         return [json.dumps([as_json(it) for it in made.rows], indent=1)]
     return list_lines(made)
+
+
+def standing(files: Files, words: argparse.Namespace) -> list[str]:
+    """What is asked for of a night as it stands; of what goes on, all is printed already."""
+    if not files.exists():
+        raise Mistake(f"{files.shown}: {os.strerror(errno.ENOENT)}")
+    jobs = Jobs(words.jobs) if words.jobs is not None else None
+    if words.tail is not None:
+        status_output.follow(files, jobs, words.tail)
+    elif words.output is not None:
+        status_output.print_output(files, jobs, words.output)
+    elif words.watch:
+        status_command.watch(files, jobs)
+    else:
+        return status_command.status_lines(files, jobs, words.json)
+    return []
 
 
 def wish_of(words: argparse.Namespace) -> Wish:
@@ -463,6 +506,7 @@ class Run:
         self.rest.is_due = self.words.nightly and is_left(state, self.past)
         if not self.prepare(driver, state):
             return self.idle()
+        write_plan(tries, self.jobs, self.words.most)
         self.hooks.begin()
         driver.run()
         if not self.rest.is_due or not self.is_over(driver):

@@ -1,0 +1,146 @@
+"""The line of progress of a night that is run at a terminal: how far it is, when it will end, and
+which commands run.
+
+When it will end is found by a thread of its own, and so are the times of the last nights. The loop
+leaves the moment there and takes what was found, and waits for neither.
+"""
+
+from __future__ import annotations
+
+import signal
+import threading
+import time
+from collections.abc import Mapping
+from typing import TYPE_CHECKING
+
+from . import Name
+from .commands import Command
+from .facts import Facts
+from .files import Files
+from .jobs import Jobs
+from .planner import Planner
+from .report_words import span
+from .standing import CANCELLED, FAILED, NEVER, OK, RUNNING, WAITING
+from .status_forecast import Forecast, Moment, forecast, retry_due
+from .status_screen import ending
+from .status_times import usual_times
+from .summary import so_far
+
+if TYPE_CHECKING:
+    from .loop import Driver
+
+# Seconds between two forecasts; and how many times as long as it takes to find one.
+OFTEN, SELDOM = 5.0, 50
+# How many of the commands that run are named: more don't fit on any terminal.
+MOST_NAMED = 40
+
+
+class Line:
+    """The line of a night's driver."""
+
+    def __init__(self, files: Files, planner: Planner) -> None:
+        self.oracle = Oracle(files, planner.jobs)
+        self.planner = planner
+
+    def text(self, driver: Driver) -> str:
+        """The line of this moment."""
+        facts, jobs = driver.facts, driver.jobs
+        if self.oracle.is_idle():
+            self.oracle.ask(driver.night, moment_of(driver, self.planner, time.time()))
+        shown = so_far(facts.ends.values(), len(jobs.all), len(driver.commands))
+        found = self.oracle.found
+        if found and driver.commands:
+            shown += f"; {ending(found, time.time())}"
+        its = sorted(seconds_of(driver.commands).items(), key=lambda it: -it[1])[:MOST_NAMED]
+        named = ", ".join(f"{'/'.join(name)} {span(seconds)}" for name, seconds in its)
+        return f"{shown}; {named}" if named else shown
+
+
+def seconds_of(commands: Mapping[Name, Command]) -> dict[Name, float]:
+    """For how long each command has run, whatever the machine's clock was set to meanwhile."""
+    now, wall = time.monotonic(), time.time()
+    return {name: now - it.since if it.since else max(0.0, wall - it.began) if it.began else 0.0
+            for name, it in commands.items()}
+
+
+# --- the end of the night
+
+def moment_of(driver: Driver, planner: Planner, now: float) -> Moment:
+    """What the driver knows now."""
+    facts, jobs = driver.facts, driver.jobs
+    phases = phases_of(jobs, facts, planner)
+    due = {name: at for name in facts.ends if phases.get(name) == WAITING
+           and (at := retry_due(jobs.all[name], facts)) is not None}
+    deadlines = {group: float(it.deadline) for group, it in driver.book.scopes.items()
+                 if it.deadline is not None and group not in facts.done and group in jobs.members}
+    return Moment(now, driver.most, phases, seconds_of(driver.commands), due, deadlines)
+
+
+def phases_of(jobs: Jobs, facts: Facts, planner: Planner) -> dict[Name, str]:
+    """How each command stands, as far as the driver knows without asking."""
+    found: dict[Name, str] = {}
+    stopped: set[str] = set()
+    for name, job in jobs.all.items():
+        end = facts.ends.get(name)
+        if name in facts.busy:
+            found[name] = RUNNING
+        elif end is None or end.is_ok:
+            found[name] = OK if end else WAITING
+        elif planner.has_failed(facts, job, end):
+            found[name] = CANCELLED if end.is_canceled else FAILED
+            stopped |= {job.group} if jobs.stops(job.group) else set()
+        else:
+            found[name] = WAITING
+    for name, phase in found.items():
+        if phase == WAITING and not jobs.cleans_up(name):
+            if name[0] in facts.done:
+                found[name] = CANCELLED
+            elif name[0] in stopped:
+                found[name] = NEVER
+    return found
+
+
+class Oracle:
+    """Finds when the night will end, in a thread. If the system has no room for one, that isn't
+    known."""
+
+    def __init__(self, files: Files, jobs: Jobs) -> None:
+        self.files, self.jobs = files, jobs
+        self.found: Forecast | None = None
+        self.moment: tuple[int, Moment] | None = None
+        self.asked = threading.Event()
+        self.next = 0.0  # when the next forecast is due, by the monotonic clock
+        self.thread: threading.Thread | None = None
+
+    def is_idle(self) -> bool:
+        """Whether it is time for another forecast."""
+        return self.moment is None and time.monotonic() >= self.next
+
+    def ask(self, night: int, it: Moment) -> None:
+        self.next = time.monotonic() + OFTEN
+        self.moment = night, it
+        if self.thread is None:
+            thread = threading.Thread(target=self.run, daemon=True)
+            try:
+                thread.start()
+            except (RuntimeError, MemoryError):
+                return  # (the moment stays, so nothing more is asked)
+            self.thread = thread
+        self.asked.set()
+
+    def run(self) -> None:
+        # (signals are for the thread that waits for them)
+        signal.pthread_sigmask(signal.SIG_BLOCK, signal.valid_signals())
+        known, night = usual_times(self.files, 0, ()), 0
+        while True:
+            self.asked.wait()
+            self.asked.clear()
+            if self.moment is None:
+                continue
+            began = time.monotonic()
+            if self.moment[0] != night:
+                night = self.moment[0]
+                known = usual_times(self.files, night, self.jobs.all.keys())
+            self.found = forecast(self.jobs, known.usual, self.moment[1])
+            self.next = time.monotonic() + max(OFTEN, SELDOM * (time.monotonic() - began))
+            self.moment = None
