@@ -24,7 +24,7 @@ from .status_times import Usual
 # Below this width the columns of a command that runs stand below its name.
 NARROW = 60
 # The widths of the columns after the name: how long, usually, since, process.
-WIDTHS = (8, 9, 9, 9)
+WIDTHS = (8, 9, 10, 9)
 # How many commands are shown of each kind where the lines aren't counted.
 MOST_SHOWN = 20
 DAY = 86_400
