@@ -32,7 +32,7 @@ night_led : (p : State) (work : List Event) (x : List ℕ) → StoresNight p wor
     → IsLedBy p work 0 x
 night_led p work x (inl before) = record {
   state = p;
-  leads = record { beginning = inl refl; holds = omega arith };
+  leads = record { prefix = inl refl; holds = omega arith };
   stores = before;
 }
 night_led p work x (inr after) = record {
@@ -49,7 +49,7 @@ module _ {D : Type 0} (state : D → DiskState) (disk : (d : D) → IsDisk (stat
   acks_led p work n x left acks image = record {
     state = acks.state;
     leads = record {
-      beginning = inr (record {
+      prefix = inr (record {
         many = length work;
         enough = omega arith;
         within = omega arith;
