@@ -240,9 +240,10 @@ def cancels_obeyed(seen: Seen) -> Iterator[str]:
 
 
 def starts_in(seen: Seen, one: float, other: float, group: str = "") -> int:
-    """How many starts were acked between these moments, of this group or of all."""
-    return sum(it.end is None and one < it.at < other for key, acks in seen.acked.items()
-               if not group or seen.plan.commands[key].group == group for it in acks)
+    """How many tries, of this group or of all, had their starts acked between these moments. (A
+    start that is acked with its end, of a try that outlived its driver, begins nothing.)"""
+    return sum(one < started(seen, it) < other for it in seen.all_tries()
+               if not group or seen.plan.commands[it.key].group == group)
 
 
 def deadlines_kept(seen: Seen) -> Iterator[str]:
