@@ -87,12 +87,13 @@ _night_run() {
 
 # The groups of the file of commands, and these other names; or its commands once there is a slash.
 _night_run_groups() {
-    local what='$1' file=${COMP_WORDS[2]}
-    [[ $1 != */* ]] || what='$1 "/" $2'
+    local what='$1' key='^[a-z0-9_{}-]+$' file=${COMP_WORDS[2]}
+    [[ $1 != */* ]] || what='$1 "/" $2' key='^[a-z0-9_-]+$'
     [[ -f $file ]] || file=${COMP_WORDS[1]}.tries/plan
     [[ -f $file ]] || return
     printf '%s\n' "${@:2}"
-    awk "\$1 ~ /^[a-z0-9_-]+\$/ && \$2 ~ /^[a-z0-9_-]+\$/ && NF > 2 { print $what }" "$file" | sort -u
+    awk "\$1 ~ /^[a-z0-9_-]+\$/ && \$2 ~ /$key/ && (NF > 2 || \$1 != \"include\") \
+        { print $what }" "$file" | sort -u
 }
 
 complete -F _night night

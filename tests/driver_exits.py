@@ -233,7 +233,7 @@ def few_files(tries: Shared) -> None:
         errno.EMFILE, "Too many", "/a/b")).errors, (
         f"/a/b: Too many (the limit is {resource.getrlimit(resource.RLIMIT_NOFILE)[0]},"
         " ulimit -n)",))
-    made, commands = list[str](), driver_module(tries, "jobs")
+    made, commands = list[str](), driver_module(tries, "lines")
     before = commands.bytes_of
 
     def refused(_: str) -> bytes:
@@ -456,7 +456,7 @@ def writers(tries: Shared) -> None:
 def outcomes(tries: Shared) -> None:
     """What each error comes to: a status, and a line."""
     kind, exits = "what an error comes to", driver_module(tries, "exits")
-    driver = driver_module(tries, "jobs")
+    driver = driver_module(tries, "lines")
     for error, status, line in (
             (driver.Mistake("JOBS: no"), 2, "JOBS: no"), (driver.Fault("s: no"), 3, "s: no"),
             (OSError(28, "No space left", "/a/b"), 3, "/a/b: No space left"),

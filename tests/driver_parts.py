@@ -165,7 +165,7 @@ def planner_ends(tries: Shared) -> None:
     """A planner that is killed is followed by another one; one that ends by itself is a fault, with
     the program's reason."""
     it, facts = planner_of(tries, "g a x"), facts_of(tries, {})
-    fault = driver_module(tries, "jobs").Fault
+    fault = driver_module(tries, "lines").Fault
     for _ in range(2):
         tries.is_same("a planner that was killed", "choice", it.choose(facts, 1, 0.0).names,
                       (("g", "a"),))
@@ -208,7 +208,7 @@ def fault_of(tries: Shared, ask: Callable[[], object]) -> str:
     """The fault that a question leads to."""
     try:
         return f"no fault: {ask()}"
-    except driver_module(tries, "jobs").Fault as error:
+    except driver_module(tries, "lines").Fault as error:
         return str(error)
     except Exception as error:  # (whatever a broken driver leads to)
         return repr(error)

@@ -186,6 +186,9 @@ ALL = ("settings are limit N, until MOMENT, within TIME, after X.., retries N [w
        " to TIME]], timeout TIME, in FOLDER, env NAME=VALUE, stop on failure, background keep, via"
        " WORDS.., ask WORDS.., stop WORDS.., shell WORDS.., priority N, uses NAME N, pool NAME N,"
        " failure cancel")
+OF_NIGHT = ("is no setting of all groups together; these are until MOMENT, within TIME, retries N"
+            " [wait TIME [xN] [up to TIME]], timeout TIME, in FOLDER, env NAME=VALUE, background"
+            " keep, shell WORDS.., uses NAME N, pool NAME N")
 RETURN = "a carriage return stands within it; write a line feed where the line is to end"
 BACKSLASH = ("it ends with a backslash, which doesn't join it to the next line; put a longer"
              " command into a script")
@@ -241,9 +244,10 @@ MISTAKES = [
     ("g: limit 65", 1, "the limit '65' is not 1 to 64"),
     ("g: limit ٣", 1, "the limit '٣' is not 1 to 64"),
     ("night: limit 3", 1, "the limit of all groups together is the option -j"),
-    ("night: retries 3", 1,
-     "the settings of all groups together are until MOMENT, within TIME, pool NAME N and shell"
-     " WORDS.."),
+    ("night: priority 3", 1, f"priority N {OF_NIGHT}"),
+    ("night: stop on failure", 1, f"stop on failure {OF_NIGHT}"),
+    ("night: after one", 1, f"after X.. {OF_NIGHT}"), ("night: via x", 1, f"via WORDS.. {OF_NIGHT}"),
+    ("night: retries 3 retries 2", 1, "night has a number of retries already"),
     ("g: pool tape 2", 1, "a pool is a setting of all groups together: night: pool NAME N"),
     ("night: pool Tape 2", 1, "the pool 'Tape' is not 1 to 20 of a-z, 0-9, - and _"),
     ("night: pool tape many", 1, "the size of the pool tape 'many' is not 0 to 999"),

@@ -299,12 +299,12 @@ def helps(tries: Shared) -> None:
     """The help names each setting of all groups, and each setting has a line of its own."""
     kind, room = "the help", Room(tries, [])
     status, output = room.run("--help")
+    settings = driver_module(tries, "settings")
     of_all = re.search(r"^  night: SETTING\.\. +((?:.+\n)(?: {20,}.+\n)*)", output, re.M)
     tries.is_same(f"{kind}: all groups together", room.path, (status, [
-        it for it in ("until", "within", "pool", "shell") if of_all and f"{it} " in of_all[1]]),
-        (0, ["until", "within", "pool", "shell"]))
-    settings = driver_module(tries, "settings")
-    missing = [it for it in (*settings.WORDS, *settings.LATER, "until", "within")
+        it.word for it in settings.SETTINGS if settings.Of.NIGHT in it.of
+        and not (of_all and f"{it.word} " in of_all[1])]), (0, []))
+    missing = [it for it in (*settings.BY_WORD, "until", "within")
                if not re.search(rf"^  (?:\w.*, )?{it} ", output, re.M)]
     tries.is_same(f"{kind}: each setting", room.path, missing, [])
 

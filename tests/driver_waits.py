@@ -74,7 +74,7 @@ def dead_mounts(tries: Shared) -> None:
         return
     before = ["env", f"LD_PRELOAD={library}"]
     driver = copied(tries.driver, f"{Room(tries, []).path}/driver",
-                    ("night_run/jobs.py", "SECONDS = 60.0", "SECONDS = 2.0"),
+                    ("night_run/lines.py", "SECONDS = 60.0", "SECONDS = 2.0"),
                     ("night_run/mounts.py", "PATIENCE = 0.2, 10.0", "PATIENCE = 0.2, 3.0"))
     room = Room(tries, ["d: in dead", "d a true", "d b true", "g: timeout 1s", "g c exec sleep 62",
                         *(job("h", f"k{it}", 0.1) for it in range(30))])

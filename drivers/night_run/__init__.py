@@ -1,6 +1,9 @@
 """Runs shell commands as the tasks of a store of `night`, over runs of `night script`.
 
     words      the command line                    jobs        the file of commands
+    lines      of that file, and what it includes  lists       lines that stand for several
+    parsing    commands and settings of the lines  settings    each setting
+    reading    the words of a line                 ordering    what comes after what
     state      what `inspect --json` prints        facts       what a night has so far
     planner    what may be begun, by `night plan`  loop        the rules, and the loop
     night      the program `night`                 opening     a session, made ready for the loop

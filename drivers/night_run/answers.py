@@ -8,7 +8,7 @@ import re
 from dataclasses import dataclass, field
 
 from . import Fault
-from .settings import short
+from .reading import short
 
 # A line has at most this many bytes.
 LONGEST_LINE = 64

@@ -12,7 +12,7 @@ from collections.abc import Callable, Iterable
 
 from . import Fault
 from .night import KILLED_SECONDS, OFTEN, SECONDS, NightEnded, program, starting
-from .settings import short
+from .reading import short
 
 # How many bytes of its answer are read at a time.
 PART = 1 << 16

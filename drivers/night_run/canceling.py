@@ -20,14 +20,16 @@ from . import Fault, Mistake, Name, cancels
 from .ends import canceled, text_of
 from .facts import book_of, facts_of
 from .files import Files
-from .jobs import Jobs, check_group, check_key
+from .jobs import Jobs
 from .night import ALREADY_DONE, FULL, Session, refusal
 from .opening import advance, inspected, now_of, opened, withdraw
+from .parsing import check_group, check_key
 from .past import read_past
 from .planner import Planner
+from .reading import Wrong, short
 from .report_words import moment
 from .rounds import Role, base_of, role_name
-from .settings import OF_ALL, Wrong, short
+from .settings import OF_ALL
 from .standing import CANCELLED
 from .state import JOB
 from .strangers import keep_out

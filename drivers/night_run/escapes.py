@@ -26,6 +26,11 @@ def plain_lines(text: str) -> str:
     return "\n".join(map(plain, text.split("\n")))
 
 
+def one_line(text: str) -> str:
+    """A command of several lines, as it is shown in one."""
+    return text.replace("\n", "\\n")
+
+
 def escaped(character: str) -> str:
     code = ord(character)
     if 0xDC80 <= code <= 0xDCFF:

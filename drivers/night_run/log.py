@@ -22,6 +22,7 @@ from dataclasses import dataclass
 
 from .beside import NotOurs, Part
 from .ends import End, read_end
+from .escapes import one_line
 from .files import Files
 from .rounds import round_of
 from .telling import note_once
@@ -142,7 +143,7 @@ def backwards(file: int, most: int = MOST_READ) -> Iterator[bytes]:
 
 def text_of_line(command: str) -> str:
     """A command as a line has it."""
-    return command.replace("\t", " ")
+    return one_line(command.replace("\t", " "))
 
 
 class Log:

@@ -5,9 +5,10 @@ from __future__ import annotations
 
 import enum
 import time
-from collections.abc import Mapping
+from collections.abc import Mapping, Sequence
 
 from . import Name
+from .escapes import one_line
 from .facts import Facts, book_of, facts_of
 from .past import Past
 from .planner import Planner
@@ -16,6 +17,9 @@ from .standing import CANCELLED, FAILED, RUNNING, WAITING, Standing
 from .state import State
 from .summary import retry
 from .views import View
+
+# How many values of a list are shown.
+MOST_VALUES = 40
 
 
 class Wish(enum.Enum):
@@ -43,7 +47,20 @@ def forgiven(found: Mapping[Name, Standing], facts: Facts) -> dict[Name, int]:
 
 
 def planned(planner: Planner, view: View, most: int, wish: Wish) -> list[str]:
-    """What a run would do with each command. Those that it would begin at once come first."""
+    """What the file's lists came to, and what a run would do with each command. Those that it would
+    begin at once come first."""
+    return [*map(list_line, planner.jobs.lists()), *commands(planner, view, most, wish)]
+
+
+def list_line(it: tuple[str, Sequence[str]]) -> str:
+    """A list, by its first values."""
+    name, values = it
+    more = len(values) - MOST_VALUES
+    return f"each {name}: {' '.join(values[:MOST_VALUES])}" + (f" and {more} more" if more > 0
+                                                                else "")
+
+
+def commands(planner: Planner, view: View, most: int, wish: Wish) -> list[str]:
     is_rest = wish is Wish.NIGHTLY and is_left(view.state, view.past)
     if wish is Wish.FAILED:
         return lines(planner, again(view), most)
@@ -70,7 +87,8 @@ def again(view: View) -> Facts:
 def lines(planner: Planner, facts: Facts, most: int) -> list[str]:
     found = planner.standings(facts)
     at_once = planner.choose(facts, most, time.time())
-    made = [f"begin {' '.join(it)}: {planner.jobs.all[it].command}" for it in at_once.names]
+    made = [f"begin {' '.join(it)}: {one_line(planner.jobs.all[it].command)}"
+            for it in at_once.names]
     return made + [line(name, it) for name, it in found.items() if name not in at_once.names]
 
 

@@ -11,7 +11,7 @@ import collections
 import html as escaping
 from collections.abc import Iterator
 
-from .escapes import plain
+from .escapes import one_line, plain
 from .report_axis import Axis
 from .report_style import STYLE
 from .report_words import (by_group, clock, commands, counts, facts, in_words, kind_of, line_shown,
@@ -86,7 +86,7 @@ def failures(report: Report) -> Iterator[Html]:
 def failure(row: Row) -> Html:
     parts = [tag("div", tag("h3", f"{row.group} {row.key}"), tag("b", row.end, class_="why"),
                  tag("span", tries_in_words(row), class_="soft"), class_="head"),
-             tag("p", tag("code", f"$ {line_shown(row.command)}"))]
+             tag("p", tag("code", f"$ {line_shown(one_line(row.command))}"))]
     if row.tail:
         parts.append(tag("pre", Html("\n".join(inside(line_shown(it)) for it in row.tail))))
     if row.output:

@@ -26,45 +26,29 @@
     ask WORDS..             (a group) the program that reports how a try ended; the same
     stop WORDS..            (a group) the program that asks for the end of a try; the same
     shell WORDS..           the program that runs the command, by -c, not /bin/sh; the same
+
+SETTINGS has a row for each. To add one: a field of Settings, a function that reads it, and a row.
 """
 
 from __future__ import annotations
 
 import datetime
 import difflib
+import enum
 import re
-import shlex
 from collections.abc import Callable
 from dataclasses import dataclass, field, replace
 
-TIME = re.compile(r"(?=[0-9])(?:([0-9]{1,6})h)?(?:([0-9]{1,6})m)?(?:([0-9]{1,6})s)?")
+from .reading import TIME, At, Missing, Words, Wrong, seconds_of, short
+
 MOMENT = re.compile(r"[0-9]+:[0-9]+(:[0-9]+)?|[0-9]+-[0-9]+-[0-9]+T\S+")
 POOL = re.compile("[a-z0-9_-]{1,20}")
 VARIABLE = re.compile(r"[A-Za-z_][A-Za-z0-9_]*")
-# What looks like a setting without its colon.
-FORMS = {"limit": re.compile("[0-9]+"), "within": TIME, "until": MOMENT, "timeout": TIME,
-         "retries": re.compile(r"[0-9]+( wait \S+)?"), "stop": re.compile("on failure"),
-         "background": re.compile("keep")}
-WORDS = ("limit", "until", "within", "after", "retries", "timeout", "in", "env", "stop",
-         "background", "via", "ask", "shell")
-# Later words, which end the names after `after` only with what follows them: before, such a word
-# could be a key.
-LATER = {"priority": re.compile("[0-9]+"), "pool": re.compile(r"\S+ [0-9]+"),
-         "uses": re.compile(r"\S+ [0-9]+"), "failure": re.compile("cancel")}
-ALL = ("settings are limit N, until MOMENT, within TIME, after X.., retries N [wait TIME [xN] [up"
-       " to TIME]], timeout TIME, in FOLDER, env NAME=VALUE, stop on failure, background keep, via"
-       " WORDS.., ask WORDS.., stop WORDS.., shell WORDS.., priority N, uses NAME N, pool NAME N,"
-       " failure cancel")
+GROWTH = re.compile("x([0-9]{1,2})")
 OF_ALL = "night"
 LAST_MOMENT = 253_000_000_000
 MOST_RETRIES = MOST_PRIORITY = MOST_OF_POOL = 999
 MOST_FACTOR = 99
-# How many characters of a word are shown.
-MOST_SHOWN = 40
-
-
-class Wrong(Exception):
-    """Why a line is a mistake."""
 
 
 @dataclass(frozen=True)
@@ -88,6 +72,24 @@ class Deadline:
 
 
 @dataclass(frozen=True)
+class Retries:
+    """How often a command is tried again, and when."""
+
+    count: int = 0
+    wait: int = 0  # seconds before the first retry
+    factor: int = 1  # how many times as long each wait is as the one before
+    most_wait: int | None = None  # seconds, at most
+
+
+@dataclass(frozen=True)
+class Timeout:
+    """How long a try may take, and how the file says that."""
+
+    seconds: int
+    text: str
+
+
+@dataclass(frozen=True)
 class Way:
     """The programs with which a group's commands run elsewhere. Without `via` they run here."""
 
@@ -98,23 +100,19 @@ class Way:
 
 @dataclass
 class Settings:
-    """What lines `GROUP: ..` or `GROUP KEY: ..` say; `line` is the first of them."""
+    """What lines `GROUP: ..` or `GROUP KEY: ..` say; `at` is the first of them."""
 
-    line: int
+    at: At = At()
     limit: int | None = None
     deadline: Deadline | None = None
     after: list[list[str]] = field(default_factory=list)  # the words of each `after`
-    after_line: int = 0
-    retries: int | None = None
-    wait: int = 0
-    factor: int = 1
-    most_wait: int | None = None
+    after_at: At = At()
+    retries: Retries | None = None
     priority: int | None = None
     pools: dict[str, int] = field(default_factory=dict)
     uses: dict[str, int] = field(default_factory=dict)
-    uses_line: int = 0
-    timeout: int | None = None
-    timeout_text: str = ""
+    uses_at: At = At()
+    timeout: Timeout | None = None
     folder: str | None = None
     env: dict[str, str] = field(default_factory=dict)
     stops: bool = False
@@ -124,12 +122,255 @@ class Settings:
     shell: tuple[str, ...] = ()
 
 
-def seconds_of(time: str) -> int:
-    found = TIME.fullmatch(time)
-    if not found:
-        raise Wrong(f"the time {short(time)} is not written like 2h, 90m, 1h30m or 45s")
-    hours, minutes, seconds = (int(it or 0) for it in found.groups())
-    return 3600 * hours + 60 * minutes + seconds
+class Of(enum.Flag):
+    """Whose a setting may be: of a group, of a single command, or of all groups together."""
+
+    GROUP = enum.auto()
+    COMMAND = enum.auto()
+    NIGHT = enum.auto()
+
+
+BOTH, EACH = Of.GROUP | Of.COMMAND, Of.GROUP | Of.COMMAND | Of.NIGHT
+
+
+@dataclass(frozen=True)
+class Setting:
+    """A setting, by its first word."""
+
+    word: str
+    shown: str  # as a mistake shows it
+    read: Callable[[Words, Settings], None]
+    of: Of
+    # What looks like it without its colon, as a command of that key.
+    looks: re.Pattern[str] | None = None
+    # A later word ends the names after `after` only with this after it: before, it could be a key.
+    follows: re.Pattern[str] | None = None
+
+
+# --- what reads each of them
+
+def read_limit(words: Words, its: Settings) -> None:
+    value = words.value("the limit")
+    words.once("limit", its.limit is not None)
+    if not re.fullmatch("[0-9]{1,2}", value) or not 1 <= int(value) <= 64:
+        raise Wrong(f"the limit {short(value)} is not 1 to 64")
+    its.limit = int(value)
+
+
+def read_until(words: Words, its: Settings) -> None:
+    read_deadline(words, its, "until")
+
+
+def read_within(words: Words, its: Settings) -> None:
+    read_deadline(words, its, "within")
+
+
+def read_deadline(words: Words, its: Settings, word: str) -> None:
+    value = words.value("the deadline")
+    words.once("deadline", its.deadline is not None)
+    if word == "within":
+        seconds_of(value)
+    made = Deadline(word, value)
+    try:
+        if not MOMENT.fullmatch(value) and word == "until":
+            raise ValueError
+        if not 0 <= made.moment(0 if word == "within" else 1_000_000) <= LAST_MOMENT:
+            raise ValueError
+    except (ValueError, OverflowError, OSError):
+        raise Wrong(f"the moment {short(value)} is not written like 05:30 or"
+                    " 2026-11-26T05:30") from None
+    its.deadline = made
+
+
+def read_after(words: Words, its: Settings) -> None:
+    its.after_at = its.after_at or words.at
+    its.after.append(words.names("the key or group after `after`"))
+
+
+def read_retries(words: Words, its: Settings) -> None:
+    value = words.value("the number of retries")
+    words.once("number of retries", its.retries is not None)
+    if not re.fullmatch("[0-9]{1,3}", value) or int(value) > MOST_RETRIES:
+        raise Wrong(f"the number of retries {short(value)} is not 0 to {MOST_RETRIES}")
+    its.retries = Retries(int(value))
+    if words.take_if("wait"):
+        wait = seconds_of(words.value("the time to wait"))
+        its.retries = replace(read_growth(words), count=int(value), wait=wait)
+
+
+def read_growth(words: Words) -> Retries:
+    """By how much each wait is longer than the one before."""
+    factor, most = 1, None
+    if found := words.take_like(GROWTH):
+        factor = int(found[1])
+        if factor < 1:
+            raise Wrong(f"a wait grows by a number from x1 to x{MOST_FACTOR}")
+    if words.take_if("up", "to"):
+        most = seconds_of(words.value("the longest wait"))
+    return Retries(factor=factor, most_wait=most)
+
+
+def read_priority(words: Words, its: Settings) -> None:
+    words.once("priority", its.priority is not None)
+    its.priority = words.count("priority", MOST_PRIORITY)
+
+
+def read_pool(words: Words, its: Settings) -> None:
+    name = words.value("the name of the pool")
+    words.once(f"pool {short(name)}", name in its.pools)
+    if not POOL.fullmatch(name):
+        raise Wrong(f"the pool {short(name)} is not 1 to 20 of a-z, 0-9, - and _")
+    its.pools[name] = words.count(f"size of the pool {name}", MOST_OF_POOL)
+
+
+def read_uses(words: Words, its: Settings) -> None:
+    name = words.value("the name of the pool")
+    words.once(f"use of {short(name)}", name in its.uses)
+    its.uses_at = its.uses_at or words.at
+    its.uses[name] = words.count(f"use of {short(name)}", MOST_OF_POOL)
+
+
+def read_timeout(words: Words, its: Settings) -> None:
+    value = words.value("the timeout")
+    words.once("timeout", its.timeout is not None)
+    its.timeout = Timeout(seconds_of(value), value)
+    if not its.timeout.seconds:
+        raise Wrong("a timeout has a second at least")
+
+
+def read_in(words: Words, its: Settings) -> None:
+    value = words.value("the folder")
+    words.once("folder", its.folder is not None)
+    its.folder = value
+
+
+def read_env(words: Words, its: Settings) -> None:
+    name, is_set, value = words.value("NAME=VALUE").partition("=")
+    if not is_set or not VARIABLE.fullmatch(name):
+        raise Wrong(f"{short(name)} is not written like NAME=VALUE")
+    if name.startswith("NIGHT_"):
+        raise Wrong(f"night-run itself sets the variable {name}")
+    its.env[name] = value
+
+
+def read_stop(words: Words, its: Settings) -> None:
+    if words.left and words.left[0] not in ("on", "failure", "on-failure"):
+        read_way(words, its, "stop")
+        return
+    if not words.take_if("on", "failure"):
+        raise Wrong("the setting is stop on failure, or stop WORDS..")
+    words.once("failure cancel", its.cancels)
+    its.stops = True
+
+
+def read_failure(words: Words, its: Settings) -> None:
+    words.once("stop on failure", its.stops)
+    if words.value("cancel") != "cancel":
+        raise Wrong("the setting is failure cancel")
+    its.cancels = True
+
+
+def read_via(words: Words, its: Settings) -> None:
+    read_way(words, its, "via")
+
+
+def read_ask(words: Words, its: Settings) -> None:
+    read_way(words, its, "ask")
+
+
+def read_way(words: Words, its: Settings, what: str) -> None:
+    found = words.rest(what)
+    words.once(what, bool(getattr(its.way, what)))
+    its.way = replace(its.way, **{what: found})
+
+
+def read_shell(words: Words, its: Settings) -> None:
+    found = words.rest("the shell")
+    words.once("shell", bool(its.shell))
+    its.shell = found
+
+
+def read_background(words: Words, its: Settings) -> None:
+    if words.value("keep") != "keep":
+        raise Wrong("the setting is background keep")
+    its.keeps = True
+
+
+# In the order in which a mistake lists them. (`stop` stands there twice.)
+SETTINGS = (
+    Setting("limit", "limit N", read_limit, Of.GROUP, looks=re.compile("[0-9]+")),
+    Setting("until", "until MOMENT", read_until, Of.GROUP | Of.NIGHT, looks=MOMENT),
+    Setting("within", "within TIME", read_within, Of.GROUP | Of.NIGHT, looks=TIME),
+    Setting("after", "after X..", read_after, BOTH),
+    Setting("retries", "retries N [wait TIME [xN] [up to TIME]]", read_retries, EACH,
+            looks=re.compile(r"[0-9]+( wait \S+)?")),
+    Setting("timeout", "timeout TIME", read_timeout, EACH, looks=TIME),
+    Setting("in", "in FOLDER", read_in, EACH),
+    Setting("env", "env NAME=VALUE", read_env, EACH),
+    Setting("stop", "stop on failure", read_stop, Of.GROUP, looks=re.compile("on failure")),
+    Setting("background", "background keep", read_background, EACH, looks=re.compile("keep")),
+    Setting("via", "via WORDS..", read_via, Of.GROUP),
+    Setting("ask", "ask WORDS.., stop WORDS..", read_ask, Of.GROUP),
+    Setting("shell", "shell WORDS..", read_shell, EACH),
+    Setting("priority", "priority N", read_priority, BOTH, follows=re.compile("[0-9]+")),
+    Setting("uses", "uses NAME N", read_uses, EACH, follows=re.compile(r"\S+ [0-9]+")),
+    Setting("pool", "pool NAME N", read_pool, Of.NIGHT, follows=re.compile(r"\S+ [0-9]+")),
+    Setting("failure", "failure cancel", read_failure, Of.GROUP, follows=re.compile("cancel")),
+)
+BY_WORD = {it.word: it for it in SETTINGS}
+ALL = f"settings are {', '.join(it.shown for it in SETTINGS)}"
+
+
+def looks_like(word: str, rest: str) -> bool:
+    """Whether this looks like a setting without its colon."""
+    looks = BY_WORD[word].looks if word in BY_WORD else None
+    return looks is not None and looks.fullmatch(rest) is not None
+
+
+def ends_names(left: list[str], is_name: bool) -> bool:
+    """Whether the next word isn't one more name after `after`. A word that came later than the
+    others is one, if something is called so."""
+    it = BY_WORD.get(left[0])
+    if it is None:
+        return False
+    return it.follows is None or not is_name and bool(it.follows.match(" ".join(left[1:3])))
+
+
+def like(word: str) -> str:
+    """A question after a setting that is most like this word, if there is one."""
+    its = difflib.get_close_matches(word, BY_WORD, 1)
+    return f"; did you mean {its[0]}?" if its else ""
+
+
+def read_settings(its: Settings, words: Words, of: Of) -> None:
+    """Reads the settings of one command, of a group, or of all groups together, from the words of
+    a line."""
+    if not words:
+        raise Wrong(ALL)
+    while words:
+        word = words.take()
+        setting = BY_WORD.get(word)
+        if setting is None:
+            raise Wrong(f"no setting is called {short(word)}{like(word)}")
+        try:
+            setting.read(words, its)
+        except Missing as what:
+            raise Wrong(f"{what} is missing; {ALL}") from None
+        if not setting.of & of:
+            raise Wrong(not_here(setting, of))
+
+
+def not_here(it: Setting, of: Of) -> str:
+    """Why a setting can't be one of these."""
+    if it.word == "pool":
+        return "a pool is a setting of all groups together: night: pool NAME N"
+    if of is Of.COMMAND:
+        return ("limit, until, within, stop on failure, failure cancel, via, ask and stop are"
+                " settings of a group")
+    if it.word == "limit":
+        return "the limit of all groups together is the option -j"
+    return (f"{it.shown} is no setting of all groups together; these are "
+            + ", ".join(one.shown for one in SETTINGS if Of.NIGHT in one.of))
 
 
 def next_time(time: datetime.time, now: int) -> int:
@@ -145,210 +386,3 @@ def next_time(time: datetime.time, now: int) -> int:
             if it > now:
                 return it
     raise ValueError("no such time")
-
-
-def short(word: str) -> str:
-    """A word, as a mistake shows it."""
-    return repr(word if len(word) <= MOST_SHOWN else f"{word[:MOST_SHOWN]}..")
-
-
-def like(word: str) -> str:
-    """A question after a setting that is most like this word, if there is one."""
-    its = difflib.get_close_matches(word, (*WORDS, *LATER), 1)
-    return f"; did you mean {its[0]}?" if its else ""
-
-
-class Reader:
-    """Reads the words of one line into settings."""
-
-    def __init__(self, settings: Settings, whose: str, words: list[str], line: int) -> None:
-        self.its, self.whose, self.words, self.line = settings, whose, words, line
-
-    def value(self, what: str) -> str:
-        if not self.words:
-            raise Wrong(f"{what} is missing; {ALL}")
-        return self.words.pop(0)
-
-    def once(self, what: str, is_set: bool) -> None:
-        if is_set:
-            raise Wrong(f"{self.whose} has a {what} already")
-
-    def read(self) -> None:
-        read: dict[str, Callable[[], None]] = {
-            "limit": self.read_limit, "after": self.read_after, "retries": self.read_retries,
-            "timeout": self.read_timeout, "in": self.read_in, "env": self.read_env,
-            "stop": self.read_stop, "background": self.read_background,
-            "via": lambda: self.read_way("via"), "ask": lambda: self.read_way("ask"),
-            "shell": self.read_shell, "priority": self.read_priority, "pool": self.read_pool,
-            "uses": self.read_uses, "failure": self.read_failure}
-        while self.words:
-            word = self.words.pop(0)
-            if word in ("until", "within"):
-                self.read_deadline(word)
-            elif word in read:
-                read[word]()
-            else:
-                raise Wrong(f"no setting is called {short(word)}{like(word)}")
-
-    def read_limit(self) -> None:
-        value = self.value("the limit")
-        self.once("limit", self.its.limit is not None)
-        if not re.fullmatch("[0-9]{1,2}", value) or not 1 <= int(value) <= 64:
-            raise Wrong(f"the limit {short(value)} is not 1 to 64")
-        self.its.limit = int(value)
-
-    def read_deadline(self, word: str) -> None:
-        value = self.value("the deadline")
-        self.once("deadline", self.its.deadline is not None)
-        if word == "within":
-            seconds_of(value)
-        made = Deadline(word, value)
-        try:
-            if not MOMENT.fullmatch(value) and word == "until":
-                raise ValueError
-            if not 0 <= made.moment(0 if word == "within" else 1_000_000) <= LAST_MOMENT:
-                raise ValueError
-        except (ValueError, OverflowError, OSError):
-            raise Wrong(f"the moment {short(value)} is not written like 05:30 or"
-                        " 2026-11-26T05:30") from None
-        self.its.deadline = made
-
-    def read_after(self) -> None:
-        self.its.after_line = self.its.after_line or self.line
-        words = [self.value("the key or group after `after`")]
-        while self.words and not self.is_setting():
-            words.append(self.words.pop(0))
-        self.its.after.append(words)
-
-    def is_setting(self) -> bool:
-        """Whether the next word isn't one more name after `after`."""
-        word = self.words[0]
-        follows = " ".join(self.words[1:3])
-        return word in WORDS or word in LATER and bool(LATER[word].match(follows))
-
-    def read_retries(self) -> None:
-        value = self.value("the number of retries")
-        self.once("number of retries", self.its.retries is not None)
-        if not re.fullmatch("[0-9]{1,3}", value) or int(value) > MOST_RETRIES:
-            raise Wrong(f"the number of retries {short(value)} is not 0 to {MOST_RETRIES}")
-        self.its.retries = int(value)
-        if self.words and self.words[0] == "wait":
-            self.words.pop(0)
-            self.its.wait = seconds_of(self.value("the time to wait"))
-            self.read_growth()
-
-    def read_growth(self) -> None:
-        """Reads by how much each wait is longer than the one before."""
-        if self.words and (found := re.fullmatch("x([0-9]{1,2})", self.words[0])):
-            self.its.factor = int(found[1])
-            del self.words[0]
-            if self.its.factor < 1:
-                raise Wrong(f"a wait grows by a number from x1 to x{MOST_FACTOR}")
-        if self.words[:2] == ["up", "to"]:
-            del self.words[:2]
-            self.its.most_wait = seconds_of(self.value("the longest wait"))
-
-    def read_priority(self) -> None:
-        self.once("priority", self.its.priority is not None)
-        self.its.priority = self.count("priority", MOST_PRIORITY)
-
-    def read_pool(self) -> None:
-        name = self.value("the name of the pool")
-        self.once(f"pool {short(name)}", name in self.its.pools)
-        if not POOL.fullmatch(name):
-            raise Wrong(f"the pool {short(name)} is not 1 to 20 of a-z, 0-9, - and _")
-        self.its.pools[name] = self.count(f"size of the pool {name}", MOST_OF_POOL)
-
-    def read_uses(self) -> None:
-        name = self.value("the name of the pool")
-        self.once(f"use of {short(name)}", name in self.its.uses)
-        self.its.uses_line = self.its.uses_line or self.line
-        self.its.uses[name] = self.count(f"use of {short(name)}", MOST_OF_POOL)
-
-    def count(self, what: str, most: int) -> int:
-        value = self.value(f"the {what}")
-        if not re.fullmatch("[0-9]{1,3}", value) or int(value) > most:
-            raise Wrong(f"the {what} {short(value)} is not 0 to {most}")
-        return int(value)
-
-    def read_timeout(self) -> None:
-        value = self.value("the timeout")
-        self.once("timeout", self.its.timeout is not None)
-        self.its.timeout, self.its.timeout_text = seconds_of(value), value
-        if not self.its.timeout:
-            raise Wrong("a timeout has a second at least")
-
-    def read_in(self) -> None:
-        value = self.value("the folder")
-        self.once("folder", self.its.folder is not None)
-        self.its.folder = value
-
-    def read_env(self) -> None:
-        name, is_set, value = self.value("NAME=VALUE").partition("=")
-        if not is_set or not VARIABLE.fullmatch(name):
-            raise Wrong(f"{short(name)} is not written like NAME=VALUE")
-        if name.startswith("NIGHT_"):
-            raise Wrong(f"night-run itself sets the variable {name}")
-        self.its.env[name] = value
-
-    def read_stop(self) -> None:
-        if self.words and self.words[0] not in ("on", "failure", "on-failure"):
-            self.read_way("stop")
-            return
-        if self.words[:2] != ["on", "failure"]:
-            raise Wrong("the setting is stop on failure, or stop WORDS..")
-        del self.words[:2]
-        self.once("failure cancel", self.its.cancels)
-        self.its.stops = True
-
-    def read_failure(self) -> None:
-        self.once("stop on failure", self.its.stops)
-        if self.value("cancel") != "cancel":
-            raise Wrong("the setting is failure cancel")
-        self.its.cancels = True
-
-    def read_way(self, what: str) -> None:
-        """Reads the rest of the line."""
-        words = (self.value(what), *self.words)
-        self.words.clear()
-        self.once(what, bool(getattr(self.its.way, what)))
-        self.its.way = replace(self.its.way, **{what: words})
-
-    def read_shell(self) -> None:
-        """Reads the rest of the line, too."""
-        words = (self.value("the shell"), *self.words)
-        self.words.clear()
-        self.once("shell", bool(self.its.shell))
-        self.its.shell = words
-
-    def read_background(self) -> None:
-        if self.value("keep") != "keep":
-            raise Wrong("the setting is background keep")
-        self.its.keeps = True
-
-
-def read_settings(settings: Settings, whose: str, rest: str, is_one: bool, line: int) -> None:
-    """Reads the settings of one command, or of a group, from the rest of its line."""
-    try:
-        words = shlex.split(rest)
-    except ValueError as error:
-        raise Wrong(f"a quotation: {error}") from None
-    if not words:
-        raise Wrong(ALL)
-    Reader(settings, whose, words, line).read()
-    if settings.pools and whose != OF_ALL:
-        raise Wrong("a pool is a setting of all groups together: night: pool NAME N")
-    if is_one and (settings.limit or settings.deadline or settings.stops
-                   or settings.cancels or settings.way != Way()):
-        raise Wrong("limit, until, within, stop on failure, failure cancel, via, ask and stop are"
-                    " settings of a group")
-    if whose == OF_ALL:
-        check_of_all(settings)
-
-
-def check_of_all(its: Settings) -> None:
-    if its.limit:
-        raise Wrong("the limit of all groups together is the option -j")
-    if its != Settings(its.line, deadline=its.deadline, shell=its.shell, pools=its.pools):
-        raise Wrong("the settings of all groups together are until MOMENT, within TIME, pool NAME"
-                    " N and shell WORDS..")

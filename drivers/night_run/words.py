@@ -59,8 +59,13 @@ FILE = """Each line of JOBS is one of
   GROUP KEY COMMAND..       a command for /bin/sh; its key is unique in its group
   GROUP: SETTING..          settings of a group
   GROUP KEY: SETTING..      settings of one command; they replace those of its group
-  night: SETTING..          settings of all groups: until 05:30, within 8h, pool tape 2,
-                            shell bash
+  + ..                      the next line of the command above
+  night: SETTING..          settings of all groups: until 05:30, within 8h, pool tape 2, and
+                            what holds for each command unless it says otherwise: retries 1,
+                            timeout 1h, in /srv, env A=B, uses tape 1, background keep, shell bash
+  each NAME: A B..          a list: a line with {NAME} in its group or key stands for one line for
+                            each value. The values may also be `file FILE` or `command COMMAND`
+  include FILE              the lines of another file
   # ..                      a comment
 
 If the file has mistakes, the first 20 of them are printed, each with the number of its line, and no
@@ -427,7 +432,8 @@ class Run:
         self.files.look()
         self.jobs = Jobs(self.words.jobs)
         self.planner, self.has_planner = Planner(self.jobs), True
-        foreign.look_at_commands(self.files, self.words.jobs)
+        for it in self.jobs.files:
+            foreign.look_at_commands(self.files, it)
         program()
         self.jobs.tell_unused()
         if not self.files.exists():
