@@ -232,7 +232,7 @@ other: via far
                                  [need.of for need in it.after], it.keeps, it.uses, it.shell)
              for it in its.values()}
     tape, bash = (("tape", 1),), ("bash",)
-    wanted = {
+    wanted: dict[str, object] = {
         f"g {key}": (hours * 3600, 2, 5, "/night", {"A": "group", "B": "night", "HOST": host},
                      [("k", key)], False, tape, bash)
         for key, hours, host in (("a", 2, "a"), ("b", 3, "b"), ("www", 2, "www.example.org"))}
