@@ -93,7 +93,7 @@ pub fn known_of<A: Allocator>(
 }
 
 /// Returns the last try of a command.
-fn last_try<A: Allocator>(
+pub fn last_try<A: Allocator>(
     state: &State<A>,
     night: &Option<Text>,
     group: &Name,

@@ -1,0 +1,9 @@
+pub mod Going
+pub mod Naming
+pub mod Submitting
+pub mod Starting
+pub mod Playing
+pub mod Telling
+pub mod Hearing
+pub mod Choosing
+pub mod Showing

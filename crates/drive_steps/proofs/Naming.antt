@@ -1,0 +1,90 @@
+-- How a command of the plan is called, and where it gets its next task.
+use Rattle.std.proofs.Common.{◌≡◌, ◌<◌, ◌∙◌, ℕ, zero, suc, Bool, true, List, [], ◌∷◌, Option}
+use Rattle.std.proofs.Common.{Some, None, IsSome, length, slice_get, get_or}
+use Rattle.std.proofs.Common.{ap, sym, subst, arith}
+use Rattle.std.proofs.lemmas.Option.{none-some, same_Some}
+use Rattle.std.specs.List.{list_all}
+use Rattle.std.specs.Option.{option_map_or}
+use Rattle.std.specs.Prelude.{is_some, unwrap_or}
+use Rattle.run_model.proofs.Common.{and_parts, false≢true}
+use Rattle.run_model.specs.declared.commands.Command.{Command as Call}
+use Rattle.run_model.specs.State.{State}
+use Rattle.night_plan.proofs.Rows.{read}
+use Rattle.night_plan.specs.declared.commands.Command.{Command}
+use Rattle.night_plan.specs.declared.commands.Plan.{Plan}
+use Rattle.night_drive.specs.declared.names.Names.{Names}
+use Rattle.night_drive.specs.Searches.{last_below}
+use Rattle.night_drive.specs.Seen.{AreNames, is_try}
+use Rattle.drive_steps.specs.Rooms.{are_housed, last_group}
+use Rattle.drive_steps.specs.Starts.{group_of, key_of, next_of, next_task, next_try}
+
+-- What all elements pass, each one passes.
+each_passes : {X : Type 0} (test : X → Bool) (xs : List X) → list_all test xs ≡ true
+    → (i : ℕ) (x : X) → slice_get xs i ≡ Some x → test x ≡ true
+each_passes test [] all i x at = absurd (none-some x at)
+each_passes test (y ∷ xs) all zero x at =
+    ap test (sym (same_Some y x at)) ∙ (and_parts (test y) (list_all test xs) all).0
+each_passes test (y ∷ xs) all (suc i) x at =
+    each_passes test xs (and_parts (test y) (list_all test xs) all).1 i x at
+
+-- A group of the plan has a group of the store.
+pub housed_at : (p : State) (names : Names) (g : ℕ) (group : List ℕ) → are_housed p names ≡ true
+    → slice_get names.groups.items g ≡ Some group → IsSome (last_group p names.night group)
+housed_at p names g group all at =
+    each_passes (λ (name : List ℕ). is_some (last_group p names.night name)) names.groups.items all
+    g group at
+
+-- A command was read from the plan, with its group and its key.
+pub record IsRead (plan : Plan) (names : Names) (c : ℕ) (command : Command) (group key : List ℕ)
+    : Type 0 where
+  pub named : AreNames plan names
+  pub less : c < length plan.commands.items
+  pub command_is : command ≡ get_or plan.commands.items c command
+  pub group_is : group ≡ get_or names.groups.items command.group group
+  pub key_is : key ≡ get_or names.keys.items c key
+
+there : (plan : Plan) (names : Names) (c : ℕ) (command : Command) (group key : List ℕ)
+    → IsRead plan names c command group key → slice_get plan.commands.items c ≡ Some command
+there plan names c command group key it = read plan.commands.items c command it.less it.command_is
+
+group_there : (plan : Plan) (names : Names) (c : ℕ) (command : Command) (group key : List ℕ)
+    → IsRead plan names c command group key
+    → slice_get names.groups.items command.group ≡ Some group
+group_there plan names c command group key it =
+    let own : command.group < length plan.groups.items =
+    plan.sound.own c command (there plan names c command group key it) in
+    read names.groups.items command.group group (omega (arith, own, it.named.groups)) it.group_is
+
+-- Its group has a group of the store.
+pub has_room : (p : State) (plan : Plan) (names : Names) (c : ℕ) (command : Command)
+    (group key : List ℕ) → IsRead plan names c command group key → are_housed p names ≡ true
+    → last_group p names.night group ≡ None → ⊥
+has_room p plan names c command group key it housed none =
+    let some : IsSome (last_group p names.night group) =
+    housed_at p names command.group group housed
+    (group_there plan names c command group key it) in
+    let off : IsSome {T = ℕ} None = subst (λ (o : Option ℕ). IsSome o) none some in
+    false≢true off
+
+-- So this is the step that submits its next task.
+pub next_is : (p : State) (plan : Plan) (names : Names) (c : ℕ) (command : Command)
+    (group key : List ℕ) (g : ℕ) (last : Option ℕ) (next : Call)
+    → IsRead plan names c command group key
+    → last_group p names.night group ≡ Some g
+    → last ≡ last_below (is_try p names.night group key) (length p.work.tasks)
+    → next ≡ next_task p g key last → next ≡ next_try p names plan.commands.items c
+next_is p plan names c command group key g last next it room tried is =
+    let commands = plan.commands.items in
+    let in_group : group_of names commands c ≡ group =
+    ap (λ (o : Option Command). option_map_or (λ (x : Command).
+    unwrap_or (slice_get names.groups.items x.group) []) o [])
+    (there plan names c command group key it)
+    ∙ ap (λ (o : Option (List ℕ)). unwrap_or o []) (group_there plan names c command group key it) in
+    let keyed : key_of names c ≡ key =
+    ap (λ (o : Option (List ℕ)). unwrap_or o [])
+    (read names.keys.items c key (omega (arith, it.less, it.named.keys)) it.key_is) in
+    is ∙ ap (next_task p g key) tried
+    ∙ ap (λ (o : Option ℕ). next_task p (unwrap_or o 0) key
+    (last_below (is_try p names.night group key) (length p.work.tasks))) (sym room)
+    ∙ ap (λ (x : List ℕ). next_of p names.night x key) (sym in_group)
+    ∙ ap (λ (x : List ℕ). next_of p names.night (group_of names commands c) x) (sym keyed)

@@ -1,0 +1,96 @@
+-- The steps that record what was heard in a round, and what they do to a night.
+use Rattle.std.specs.Prelude.{◌≡◌, ℕ, ◌==◌, Bool, true, false, List, [], ◌∷◌, ◌++◌, Some, None}
+use Rattle.std.specs.Prelude.{map}
+use Rattle.std.specs.List.{list_any}
+use Rattle.run_model.specs.declared.commands.Command.TheVariants as call
+use Rattle.run_model.specs.declared.commands.Step.{Step}
+use Rattle.run_model.specs.declared.commands.Step.TheVariants as step
+use Rattle.run_model.specs.Event as event
+use Rattle.run_model.specs.Rules.{AreNumbered}
+use Rattle.run_model.specs.Session.{Session, event_of_step, session_after}
+use Rattle.run_model.specs.State.{State}
+use Rattle.run_model.specs.Step as change
+use Rattle.run_model.specs.Step.{own_scope}
+use Rattle.run_model.specs.Tasks.{has_stage, is_running}
+use Rattle.run_model.specs.WorkChanges.{group_of_task, stage_of}
+use Rattle.night_plan.specs.declared.commands.Command.{Command}
+use Rattle.night_plan.specs.declared.commands.Plan.{Plan}
+use Rattle.night_plan.specs.Sessions.{after_all}
+use Rattle.night_plan.specs.Turns.{Turn, Stop}
+use Rattle.night_drive.specs.declared.ends.Ends.{Ends}
+use Rattle.night_drive.specs.declared.names.Names.{Names}
+use Rattle.night_drive.specs.PlanTurns.{AreThose, IsOfCommand, night_in}
+use Rattle.night_drive.specs.Seen.{AreNames, moment_of}
+use Rattle.night_drive.specs.Tries.{counts}
+use Rattle.night_drive.specs.Turns.{end_of, has_come}
+use Rattle.drive_steps.specs.declared.heard.Ended.{Ended}
+
+-- A finish for each end.
+abbrev pub finishes_of : List Ended → List Step
+finishes_of [] = []
+finishes_of (end ∷ heard) = step.Finish end.task end.outcome ∷ finishes_of heard
+
+-- A finish for each end, and then the clock moves.
+abbrev pub record_of : List Ended → (now : ℕ) → List Step
+record_of heard now = finishes_of heard ++ step.Command (call.Advance now) ∷ []
+
+-- The end is that of a try of command c, which runs and is the last one. Its group is bare.
+pub record IsEnd (p : State) (names : Names) (commands : List Command) (end : Ended) (c : ℕ)
+    : Type 0 where
+  pub runs : has_stage is_running p.work end.task ≡ true
+  pub counted : counts (stage_of end.outcome) ≡ true
+  pub bare : own_scope p.work (group_of_task p.work end.task) ≡ None
+  pub of : IsOfCommand p names commands end.task c
+
+-- Each end is that of a try of the command which stands beside it.
+abbrev pub AreEnds : State → Names → List Command → List (Ended × ℕ) → Type 0
+AreEnds p names commands [] = Unit {0}
+AreEnds p names commands ((end, c) ∷ row) =
+    IsEnd p names commands end c
+    × AreEnds (change.step p (event.Finish end.task end.outcome)) names commands row
+
+-- The turns of these ends, at this moment.
+abbrev pub turns_of : (now : ℕ) → List (Ended × ℕ) → List Turn
+turns_of now [] = []
+turns_of now ((end, c) ∷ row) = end_of c now end.outcome ∷ turns_of now row
+
+-- The task is one of those that ended.
+abbrev pub has_ended : List Ended → ℕ → Bool
+has_ended heard n = list_any (λ (end : Ended). end.task == n) heard
+
+-- Of the tasks that ended it is known that they ended at this moment. Of all others the same is
+-- known as before.
+pub record AreNoted (old new : Ends) (heard : List Ended) (now : ℕ) : Type 0 where
+  pub own : (n : ℕ) → has_ended heard n ≡ true → moment_of new n ≡ now
+  pub others : (n : ℕ) → has_ended heard n ≡ false → moment_of new n ≡ moment_of old n
+
+-- The finishes of these ends are recorded as their turns.
+abbrev pub EndsAreTurns : Type 0
+EndsAreTurns =
+    (s : Session) (old new : Ends) (plan : Plan) (names : Names) (row : List (Ended × ℕ)) (now : ℕ)
+    → AreNames plan names → AreEnds s.state names plan.commands.items row
+    → AreNoted old new (map (λ part. part.0) row) now
+    → night_in (session_after s (finishes_of (map (λ part. part.0) row))).state new plan names
+    ≡ after_all (night_in s.state old plan names) (turns_of now row)
+
+-- The ends of a round have been recorded, and the clock can move. These groups have a deadline that
+-- has come then.
+pub record Comes (s : Session) (names : Names) (heard : List Ended) (now : ℕ) (stopped : List ℕ)
+    : Type 0 where
+  pub moves : event_of_step (session_after s (finishes_of heard)) (step.Command (call.Advance now))
+      ≡ Some (event.Advance now)
+  pub numbered : AreNumbered (session_after s (finishes_of heard)).state
+  pub those : AreThose (session_after s (finishes_of heard)).state names
+      (has_come (session_after s (finishes_of heard)).state now) stopped
+
+-- What is recorded of a round are the turns of the ends, and then a turn for each group whose
+-- deadline has come.
+abbrev pub HeardAreTurns : Type 0
+HeardAreTurns =
+    (s : Session) (old new : Ends) (plan : Plan) (names : Names) (row : List (Ended × ℕ)) (now : ℕ)
+    (stopped : List ℕ)
+    → AreNames plan names → AreEnds s.state names plan.commands.items row
+    → AreNoted old new (map (λ part. part.0) row) now
+    → Comes s names (map (λ part. part.0) row) now stopped
+    → night_in (session_after s (record_of (map (λ part. part.0) row) now)).state new plan names
+    ≡ after_all (night_in s.state old plan names) (turns_of now row ++ map Stop stopped)

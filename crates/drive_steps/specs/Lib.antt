@@ -1,0 +1,6 @@
+pub mod Rooms
+pub mod Starts
+pub mod Told
+pub mod Rows
+pub mod Heard
+pub mod Examples
