@@ -1,6 +1,9 @@
 -- A state goes on: scopes and groups stay, and tasks are added.
+use Rattle.std.proofs.Common.{[], ◌∷◌}
 use Rattle.std.proofs.Common.{◌≡◌, ◌<◌, ◌≤◌, ◌∙◌, ◌&&◌, ℕ, Bool, false, List, Option, Some}
 use Rattle.std.proofs.Common.{None, codes, length, slice_get, ap, refl, arith}
+use Rattle.std.specs.List.{list_all}
+use Rattle.std.specs.Prelude.{is_some}
 use Rattle.std.specs.Option.{option_map_or}
 use Rattle.std.specs.Str.{bytes_eq}
 use Rattle.run_model.specs.declared.groups.Group.{Group}
@@ -9,9 +12,13 @@ use Rattle.run_model.specs.declared.tasks.Task.{Task}
 use Rattle.run_model.specs.Scopes.{value_of}
 use Rattle.run_model.specs.State.{State, TreeState}
 use Rattle.run_model.specs.Tasks.{has_stage}
+use Rattle.night_drive.specs.declared.names.Names.{Names}
 use Rattle.night_drive.specs.Names.{belongs, is_same, night_of}
+use Rattle.night_drive.specs.Searches.{last_below}
 use Rattle.night_drive.specs.Seen.{is_owned}
 use Rattle.night_drive.specs.Turns.{is_task}
+use Rattle.night_drive.proofs.Searching.{last_alike}
+use Rattle.drive_steps.specs.Rooms.{are_housed, last_group}
 
 -- The second state has the same scopes and groups, and all tasks of the first one.
 pub record Goes (p q : State) : Type 0 where
@@ -43,6 +50,28 @@ owned_goes p q goes night group g =
     (slice_get q.work.groups g) false) goes.tree
     ∙ ap (λ (groups : List Group). option_map_or (λ (row : Group). belongs group row.name
     && is_same (night_of p row.scope) night) (slice_get groups g) false) goes.groups
+
+-- Each group of the plan has a group of the store, as before.
+pub housed_goes : (p q : State) → Goes p q → (names : Names)
+    → are_housed q names ≡ are_housed p names
+housed_goes p q goes names = by_group names.groups.items
+  where
+    last : (group : List ℕ)
+        → last_group q names.night group ≡ last_group p names.night group
+    last group =
+        last_alike (is_owned q names.night group) (is_owned p names.night group)
+        (owned_goes p q goes names.night group) (length q.work.groups)
+        ∙ ap (λ (groups : List Group). last_below (is_owned p names.night group) (length groups))
+        goes.groups
+
+    by_group : (groups : List (List ℕ))
+        → list_all (λ group. is_some (last_group q names.night group)) groups
+        ≡ list_all (λ group. is_some (last_group p names.night group)) groups
+    by_group [] = refl
+    by_group (group ∷ groups) =
+        ap (λ (o : Option ℕ). is_some o
+        && list_all (λ other. is_some (last_group q names.night other)) groups) (last group)
+        ∙ ap (λ b. is_some (last_group p names.night group) && b) (by_group groups)
 
 -- A row is a task of the command with this key, in a group of this name and in this night.
 abbrev pub row_is : State → (night : Option (List ℕ)) → (group key : List ℕ) → Task → Bool

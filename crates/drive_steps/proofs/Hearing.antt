@@ -170,7 +170,7 @@ unheard p names commands row are n still = by_ended (has_ended (map (λ part. pa
 
 -- ---- one end after another
 
-finish_made : (s : Session) (n : ℕ) (o : Outcome) → has_stage is_running s.state.work n ≡ true
+pub finish_made : (s : Session) (n : ℕ) (o : Outcome) → has_stage is_running s.state.work n ≡ true
     → event_of_step s (step.Finish n o) ≡ Some (event.Finish n o)
 finish_made s n o runs =
     let at : HasRowAt s.state n is_running = row_at s.state n is_running runs in
@@ -216,7 +216,7 @@ ends_turn s old new plan names row now are ends noted =
 
 -- ---- and then the clock
 
-steps_join : (s : Session) (first second : List Step)
+pub steps_join : (s : Session) (first second : List Step)
     → session_after s (first ++ second) ≡ session_after (session_after s first) second
 steps_join s [] second = refl
 steps_join s (x ∷ first) second = steps_join (after_step s x) first second

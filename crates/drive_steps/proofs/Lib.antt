@@ -6,4 +6,5 @@ pub mod Playing
 pub mod Telling
 pub mod Hearing
 pub mod Choosing
+pub mod Rounding
 pub mod Showing

@@ -51,7 +51,8 @@ use Rattle.drive_steps.specs.Rows.{IsRight, RowsBeginAll, TasksAreToldOnce, Tell
 use Rattle.drive_steps.specs.Rows.{TellsAcknowledged}
 use Rattle.drive_steps.specs.Starts.{group_of, key_of, next_try, row_of}
 use Rattle.drive_steps.specs.Told.{begins_told, is_answer, task_in}
-use Rattle.drive_steps.proofs.Going.{Goes, goes_nowhere, goes_on, owned_goes, row_is, stage_goes}
+use Rattle.drive_steps.proofs.Going.{Goes, goes_nowhere, goes_on, housed_goes, owned_goes, row_is}
+use Rattle.drive_steps.proofs.Going.{stage_goes}
 use Rattle.drive_steps.proofs.Going.{task_goes}
 use Rattle.drive_steps.proofs.Starting.{Adds, Starts, added_last, added_length, added_old}
 use Rattle.drive_steps.proofs.Starting.{none_fresh}
@@ -292,26 +293,28 @@ one_told first second rest c begun e =
     }
 
 -- This is told of a row, and so each of its commands has begun.
-record Played (plan : Plan) (names : Names) (s : Session) (row : List Step) (chosen : List ℕ)
+pub record Played (plan : Plan) (names : Names) (s : Session) (row : List Step) (chosen : List ℕ)
     (begun : List Begun) : Type 0 where
-  commands : map (λ (begin : Begun). begin.command) begun ≡ chosen
-  goes : Goes s.state (session_after s row).state
-  turn : (ends : Ends) (now : ℕ) (sizes : List ℕ)
+  pub commands : map (λ (begin : Begun). begin.command) begun ≡ chosen
+  pub goes : Goes s.state (session_after s row).state
+  pub consistent : IsConsistent (session_after s row).state
+  pub none : (n : ℕ) → has_stage is_fresh (session_after s row).state.work n ≡ false
+  pub turn : (ends : Ends) (now : ℕ) (sizes : List ℕ)
       → night_in (session_after s row).state ends plan names
       ≡ after_turn (night_in s.state ends plan names) (Begin now sizes chosen)
-  right : (i : ℕ) (begin : Begun) → slice_get begun i ≡ Some begin
+  pub right : (i : ℕ) (begin : Begun) → slice_get begun i ≡ Some begin
       → IsRight (session_after s row).state names plan.commands.items begin
-  listed : (i : ℕ) (begin : Begun) → slice_get begun i ≡ Some begin
+  pub listed : (i : ℕ) (begin : Begun) → slice_get begun i ≡ Some begin
       → Contains (accepted s row) (event.Start begin.task)
-  numbers : (i : ℕ) (begin : Begun) → slice_get begun i ≡ Some begin
+  pub numbers : (i : ℕ) (begin : Begun) → slice_get begun i ≡ Some begin
       → begin.task ≡ length s.state.work.tasks + i
-  any : list_any is_ack (replies s row) ≡ true
-  whole : up_to_last_ack row (replies s row) ≡ row
+  pub any : list_any is_ack (replies s row) ≡ true
+  pub whole : up_to_last_ack row (replies s row) ≡ row
 
-contains_there : {X : Type 0} (xs : List X) (y x : X) → Contains xs x → Contains (y ∷ xs) x
+pub contains_there : {X : Type 0} (xs : List X) (y x : X) → Contains xs x → Contains (y ∷ xs) x
 contains_there xs y x (k, less, is) = (suc k, omega (arith, less), is)
 
-contains_here : {X : Type 0} (xs : List X) (x : X) → Contains (x ∷ xs) x
+pub contains_here : {X : Type 0} (xs : List X) (x : X) → Contains (x ∷ xs) x
 contains_here xs x = (zero, omega arith, refl)
 
 -- What is so of the first element, and of each element of the rest.
@@ -358,6 +361,8 @@ join p plan names fits s c less chosen row n others here rest =
     record {
       commands = ap (λ cs. c ∷ cs) rest.commands;
       goes = goes_on s.state s2.state end here.one.goes rest.goes;
+      consistent = rest.consistent;
+      none = rest.none;
       turn = λ ends now sizes.
           rest.turn ends now sizes
           ∙ ap (λ x. after_turn x (Begin now sizes chosen)) (here.one.turn ends now sizes)
@@ -397,6 +402,8 @@ played p plan names fits [] all s ready (begin ∷ begun) told = cc
 played p plan names fits [] all s ready [] told = record {
   commands = refl;
   goes = goes_nowhere s.state;
+  consistent = ready.consistent;
+  none = ready.none;
   turn = λ ends now sizes.
       rows_are_one_turn s.state ends plan names [] now sizes fits.named tt;
   right = λ i begin at. absurd (none-some begin at);
@@ -431,7 +438,7 @@ all_of {X = X} P xs each = All-from_recursion P xs (by_rows xs each)
     by_rows [] each = tt
     by_rows (x ∷ xs) each = (each zero x refl, by_rows xs (λ i y at. each (suc i) y at))
 
-told_so : (s : Session) (plan : Plan) (names : Names) (chosen : List ℕ) (begun : List Begun)
+pub told_so : (s : Session) (plan : Plan) (names : Names) (chosen : List ℕ) (begun : List Begun)
     → Tells s plan names chosen begun
     → Played plan names s (row_of s.state names plan.commands.items chosen) chosen begun
 told_so s plan names chosen begun tells =
@@ -454,6 +461,15 @@ rows_begin_all s plan names chosen begun tells =
     record {
       commands = it.commands;
       turn = it.turn;
+      rest = record {
+        named = tells.rest.named;
+        distinct = tells.rest.distinct;
+        housed = housed_goes s.state
+            (session_after s (row_of s.state names plan.commands.items chosen)).state it.goes names
+            ∙ tells.rest.housed;
+        consistent = it.consistent;
+        none_fresh = it.none;
+      };
       right = all_of (IsRight
           (session_after s (row_of s.state names plan.commands.items chosen)).state names
           plan.commands.items) begun it.right;

@@ -3,4 +3,5 @@ pub mod Starts
 pub mod Told
 pub mod Rows
 pub mod Heard
+pub mod Rounds
 pub mod Examples

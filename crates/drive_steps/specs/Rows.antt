@@ -45,7 +45,8 @@ pub record IsRight (p : State) (names : Names) (commands : List Command) (begin 
       → IsCalled names commands d command group key
       → is_task p names.night group key begin.task ≡ (begin.command == d)
 
--- A row is the turn in which all its commands begin, and each begin that is told is right.
+-- A row is the turn in which all its commands begin, and each begin that is told is right. After it
+-- the state is again one between two rounds.
 pub record IsBegun (s : Session) (plan : Plan) (names : Names) (chosen : List ℕ)
     (begun : List Begun) : Type 0 where
   pub commands : map (λ begin. begin.command) begun ≡ chosen
@@ -53,6 +54,8 @@ pub record IsBegun (s : Session) (plan : Plan) (names : Names) (chosen : List �
       → night_in (session_after s (row_of s.state names plan.commands.items chosen)).state ends plan
       names
       ≡ after_turn (night_in s.state ends plan names) (Begin now sizes chosen)
+  pub rest : IsAtRest (session_after s (row_of s.state names plan.commands.items chosen)).state plan
+      names
   pub right : All (IsRight (session_after s
       (row_of s.state names plan.commands.items chosen)).state names plan.commands.items) begun
 

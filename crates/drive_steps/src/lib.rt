@@ -12,6 +12,7 @@ pub mod begins;
 pub mod examples;
 pub mod heard;
 pub mod rooms;
+pub mod rounds;
 pub mod rows;
 pub mod starts;
 pub mod told;
