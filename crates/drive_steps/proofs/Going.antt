@@ -52,17 +52,18 @@ owned_goes p q goes night group g =
     && is_same (night_of p row.scope) night) (slice_get groups g) false) goes.groups
 
 -- Each group of the plan has a group of the store, as before.
-pub housed_goes : (p q : State) → Goes p q → (names : Names)
-    → are_housed q names ≡ are_housed p names
-housed_goes p q goes names = by_group names.groups.items
+pub housed_alike : (p q : State) (names : Names)
+    → ((group : List ℕ) (g : ℕ)
+    → is_owned q names.night group g ≡ is_owned p names.night group g)
+    → length q.work.groups ≡ length p.work.groups → are_housed q names ≡ are_housed p names
+housed_alike p q names owned sized = by_group names.groups.items
   where
     last : (group : List ℕ)
         → last_group q names.night group ≡ last_group p names.night group
     last group =
-        last_alike (is_owned q names.night group) (is_owned p names.night group)
-        (owned_goes p q goes names.night group) (length q.work.groups)
-        ∙ ap (λ (groups : List Group). last_below (is_owned p names.night group) (length groups))
-        goes.groups
+        last_alike (is_owned q names.night group) (is_owned p names.night group) (owned group)
+        (length q.work.groups)
+        ∙ ap (last_below (is_owned p names.night group)) sized
 
     by_group : (groups : List (List ℕ))
         → list_all (λ group. is_some (last_group q names.night group)) groups
@@ -72,6 +73,12 @@ housed_goes p q goes names = by_group names.groups.items
         ap (λ (o : Option ℕ). is_some o
         && list_all (λ other. is_some (last_group q names.night other)) groups) (last group)
         ∙ ap (λ b. is_some (last_group p names.night group) && b) (by_group groups)
+
+pub housed_goes : (p q : State) → Goes p q → (names : Names)
+    → are_housed q names ≡ are_housed p names
+housed_goes p q goes names =
+    housed_alike p q names (owned_goes p q goes names.night)
+    (ap (λ (groups : List Group). length groups) goes.groups)
 
 -- A row is a task of the command with this key, in a group of this name and in this night.
 abbrev pub row_is : State → (night : Option (List ℕ)) → (group key : List ℕ) → Task → Bool

@@ -5,6 +5,8 @@ pub mod Starting
 pub mod Playing
 pub mod Telling
 pub mod Hearing
+pub mod Resting
+pub mod Late
 pub mod Choosing
 pub mod Rounding
 pub mod Showing

@@ -4,4 +4,5 @@ pub mod Told
 pub mod Rows
 pub mod Heard
 pub mod Rounds
+pub mod Deadlines
 pub mod Examples

@@ -13,7 +13,7 @@ use Rattle.night_drive.specs.PlanTurns.{night_in}
 use Rattle.drive_steps.specs.declared.heard.Ended.{Ended}
 use Rattle.drive_steps.specs.declared.told.Begun.{Begun}
 use Rattle.drive_steps.specs.Heard.{AreEnds, AreNoted, Comes, record_of, turns_of}
-use Rattle.drive_steps.specs.Rows.{Tells}
+use Rattle.drive_steps.specs.Rows.{IsAtRest, Tells}
 use Rattle.drive_steps.specs.Starts.{row_of}
 
 -- The ends that were heard, without their commands.
@@ -30,6 +30,13 @@ abbrev pub round_of : Session → Plan → Names → List (Ended × ℕ) → (no
 round_of s plan names row now chosen =
     record_of (heard_in row) now
     ++ row_of (recorded s row now).state names plan.commands.items chosen
+
+-- Between two rounds, and after what was heard was recorded, the same is so of a state.
+abbrev pub RecordsRest : Type 0
+RecordsRest =
+    (s : Session) (plan : Plan) (names : Names) (heard : List Ended) (now : ℕ)
+    → IsAtRest s.state plan names
+    → IsAtRest (session_after s (record_of heard now)).state plan names
 
 -- These ends were heard, and the deadlines of these groups have come. Then these commands begin, and
 -- this is told.
