@@ -1,5 +1,5 @@
 -- The steps that record what was heard in a round, and what they do to a night.
-use Rattle.std.specs.Prelude.{◌≡◌, ℕ, ◌==◌, Bool, true, false, List, [], ◌∷◌, ◌++◌, Some, None}
+use Rattle.std.specs.Prelude.{◌≡◌, ◌≢◌, ℕ, ◌==◌, Bool, true, false, List, [], ◌∷◌, ◌++◌, Some, None}
 use Rattle.std.specs.Prelude.{map}
 use Rattle.std.specs.List.{list_any}
 use Rattle.run_model.specs.declared.commands.Command.TheVariants as call
@@ -57,6 +57,15 @@ turns_of now ((end, c) ∷ row) = end_of c now end.outcome ∷ turns_of now row
 -- The task is one of those that ended.
 abbrev pub has_ended : List Ended → ℕ → Bool
 has_ended heard n = list_any (λ (end : Ended). end.task == n) heard
+
+-- Of this task it is known that it ended at this moment. Of all others the same is known as before.
+pub record IsNoted (old new : Ends) (task now : ℕ) : Type 0 where
+  pub own : moment_of new task ≡ now
+  pub others : (n : ℕ) → n ≢ task → moment_of new n ≡ moment_of old n
+
+-- Of each task the same is known as before.
+abbrev pub AreSame : Ends → Ends → Type 0
+AreSame old new = (n : ℕ) → moment_of new n ≡ moment_of old n
 
 -- Of the tasks that ended it is known that they ended at this moment. Of all others the same is
 -- known as before.

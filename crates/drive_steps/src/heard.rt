@@ -1,8 +1,10 @@
 //! The steps that record what was heard in a round: which tries have ended, and what time it is.
 
-ghost use Rattle.std.specs.Prelude.{◌≡◌, IfOk};
-ghost use Rattle.drive_steps.specs.Heard.{EndsAreTurns, HeardAreTurns, record_of};
+ghost use Rattle.std.specs.Prelude.{◌≡◌, ◌<◌, IfOk, length};
+ghost use Rattle.drive_steps.specs.Heard.{AreNoted, AreSame, EndsAreTurns, HeardAreTurns, IsNoted};
+ghost use Rattle.drive_steps.specs.Heard.{record_of};
 
+use night_drive::ends::Ends;
 use run_model::{Command, Moment, Outcome, Step};
 use std::alloc::{AllocError, Global};
 
@@ -24,6 +26,37 @@ pub fn record_of(alloc: Global, heard: &[Ended], now: Moment) -> Result<Vec<Step
     }
     steps.push(Step::Command(Command::Advance { moment: now }))?;
     Ok(steps)
+}
+
+/// Notes that these tries ended at this moment. If memory is refused, some of them may be noted and
+/// others not.
+pub fn note(ends: &mut Ends, heard: &[Ended], now: u64) -> Result<(), AllocError>
+    ensures { IfOk result (λ _. AreNoted ends.old ends.new heard.now now) }
+{
+    for end in heard {
+        note_one(ends, end.task, now)?;
+    }
+    Ok(())
+}
+
+/// Notes that a try ended at this moment.
+fn note_one(ends: &mut Ends, task: u16, now: u64) -> Result<(), AllocError>
+    ensures { IfOk result (λ _. IsNoted ends.old ends.new task now) }
+{
+    reach(ends, task)?;
+    ends.moments[task as usize] = Some(now);
+    Ok(())
+}
+
+/// Adds rows, of which nothing is known, up to that of this task.
+fn reach(ends: &mut Ends, task: u16) -> Result<(), AllocError>
+    ensures same { IfOk result (λ _. AreSame ends.old ends.new) }
+    ensures long { IfOk result (λ _. task < length ends.new.moments.items) }
+{
+    'rows: while ends.moments.len() <= task as usize {
+        ends.moments.push(None)?;
+    }
+    Ok(())
 }
 
 /// Finishes are recorded as the turns of these ends. Each end is that of a try which runs, and is
