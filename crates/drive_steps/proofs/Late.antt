@@ -111,7 +111,8 @@ none_begins_too_late p ends plan names sizes chosen c command group key consiste
         let canceled : was_canceled n c ≡ true =
         at_is n c at.0 at.1 at.2 at.3 (is_canceled n.done)
         ∙ ap (λ (x : Command). is_canceled n.done x at.1) same
-        ∙ ap (λ b. at.1.canceled || (is_cut at.1.phase || (not b && is_done n.done command.group))) is
+        ∙ ap (λ b. at.1.canceled
+        || (is_cut at.1.phase || (not b && is_done n.done command.group))) is
         ∙ ap (λ b. at.1.canceled || (is_cut at.1.phase || b)) over
         ∙ ap (λ b. at.1.canceled || b) (or-true (is_cut at.1.phase))
         ∙ or-true at.1.canceled in

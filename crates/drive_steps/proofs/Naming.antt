@@ -79,7 +79,8 @@ next_is p plan names c command group key g last next it room tried is =
     ap (λ (o : Option Command). option_map_or (λ (x : Command).
     unwrap_or (slice_get names.groups.items x.group) []) o [])
     (there plan names c command group key it)
-    ∙ ap (λ (o : Option (List ℕ)). unwrap_or o []) (group_there plan names c command group key it) in
+    ∙ ap (λ (o : Option (List ℕ)). unwrap_or o [])
+    (group_there plan names c command group key it) in
     let keyed : key_of names c ≡ key =
     ap (λ (o : Option (List ℕ)). unwrap_or o [])
     (read names.keys.items c key (omega (arith, it.less, it.named.keys)) it.key_is) in

@@ -184,7 +184,8 @@ one_of p plan names fits s ready c less made submits may starting =
           ∙ ap (λ x. after_turn x (Begin now sizes (c ∷ [])))
           (others_are_no_turns q made ends plan names fits.named ready.consistent.numbered
           submits.tree submits.no_start submits.no_finish submits.no_restart);
-      runs = ap (λ (o : Option Task). option_map_or (λ (task : Task). is_running task.stage) o false)
+      runs =
+          ap (λ (o : Option Task). option_map_or (λ (task : Task). is_running task.stage) o false)
           (started_row q r row adds);
       own = ap (λ (o : Option Task). option_map_or (row_is t night group key) o false)
           (started_row q r row adds)
@@ -369,8 +370,8 @@ join p plan names fits s c less chosen row n others here rest =
       right = at_each (λ i x. IsRight end names commands x) begin others (record {
         runs = stage_goes s2.state end rest.goes is_running n below ∙ here.one.runs;
         own = λ d other g k called.
-            tasks_part end plan names n c it.command group key fits.distinct it.called own d other g k
-            called;
+            tasks_part end plan names n c it.command group key fits.distinct it.called own d other
+            g k called;
       }) rest.right;
       listed = at_each (λ i x. Contains
           (accepted s (step.Command asked ∷ step.Start ∷ row)) (event.Start x.task)) begin others

@@ -62,7 +62,8 @@ skip (Some made) events e listed = contains_there events made e listed
 
 -- What later steps lead to is among the events of all.
 later_listed : (first second : List Step) (s : Session) (e : Event)
-    → Contains (accepted (session_after s first) second) e → Contains (accepted s (first ++ second)) e
+    → Contains (accepted (session_after s first) second) e
+    → Contains (accepted s (first ++ second)) e
 later_listed [] second s e listed = listed
 later_listed (x ∷ first) second s e listed =
     skip (event_of_step s x) (accepted (after_step s x) (first ++ second)) e

@@ -109,7 +109,8 @@ starts s task e =
       first = first.1 ∙ ap (λ (n : ℕ). Some n) same;
     }
 
-pub ready_fresh : (s : State) (n : ℕ) → is_ready s.work n ≡ true → has_stage is_fresh s.work n ≡ true
+pub ready_fresh : (s : State) (n : ℕ) → is_ready s.work n ≡ true
+    → has_stage is_fresh s.work n ≡ true
 ready_fresh s n ready = by_row (slice_get s.work.tasks n) ready
   where
     by_row : (o : Option Task)

@@ -173,7 +173,8 @@ retry_submits p q goes night group key g n owned within tried =
 pub next_submits : (p q : State) → Goes p q → AreNumbered q → (night : Option (List ℕ))
     (group key : List ℕ) → IsSome (last_group p night group)
     → Submission q night group key (next_of p night group key)
-next_submits p q goes numbered night group key housed = by_group (last_group p night group) refl housed
+next_submits p q goes numbered night group key housed =
+    by_group (last_group p night group) refl housed
   where
     by_try : (g : ℕ) → is_owned p night group g ≡ true → (o : Option ℕ)
         → last_below (is_try p night group key) (length p.work.tasks) ≡ o

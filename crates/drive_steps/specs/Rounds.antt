@@ -38,8 +38,8 @@ RecordsRest =
     → IsAtRest s.state plan names
     → IsAtRest (session_after s (record_of heard now)).state plan names
 
--- These ends were heard, and the deadlines of these groups have come. Then these commands begin, and
--- this is told.
+-- These ends were heard, and the deadlines of these groups have come. Then these commands begin,
+-- and this is told.
 pub record IsRound (s : Session) (old new : Ends) (plan : Plan) (names : Names)
     (row : List (Ended × ℕ)) (now : ℕ) (stopped chosen : List ℕ) (begun : List Begun) : Type 0 where
   pub ends : AreEnds s.state names plan.commands.items row
@@ -47,15 +47,16 @@ pub record IsRound (s : Session) (old new : Ends) (plan : Plan) (names : Names)
   pub comes : Comes s names (heard_in row) now stopped
   pub tells : Tells (recorded s row now) plan names chosen begun
 
--- A round is the turns of the ends, then a turn for each group whose deadline has come, and then the
--- one turn in which the commands begin.
+-- A round is the turns of the ends, then a turn for each group whose deadline has come, and then
+-- the one turn in which the commands begin.
 abbrev pub RoundsAreTurns : Type 0
 RoundsAreTurns =
     (s : Session) (old new : Ends) (plan : Plan) (names : Names) (row : List (Ended × ℕ)) (now : ℕ)
     (stopped chosen : List ℕ) (begun : List Begun) (sizes : List ℕ)
     → IsRound s old new plan names row now stopped chosen begun
     → night_in (session_after s (round_of s plan names row now chosen)).state new plan names
-    ≡ after_turn (after_all (night_in s.state old plan names) (turns_of now row ++ map Stop stopped))
+    ≡ after_turn
+    (after_all (night_in s.state old plan names) (turns_of now row ++ map Stop stopped))
     (Begin now sizes chosen)
 
 -- The replies to these steps acknowledge this event.

@@ -28,8 +28,8 @@ first_started replies =
 abbrev pub is_acked : List Reply → Bool
 is_acked replies = length replies == 1 && option_map_or is_ack (slice_get replies 0) false
 
--- Each of these commands has begun, with the task that the reply to its start names. Nothing is told
--- if one of the steps was refused or met a fault.
+-- Each of these commands has begun, with the task that the reply to its start names. Nothing is
+-- told if one of the steps was refused or met a fault.
 abbrev pub begins_told : (chosen : List ℕ) → List Reply → Option (List Begun)
 begins_told [] replies = if is_acked replies then Some [] else None
 begins_told (c ∷ chosen) replies =

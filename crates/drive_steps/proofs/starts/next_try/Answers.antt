@@ -16,7 +16,8 @@ unreachable-requires g c =
       key_is = c.index-key.ensures;
     } in
     has_room c.args.state.now plan names c.args.c c.index.result.now c.index-group.result.now
-    c.index-key.result.now it c.requires.housed (sym {b = last_group c.args.state.now names.night c.index-group.result.now}
+    c.index-key.result.now it c.requires.housed
+    (sym {b = last_group c.args.state.now names.night c.index-group.result.now}
     c.last_group.ensures.last ∙ c.in_default.is)
 
 pub returns : goal.returns
