@@ -439,6 +439,13 @@ def screens(tries: Shared) -> None:
                                ("waits", "tape/offsite")):
                 tries.holds(f"a screen: something that {kind} is shown", what,
                             not count or any(it.startswith(mark) for it in shown), shown)
+    began = time.process_time()
+    large = screen(night(8000), Size(80, 22))
+    tries.is_same("a screen of 24,000 commands: what is left out", "", sum(
+        int(it.split()[1]) for it in large if it.startswith("and ")) + len(
+        [it for it in large if it.startswith(("disks/", "www/", "tape/"))]), 24_000)
+    tries.holds("a screen of 24,000 commands: it takes less than 10 seconds of a slow processor", "",
+                time.process_time() - began < 10, time.process_time() - began)
     more = [it for it in screen(night(60), Size(80, 22)) if it.startswith("and ")]
     tries.is_same("a screen: what is left out is counted", "", [
         60 - int(it.split()[1]) > 0 for it in more], [True] * 3)

@@ -2,7 +2,8 @@
 the path of an output may be wider, so that it can be copied whole.
 
 What runs comes first, then what isn't well, then what waits. If there isn't room for all of it, the
-number of those that are left out is shown.
+paths of outputs are left out first, but for one of each kind, and then commands, whose number is
+shown.
 """
 
 from __future__ import annotations
@@ -39,50 +40,85 @@ class Size:
 
 
 @dataclass(frozen=True)
+class Block:
+    """The lines of a command, without the path of its output and with it."""
+
+    short: list[str]
+    path: list[str]
+
+
+@dataclass(frozen=True)
 class Section:
-    """Commands of one kind, each with its lines."""
+    """Commands of one kind: how many there are, and the first of them."""
 
     head: str
-    blocks: Sequence[Sequence[str]]
+    count: int
+    blocks: Sequence[Block]
+
+
+@dataclass(frozen=True)
+class Shown:
+    """How many commands of a section are shown, and how many of them with their paths."""
+
+    count: int = 0
+    whole: int = 0
 
 
 def screen(it: Status, size: Size) -> list[str]:
     """The lines of a status."""
     head = [line for text in heads(it) for line in wrapped(text, size.columns)]
-    sections = [Section(title, blocks) for title, blocks in (
-        (columns_head(it, size.columns), [running_lines(one, it, size) for one in it.running]),
-        ("NOT WELL", [unwell_lines(one, size) for one in it.unwell]),
-        ("WAITING", [waiting_lines(one, it, size) for one in it.waiting])) if blocks]
+    most, width = size.lines or MOST_SHOWN, name_width(it, size.columns)
+    sections = [it for it in (
+        Section(columns_head(width, size.columns), len(it.running),
+                [running_block(one, width, size) for one in it.running[:most]]),
+        Section("NOT WELL", len(it.unwell), [unwell_block(one, size) for one in it.unwell[:most]]),
+        Section("WAITING", len(it.waiting), waiting_blocks(it.waiting[:most], size))) if it.count]
     shown = head + fitted(sections, size, len(head))
     return shown if size.lines is None else shown[:size.lines]
 
 
 def fitted(sections: Sequence[Section], size: Size, above: int) -> list[str]:
-    """As many commands of each kind as there is room for, taken in turn."""
-    counts = [0] * len(sections)
+    """As many commands of each kind as there is room for, taken in turn, and then their paths."""
+    shown = [Shown()] * len(sections)
     is_changed = True
     while is_changed:
         is_changed = False
-        for at, section in enumerate(sections):
-            more = [it + (at == other) for other, it in enumerate(counts)]
-            if counts[at] < len(section.blocks) and fits(sections, more, size, above):
-                counts, is_changed = more, True
-    return [line for section, count in zip(sections, counts) for line in lines_of(section, count)]
+        for more in (one_more, one_path):
+            for at, section in enumerate(sections):
+                found = more(shown[at], section)
+                wanted = [found if at == other else it for other, it in enumerate(shown)]
+                if found != shown[at] and fits(sections, wanted, size, above):
+                    shown, is_changed = wanted, True
+            if is_changed:
+                break
+    return [line for section, it in zip(sections, shown) for line in lines_of(section, it)]
 
 
-def fits(sections: Sequence[Section], counts: Sequence[int], size: Size, above: int) -> bool:
+def one_more(it: Shown, section: Section) -> Shown:
+    """One command more; the first one has its path."""
+    count = min(it.count + 1, len(section.blocks))
+    return Shown(count, max(it.whole, 1))
+
+
+def one_path(it: Shown, section: Section) -> Shown:
+    return Shown(it.count, min(it.whole + 1, it.count))
+
+
+def fits(sections: Sequence[Section], shown: Sequence[Shown], size: Size, above: int) -> bool:
     if size.lines is None:
-        return max(counts) <= MOST_SHOWN
-    return above + sum(height(line, size.columns) for section, count in zip(sections, counts)
-                       for line in lines_of(section, count)) <= size.lines
+        return max(it.count for it in shown) <= MOST_SHOWN
+    return above + sum(height(line, size.columns) for section, it in zip(sections, shown)
+                       for line in lines_of(section, it)) <= size.lines
 
 
-def lines_of(section: Section, count: int) -> Iterator[str]:
+def lines_of(section: Section, it: Shown) -> Iterator[str]:
     yield ""
     yield section.head
-    for block in section.blocks[:count]:
-        yield from block
-    more = len(section.blocks) - count
+    for at, block in enumerate(section.blocks[:it.count]):
+        yield from block.short
+        if at < it.whole:
+            yield from block.path
+    more = section.count - it.count
     if more:
         yield f"and {more} more"
 
@@ -164,11 +200,11 @@ def day(when: float, now: float) -> str:
 
 # --- commands
 
-def columns_head(it: Status, columns: int) -> str:
-    if columns < NARROW or not it.running:
+def columns_head(width: int, columns: int) -> str:
+    if columns < NARROW:
         return "RUNNING"
     names = ("for", "usually", "since", "process")
-    return "RUNNING".ljust(name_width(it, columns)) + "".join(
+    return "RUNNING".ljust(width) + "".join(
         name.rjust(width) for name, width in zip(names, WIDTHS))
 
 
@@ -178,11 +214,10 @@ def name_width(it: Status, columns: int) -> int:
     return min(max(most, 20), columns - sum(WIDTHS))
 
 
-def running_lines(one: Running, it: Status, size: Size) -> list[str]:
+def running_block(one: Running, width: int, size: Size) -> Block:
     name = f"{one.group}/{one.key}"
     its = (unknown_span(one.seconds), usual_words(one.usual),
            "-" if one.began is None else clock(one.began), str(one.process or "-"))
-    width = name_width(it, size.columns)
     row = "".join(text.rjust(most) for text, most in zip(its, WIDTHS))
     if size.columns < NARROW:
         lines = wrapped(name, size.columns) + wrapped(
@@ -191,9 +226,8 @@ def running_lines(one: Running, it: Status, size: Size) -> list[str]:
         lines = [name, " " * width + row]
     else:
         lines = [name.ljust(width) + row]
-    if one.tries > 1:
-        lines += wrapped(f"  try {one.tries}", size.columns)
-    return lines + ([f"  {plain(one.output)}"] if one.output else [])
+    tries = f"try {one.tries}: " if one.tries > 1 else ""
+    return Block(lines, [f"  {tries}{plain(one.output)}"] if one.output else [])
 
 
 def unknown_span(seconds: float | None) -> str:
@@ -204,7 +238,7 @@ def usual_words(usual: Usual | None) -> str:
     return "-" if usual is None else span(usual.seconds)
 
 
-def unwell_lines(it: rows.Row, size: Size) -> list[str]:
+def unwell_block(it: rows.Row, size: Size) -> Block:
     """A command that didn't end well: how, its last line, and the path of all of them."""
     why = plain(it.end)
     if it.phase == FAILED:
@@ -215,14 +249,14 @@ def unwell_lines(it: rows.Row, size: Size) -> list[str]:
     lines = wrapped(f"{it.group}/{it.key}  {shown}", size.columns)
     if it.phase == FAILED and it.tail:
         lines.append(cut(f"  | {line_shown(it.tail[-1]).expandtabs()}", size.columns))
-    return lines + ([f"  {plain(it.output)}"] if it.output and it.phase == FAILED else [])
+    return Block(lines, [f"  {plain(it.output)}"] if it.output and it.phase == FAILED else [])
 
 
-def waiting_lines(one: Waiting, it: Status, size: Size) -> list[str]:
-    name = f"{one.group}/{one.key}"
-    width = min(max((len(f"{its.group}/{its.key}") for its in it.waiting[:MOST_SHOWN]), default=0),
-                size.columns // 3)
-    return [cut(f"{name.ljust(width)}  {plain(one.why)}", size.columns)]
+def waiting_blocks(its: Sequence[Waiting], size: Size) -> list[Block]:
+    names = [f"{it.group}/{it.key}" for it in its]
+    width = min(max(map(len, names), default=0), size.columns // 3)
+    return [Block([cut(f"{name.ljust(width)}  {plain(it.why)}", size.columns)], [])
+            for name, it in zip(names, its)]
 
 
 # --- widths
