@@ -182,7 +182,7 @@ def edited(tries: Shared) -> None:
     tries.is_same("a night of an older version", room.path,
                   (names(it["running"]), names(it["unwell"]), it["waiting"], it["forecast"]),
                   ({"g/a", "g/c", "h/t"}, {"g/b"}, [], None))
-    for text in ("# night-run -j 4 /x\nno such line\n", "\0" * 100, ""):
+    for text in ("# night-run -j 4 /x\ng: no such setting\n", "\0" * 100, ""):
         room.write("s.tries/plan", text)
         tries.is_same("a plan that is damaged", repr(text), names(look(room)["running"]),
                       {"g/a", "g/c", "h/t"})
@@ -228,10 +228,10 @@ class Terminal:
     def until(self, wanted: str, seconds: float = 60) -> bool:
         """Reads until the text has this, and says whether it has."""
         end = time.monotonic() + seconds
-        while not re.search(wanted, self.text) and time.monotonic() < end:
+        while not re.search(wanted, self.text, re.S) and time.monotonic() < end:
             if select.select([self.file], [], [], 0.1)[0]:
                 self.text += os.read(self.file, 65536).decode("utf-8", "replace")
-        return bool(re.search(wanted, self.text))
+        return bool(re.search(wanted, self.text, re.S))
 
     def type(self, keys: bytes) -> None:
         os.write(self.file, keys)
@@ -260,18 +260,18 @@ def watched(tries: Shared) -> None:
     """A screen that is drawn again and again, in each size, and left by Ctrl-C."""
     room, run = started(tries)
     it = Terminal(room, "s", "--status", "--watch")
-    tries.holds("a watch: it shows the night", room.path, it.until("s, night 1.*RUNNING"), it.text)
+    tries.holds("a watch: it shows the night", room.path, it.until("s, night 1.*RUNNING"), it.text[-2000:])
     it.text = ""
     it.resize(20, 6)
-    tries.holds("a watch: it is drawn again", room.path, it.until("\x1b\\[H.*\x1b\\[J"), it.text)
+    tries.holds("a watch: it is drawn again", room.path, it.until("\x1b\\[H.*\x1b\\[J"), it.text[-2000:])
     it.text = ""
-    tries.holds("a watch: and again", room.path, it.until("\x1b\\[H[^\x1b]*s, night"), it.text)
+    tries.holds("a watch: and again", room.path, it.until("\x1b\\[H[^\x1b]*s, night"), it.text[-2000:])
     it.until("\x1b\\[J")
     its = [len(DRAWS.sub("", line)) for line in it.text.split("\x1b[H")[-1].split("\r\n")]
     tries.holds("a watch: 20 columns and 6 lines", room.path,
-                len(its) <= 6 and max(its) <= 20, it.text)
+                len(its) <= 6 and max(its) <= 20, it.text[-2000:])
     tries.holds("a watch: nothing but its own escapes", room.path,
-                "\x1b" not in DRAWS.sub("", it.text), it.text)
+                "\x1b" not in DRAWS.sub("", it.text), it.text[-2000:])
     it.type(b"\x13")  # (Ctrl-S)
     time.sleep(2.5)
     it.type(b"\x03")
@@ -285,7 +285,7 @@ def watched(tries: Shared) -> None:
     it = Terminal(room, "s", "--status", columns=200)
     it.end()
     tries.holds("a status on a terminal", room.path, "9 of 9 ended" in it.text
-                and "\x1b" not in it.text, it.text)
+                and "\x1b" not in it.text, it.text[-2000:])
 
 
 def watched_in_a_pipe(tries: Shared) -> None:
@@ -373,12 +373,12 @@ def progress(tries: Shared) -> None:
     it = Terminal(room, "s", "JOBS", "--again", columns=200)
     shown = it.until(r"0 of 2 done, 2 running, 0 failed; ends at about \d\d:\d\d; g/[ab] [\d.]+s,"
                      r" g/[ab] [\d.]+s|ends after")
-    tries.holds("progress: what runs, and the end", room.path, shown, it.text)
+    tries.holds("progress: what runs, and the end", room.path, shown, it.text[-2000:])
     it.resize(30, 24)
     it.text = ""
     it.until("\x1b\\[K.*\x1b\\[K.*\x1b\\[K")
     its = [len(line) for line in re.split("\r|\x1b\\[K|\n", it.text)]
-    tries.holds("progress: no wider than the terminal", room.path, max(its) < 30, it.text)
+    tries.holds("progress: no wider than the terminal", room.path, max(its) < 30, it.text[-2000:])
     it.type(b"\x13")
     room.write("go", "")
     tries.holds("progress: a stalled terminal delays nothing", room.path, room.until(

@@ -275,7 +275,7 @@ def usual(tries: Shared) -> None:
 
     nights = {night: log_of(night, f"a {night}.000 ok") for night in range(1, 12)}
     whole = log_of(3, "a 30.000 ok", "b 5.000 ok")
-    for what, logs, wanted in (
+    rows: list[tuple[str, dict[int, str], tuple[dict[str, tuple[float, float, int]], int]]] = [
             ("no log", {}, ({}, 0)),
             ("one night", {1: log_of(1, "a 10.500 ok")}, ({"a": (10.5, 10.5, 1)}, 1)),
             ("the one in the middle", {1: log_of(1, "a 1.000 ok"), 2: log_of(2, "a 9.000 ok"),
@@ -293,7 +293,8 @@ def usual(tries: Shared) -> None:
             ("many nights in one log of an older version", {
                 9: "".join(log_of(night, f"a {night}.000 ok") for night in range(1, 10))},
              ({"a": (6.0, 9.0, 7)}, 7)),
-            ("nights that come later aren't read", {40: log_of(40, "a 1.000 ok")}, ({}, 0))):
+            ("nights that come later aren't read", {40: log_of(40, "a 1.000 ok")}, ({}, 0))]
+    for what, logs, wanted in rows:
         write(logs)
         found = usual_times(files, 30, names)
         tries.is_same(f"usual times: {what}", "", (

@@ -75,8 +75,9 @@ def retry_due(job: Job, facts: Facts) -> float | None:
     return at + min(job.wait * growth, most)
 
 
-# What comes next in a play: at this moment, in this order, this happens to this command or group.
-Event = tuple[float, int, str, "Name | str"]
+# What comes next in a play: at this moment this happens to this command or group. Of one moment,
+# ends come before deadlines, and then each event in the order in which it was found.
+Event = tuple[float, bool, int, str, "Name | str"]
 
 
 class Play:
@@ -114,13 +115,14 @@ class Play:
         while self.events and self.open:
             self.now = self.events[0][0]
             while self.events and self.events[0][0] <= self.now:
-                self.happens(*heapq.heappop(self.events)[2:])
+                self.happens(*heapq.heappop(self.events)[3:])
             self.start()
         return Forecast(self.last, bool(self.unknown or self.late), tuple(self.unknown),
                         tuple(self.late), self.last_name)
 
     def add(self, when: float, what: str, of: Name | str) -> None:
-        heapq.heappush(self.events, (max(when, self.it.now), next(self.counter), what, of))
+        event = max(when, self.it.now), what == "deadline", next(self.counter), what, of
+        heapq.heappush(self.events, event)
 
     # --- what happens
 
