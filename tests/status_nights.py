@@ -78,7 +78,8 @@ def a_night(tries: Shared) -> None:
                         f"NIGHT_KEY={one['key']}".encode() in file.read().split(b"\0"))
         tries.holds(f"{kind}: the output of what runs", one,
                     os.path.isfile(os.path.join(room.path, one["output"])))
-    tries.is_same(f"{kind}: no end is guessed", room.path, (it["forecast"], it["nights"]), (None, 0))
+    tries.is_same(f"{kind}: no end is guessed", room.path, (it["forecast"], it["nights"]),
+                  (None, 0))
     after = {name: os.stat(f"{room.path}/{name}").st_mtime_ns for name in before}
     tries.is_same(f"{kind}: a look writes nothing", room.path, after, before)
     status, output = room.run("s", "--status", errors="errors2")
@@ -218,9 +219,10 @@ class Terminal:
         self.resize(columns, lines)
         self.before = termios.tcgetattr(its)
         self.its = its
-        self.run = subprocess.Popen([room.tries.driver, *words], cwd=room.path, stdin=its, stdout=its,
-                                    stderr=its, start_new_session=True, preexec_fn=controls,
-                                    env={**os.environ, "NIGHT": room.night, "TERM": "xterm"})
+        self.run = subprocess.Popen([room.tries.driver, *words], cwd=room.path, stdin=its,
+                                    stdout=its, stderr=its, start_new_session=True,
+                                    preexec_fn=controls, env={**os.environ, "NIGHT": room.night,
+                                                          "TERM": "xterm"})
 
     def resize(self, columns: int, lines: int) -> None:
         fcntl.ioctl(self.file, termios.TIOCSWINSZ, struct.pack("HHHH", lines, columns, 0, 0))
@@ -260,12 +262,15 @@ def watched(tries: Shared) -> None:
     """A screen that is drawn again and again, in each size, and left by Ctrl-C."""
     room, run = started(tries)
     it = Terminal(room, "s", "--status", "--watch")
-    tries.holds("a watch: it shows the night", room.path, it.until("s, night 1.*RUNNING"), it.text[-2000:])
+    tries.holds("a watch: it shows the night", room.path, it.until("s, night 1.*RUNNING"),
+                it.text[-2000:])
     it.text = ""
     it.resize(20, 6)
-    tries.holds("a watch: it is drawn again", room.path, it.until("\x1b\\[H.*\x1b\\[J"), it.text[-2000:])
+    tries.holds("a watch: it is drawn again", room.path, it.until("\x1b\\[H.*\x1b\\[J"),
+                it.text[-2000:])
     it.text = ""
-    tries.holds("a watch: and again", room.path, it.until("\x1b\\[H[^\x1b]*s, night"), it.text[-2000:])
+    tries.holds("a watch: and again", room.path, it.until("\x1b\\[H[^\x1b]*s, night"),
+                it.text[-2000:])
     it.until("\x1b\\[J")
     its = [len(DRAWS.sub("", line)) for line in it.text.split("\x1b[H")[-1].split("\r\n")]
     tries.holds("a watch: 20 columns and 6 lines", room.path,
@@ -305,7 +310,8 @@ def outputs(tries: Shared) -> None:
     """What commands have printed, as it can't control a terminal."""
     long = "x" * 200_000
     room = Room(tries, [
-        "g a printf 'one\\n\\033]0;t\\007two\\r100%%\\nthree\\377'", f"g b head -c 200000 /dev/zero | tr '\\0' x",
+        "g a printf 'one\\n\\033]0;t\\007two\\r100%%\\nthree\\377'",
+        "g b head -c 200000 /dev/zero | tr '\\0' x",
         "g c true", "g d true", "g d: after failed c", "g e exit 1", "g e: retries 1"])
     room.run()
     for name, status, wanted in (

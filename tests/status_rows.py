@@ -19,7 +19,7 @@ from night_run.ends import failed  # noqa: E402
 from night_run.escapes import plain_lines  # noqa: E402
 from night_run.facts import Facts  # noqa: E402
 from night_run.files import Files  # noqa: E402
-from night_run.jobs import Jobs  # noqa: E402
+from night_run.jobs import Job, Jobs  # noqa: E402
 from night_run.rows import Row, Try  # noqa: E402
 from night_run.status import Running, Status, Waiting  # noqa: E402
 from night_run.status_forecast import Forecast, Moment, forecast, retry_due  # noqa: E402
@@ -65,8 +65,8 @@ FORECASTS: list[tuple[str, list[str], int, dict[str, str], dict[str, float], dic
      {}, {}, "60 g/d"),
     ("a priority", [f"{A} 20", f"{B} 20", f"{C} 10", f"{D} 30", "g c: priority 1",
                     "g d: after c"], 2, {}, {}, {}, "50 g/d"),
-    ("a group's priority comes first", [f"{A} 10", "g a: priority 9", "h b true 10", "h: priority 1",
-                                        "h c true 50", "h c: after b"], 1, {}, {}, {}, "70 g/a"),
+    ("a group's priority comes first", [f"{A} 10", "g a: priority 9", "h b true 10",
+                                        "h: priority 1", "h c true 50", "h c: after b"], 1, {}, {}, {}, "70 g/a"),
     ("what is ok is over", [f"{A} 100", f"{B} 20", "g b: after a"], 1, {"g/a": "ok"}, {}, {},
      "20 g/b"),
     ("what runs already", [f"{A} 100", f"{B} 20"], 1, {"g/a": "running"}, {"g/a": 30}, {},
@@ -129,7 +129,8 @@ def forecasts(tries: Shared) -> None:
     for what, text, most, phases, running, dues, wanted in FORECASTS:
         made, usual = usual_of(text)
         jobs = jobs_of(*made)
-        it = Moment(EVENING, most, {name: phases.get("/".join(name), "waiting") for name in jobs.all},
+        it = Moment(EVENING, most,
+                    {name: phases.get("/".join(name), "waiting") for name in jobs.all},
                     {named(name): seconds for name, seconds in running.items()},
                     {named(name): EVENING + at for name, at in dues.items() if "/" in name},
                     {name: EVENING + at for name, at in dues.items() if "/" not in name})
@@ -254,8 +255,8 @@ HEAD = "Try\tGroup\tKey\tBegan\tSeconds\tEnd\tCommand\n"
 def log_of(night: int, *rows: str) -> str:
     """The log of a night, by rows of KEY SECONDS END."""
     group = "g" if night == 1 else f"g--{night}"
-    return HEAD + "".join(f"0\t{group}\t{key}\t2026-11-26T22:00:00.000+0000\t{seconds}\t{end}\ttrue\n"
-                          for key, seconds, end in (it.split(" ", 2) for it in rows))
+    began = "2026-11-26T22:00:00.000+0000"
+    return HEAD + "".join(f"0\t{group}\t{key}\t{began}\t{seconds}\t{end}\ttrue\n" for key, seconds, end in (it.split(" ", 2) for it in rows))
 
 
 def usual(tries: Shared) -> None:
@@ -280,11 +281,12 @@ def usual(tries: Shared) -> None:
             ("one night", {1: log_of(1, "a 10.500 ok")}, ({"a": (10.5, 10.5, 1)}, 1)),
             ("the one in the middle", {1: log_of(1, "a 1.000 ok"), 2: log_of(2, "a 9.000 ok"),
                                        3: log_of(3, "a 2.000 ok")}, ({"a": (2.0, 9.0, 3)}, 3)),
-            ("between the two in the middle", {1: log_of(1, "a 1.000 ok"), 2: log_of(2, "a 4.000 ok")},
-             ({"a": (2.5, 4.0, 2)}, 2)),
+            ("between the two in the middle", {1: log_of(1, "a 1.000 ok"),
+                                               2: log_of(2, "a 4.000 ok")}, ({"a": (2.5, 4.0, 2)}, 2)),
             ("the last seven nights of eleven", nights, ({"a": (8.0, 11.0, 7)}, 7)),
             ("what failed has no time", {1: log_of(1, "a 3.000 exit 1", "b 4.000 ok", "c - ok",
-                                                   "d 5.000 interrupted")}, ({"b": (4.0, 4.0, 1)}, 1)),
+                                                   "d 5.000 interrupted")},
+             ({"b": (4.0, 4.0, 1)}, 1)),
             ("the try that was ok", {1: log_of(1, "a 3.000 exit 1", "a 8.000 ok")},
              ({"a": (8.0, 8.0, 1)}, 1)),
             ("a log that was cut", {3: whole[:len(whole) - 20]}, ({"a": (30.0, 30.0, 1)}, 1)),
@@ -315,12 +317,20 @@ def usual(tries: Shared) -> None:
 
 # --- plans
 
+def kept(job: Job) -> tuple[object, ...]:
+    """What a plan keeps of a command."""
+    waits = (job.wait, job.factor, job.most_wait) if job.retries else None
+    return (job.after, job.retries, waits, job.priority, job.uses, job.timeout, job.cleans_up,
+            " ".join(job.command.split("\n")))
+
+
 def plans(tries: Shared) -> None:
     """A plan that is read again says what the file of commands said."""
     it = random.Random(7)
     more = ["g: retries 3 wait 90s x2 up to 2h stop on failure", "h: failure cancel timeout 10m",
             "g x echo 'a b'  c\t# d", "h y true", "h y: after failed g after ended g/x",
-            "g x: retries 0 priority 7", "h z \xff\x1b[2J"]
+            "g x: retries 0 priority 7", "each q echo one", "+ echo two", "each: retries 2",
+            "h z \xff\x1b[2J"]
     for _ in range(50):
         jobs = jobs_of(*random_lines(it), *more)
         text = "".join(f"{line}\n" for line in lines(jobs, 12))
@@ -332,18 +342,15 @@ def plans(tries: Shared) -> None:
             continue
         for name, job in jobs.all.items():
             other = found.jobs.all.get(name)
-            tries.is_same("a plan: a command", text, other and (
-                other.after, other.retries, other.priority, other.uses, other.timeout,
-                other.cleans_up, (other.wait, other.factor, other.most_wait) if job.retries else 0), (
-                job.after, job.retries, job.priority, job.uses, job.timeout, job.cleans_up,
-                (job.wait, job.factor, job.most_wait) if job.retries else 0))
+            tries.is_same("a plan: a command", text, other and kept(other), kept(job))
         for group in jobs.members:
             tries.is_same("a plan: a group", text, [f(group) for f in (
                 found.jobs.limit, found.jobs.priority, found.jobs.stops, found.jobs.cancels)],
                 [f(group) for f in (jobs.limit, jobs.priority, jobs.stops, jobs.cancels)])
         tries.is_same("a plan: the order and the pools", text,
                       (list(found.jobs.all), found.jobs.pools), (list(jobs.all), jobs.pools))
-    for text in ("", "# night-run\n", "g a true\n", "# night-run -j 4 x\n", "# night-run -j 0 x\ng a b",
+    for text in ("", "# night-run\n", "g a true\n", "# night-run -j 4 x\n",
+                 "# night-run -j 0 x\ng a b",
                  "# night-run -j 4 x\ng a true\ng: no such setting\n", "\0\xff"):
         tries.is_same("a plan that is none", repr(text), parsed_plan(Files("s"), text), None)
 
@@ -394,8 +401,8 @@ HEADS = [
     ({"forecast": Forecast(EVENING + 25_920, True, (("a", "b"),), (("c", "d"), ("e", "f")),
                            ("a", "b"))},
      "began 22:00, 4h14m ago; night-run is process 4711, -j 4; now 02:14:07",
-     "ends after 05:12, with a/b, by the last 7 nights; not counted: 1 command that no earlier night"
-     " has a time of and 2 commands that run longer than ever"),
+     "ends after 05:12, with a/b, by the last 7 nights; not counted: 1 command that no earlier"
+     " night has a time of and 2 commands that run longer than ever"),
     ({"forecast": Forecast(EVENING + 86_400, False, (), (), None), "nights": 1},
      "began 22:00, 4h14m ago; night-run is process 4711, -j 4; now 02:14:07",
      "ends at about 2026-11-27 22:00, by the last night"),
@@ -424,7 +431,8 @@ def screens(tries: Shared) -> None:
         it, size = night(count, HOSTILE), Size(columns, rows)
         shown = screen(it, size)
         what = (count, columns, rows)
-        tries.holds("a screen: no more lines than the terminal has", what, len(shown) <= rows, shown)
+        tries.holds("a screen: no more lines than the terminal has", what, len(shown) <= rows,
+                    shown)
         wide = [line for line in shown if width_of(line) > columns
                 and not re.search(r"\.out/", line) and not re.match("RUNNING|and |NOT|WAIT", line)]
         tries.is_same("a screen: only paths are wider", what, wide if columns >= 20 else [], [])
@@ -445,7 +453,7 @@ def screens(tries: Shared) -> None:
     tries.is_same("a screen of 24,000 commands: what is left out", "", sum(
         int(it.split()[1]) for it in large if it.startswith("and ")) + len(
         [it for it in large if it.startswith(("disks/", "www/", "tape/"))]), 24_000)
-    tries.holds("a screen of 24,000 commands: it takes less than 10 seconds of a slow processor", "",
+    tries.holds("a screen of 24,000 commands: it takes less than 10 seconds of a processor", "",
                 time.process_time() - began < 10, time.process_time() - began)
     more = [it for it in screen(night(60), Size(80, 22)) if it.startswith("and ")]
     tries.is_same("a screen: what is left out is counted", "", [

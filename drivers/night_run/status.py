@@ -210,8 +210,9 @@ def running_of(it: rows.Row, process: Process | None, times: Times, now: float) 
     seconds = age(process) if process else None if began is None else max(0.0, now - began)
     if process:
         began = now - age(process)
-    return Running(it.group, it.key, it.command, began, seconds, times.usual.get((it.group, it.key)),
-                   len(it.tries), process.pid if process else None, it.output)
+    usual = times.usual.get((it.group, it.key))
+    return Running(it.group, it.key, it.command, began, seconds, usual, len(it.tries),
+                   process.pid if process else None, it.output)
 
 
 # --- what is waited for

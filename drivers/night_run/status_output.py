@@ -1,8 +1,8 @@
 """What a command has printed: `--output` prints all of its last try, and `--tail` follows it, from
 one try to the next, until the command ends.
 
-The text is somebody else's, so it is shown as it can't control a terminal: an escape as `\\x1b`. Of a
-line that was written over, as a bar of progress is, only its last form is shown.
+The text is somebody else's, so it is shown as it can't control a terminal: an escape as `\\x1b`. Of
+a line that was written over, as a bar of progress is, only its last form is shown.
 """
 
 from __future__ import annotations
