@@ -1,5 +1,5 @@
 -- Replies to the steps in which two commands begin, in a store with the rows of two nights.
-use Rattle.std.specs.Prelude.{ℕ, false, List, [], ◌∷◌, codes}
+use Rattle.std.specs.Prelude.{ℕ, false, List, [], ◌∷◌, codes, fold}
 use Rattle.run_model.specs.declared.answers.Answer.TheVariants as answer
 use Rattle.run_model.specs.declared.answers.Reply.{Reply}
 use Rattle.run_model.specs.declared.answers.Reply.TheVariants as reply
@@ -7,8 +7,11 @@ use Rattle.run_model.specs.declared.commands.Command.TheVariants as call
 use Rattle.run_model.specs.declared.commands.Step.{Step}
 use Rattle.run_model.specs.declared.commands.Step.TheVariants as step
 use Rattle.run_model.specs.declared.tasks.Phase.TheVariants.{Ready}
+use Rattle.run_model.specs.declared.layouts.Layout.TheVariants.{Small}
+use Rattle.run_model.specs.declared.scopes.Kind.TheVariants as kind
+use Rattle.run_model.specs.Event.{Event}
 use Rattle.run_model.specs.Event as event
-use Rattle.run_model.specs.State.{State}
+use Rattle.run_model.specs.State.{State, formatted}
 use Rattle.run_model.specs.Step as change
 use Rattle.night_drive.specs.Examples.{after_all, withdrawal}
 use Rattle.drive_steps.specs.declared.told.Begun.{Begun}
@@ -39,6 +42,22 @@ row_of_d_and_e =
     step.Command (call.Go (codes "disks--2-2") (codes "sh") (codes "d")) ∷ step.Start
     ∷ step.Command (call.Go (codes "disks--2-2") (codes "sh") (codes "e")) ∷ step.Start
     ∷ step.Flush ∷ []
+
+-- A new store was opened. The second night has a scope with its number, and below that the disks and
+-- the tapes each have a scope and a group.
+abbrev pub first_events : List Event
+first_events =
+    event.Restart
+    ∷ event.Derive (codes "night--2") 0 kind.Cause
+    ∷ event.Derive (codes "night--2--round") 1 (kind.Value (codes "night") (codes "2"))
+    ∷ event.Derive (codes "disks--2") 2 kind.Cause
+    ∷ event.Derive (codes "tapes--2") 2 kind.Cause
+    ∷ event.Bare (codes "disks--2") 3
+    ∷ event.Bare (codes "tapes--2") 4
+    ∷ []
+
+abbrev pub new_night : State
+new_night = fold change.step (formatted Small) first_events
 
 -- Command c has begun, with task n.
 abbrev pub begin : (c n : ℕ) → Begun

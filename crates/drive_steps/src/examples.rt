@@ -12,9 +12,10 @@ ghost use Rattle.run_model.specs.Session.{begun_at, replies};
 ghost use Rattle.night_plan.specs.declared.commands.Plan.{Plan as PlanLines};
 ghost use Rattle.night_drive.specs.declared.names.Names.{Names as InStore};
 ghost use Rattle.night_drive.specs.Examples.{AreFour, first, second};
-ghost use Rattle.drive_steps.specs.Examples.{at_rest, begin, opened_again, row_of_d_and_e};
-ghost use Rattle.drive_steps.specs.Examples.{started, submitted};
+ghost use Rattle.drive_steps.specs.Examples.{at_rest, begin, new_night, opened_again};
+ghost use Rattle.drive_steps.specs.Examples.{row_of_d_and_e, started, submitted};
 ghost use Rattle.drive_steps.specs.Rooms.{last_group};
+ghost use Rattle.drive_steps.specs.Rows.{Tells};
 ghost use Rattle.drive_steps.specs.Starts.{next_of, row_of};
 ghost use Rattle.drive_steps.specs.Told.{begins_told};
 
@@ -44,6 +45,13 @@ pub fn two_commands_begin_in_a_row()
         → row_of at_rest names plan.commands.items (1 ∷ 2 ∷ []) ≡ row_of_d_and_e }
     ensures told { begins_told (1 ∷ 2 ∷ []) (replies (begun_at at_rest) row_of_d_and_e)
         ≡ Some (begin 1 9 ∷ begin 2 10 ∷ []) }
+{}
+
+/// What the laws of a row ask of a session can be so. In a new store, whose groups have no task yet,
+/// `d` and `e` of the disks begin, with its first two tasks.
+pub fn two_commands_are_told_in_a_new_store()
+    ensures { (plan : PlanLines) (names : InStore) → AreFour plan names
+        → Tells (begun_at new_night) plan names (1 ∷ 2 ∷ []) (begin 1 0 ∷ begin 2 1 ∷ []) }
 {}
 
 /// Nothing is told if the flush met a fault, or if a step was refused, even if some task was
