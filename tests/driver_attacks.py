@@ -12,7 +12,6 @@ import contextlib
 import os
 import random
 import re
-import signal
 import subprocess
 import time
 
@@ -20,6 +19,8 @@ from driver_room import Room, Shared, children, hit, job, kill, name_of, nights_
 from running import bytes_of
 
 IN_USE = re.compile(r"night-run: s: in use by another night-run.*\n")
+# The last line of a driver whose `night` was killed too often.
+KILLED = re.compile(r"night-run: .*`night` was ended by signal 9 \(Killed\)")
 YEAR = 365 * 86_400
 # How far the clock is set during a night, in seconds, and for each of the nights after it: then the
 # store's own clock is ahead.
@@ -142,36 +143,47 @@ def planner_is_killed(tries: Shared) -> None:
         jobs += [job(dice.choice("abbc"), f"k{it}", dice.choice((0, 0.02, 0.1, 0.3)))
                  for it in range(50)]
         jobs += ["c: after a"] if dice.random() < 0.5 else []
-        room, who = Room(tries, jobs), ""
+        room, who, again = Room(tries, jobs), "", set[str]()
         for _ in range(12):
             run = room.start()
             while run.poll() is None and not who.startswith("driver"):
+                if dice.random() < 0.5:
+                    goes_on(room, run)
                 time.sleep(dice.uniform(0, 0.25))
                 who = dice.choice(("plan", "plan", "plan", "script", "driver", "driver, plan"))
-                strike(run, who)
-                hits[who] += 1
+                hits[who] += strike(run, who)
             who = ""
             status, _ = room.ended(run)
             tries.holds(f"{kind}: it goes on, or ends with a reason", room.path, status in (0, -9)
-                        or status == 3 and re.match("night-run: .+\n", room.errors)
-                        and "Traceback" not in room.errors, (status, room.errors))
+                        or status == 3 and KILLED.fullmatch(["", *room.errors.splitlines()][-1]),
+                        (status, room.errors))
             if status == 0:
                 break
+            if status == 3:  # (so it has stopped what ran)
+                again |= room.begun().keys() - {*room.lines("done")}
         tries.holds(f"{kind}: nothing is left", room.path, room.settle(30))
-        finishes(room, kind)
+        finishes(room, kind, tuple(again))
         room.agrees(kind)
     print(f"kills of whole nights: {dict(hits)}")
+    tries.holds("kills of `night plan`: there are some", dict(hits), hits["plan"] > 0)
 
 
-def strike(run: subprocess.Popen[str], who: str) -> None:
-    """Kills the planner of a driver, its `night script`, or both the planner and the driver."""
+def goes_on(room: Room, run: subprocess.Popen[str]) -> None:
+    """Waits until another command has ended. (Where a driver begins slowly, no kill would come amid
+    its commands.)"""
+    ended = len(room.lines("done"))
+    room.until(lambda: len(room.lines("done")) > ended or run.poll() is not None, 20)
+
+
+def strike(run: subprocess.Popen[str], who: str) -> bool:
+    """Kills the planner of a driver, its `night script`, or both the planner and the driver, and
+    says whether there was one."""
     plans = plans_in(run.pid)
-    if who == "script":
-        kill([it for it in nights_in(children(run.pid)) if it not in plans])
-    if who.startswith("driver"):
-        kill([run.pid], which=signal.SIGKILL)
-    if who.endswith("plan"):
-        kill(plans)
+    others = [it for it in nights_in(children(run.pid)) if it not in plans]
+    its = [run.pid] if who.startswith("driver") else others if who == "script" else []
+    its += plans if who.endswith("plan") else []
+    kill(its)
+    return bool(its)
 
 
 ATTACKS = [planner_is_killed, clock_is_set, two_at_once, two_nights_at_once]
