@@ -282,7 +282,8 @@ def late() -> Plan:
 
 
 def alive() -> Plan:
-    return brief("alive", 3, alike(4, 1500, flags="c"), "both", "driver")
+    """Commands that last longer than a driver takes to begin on a machine with much else to do."""
+    return brief("alive", 3, alike(4, 9000, flags="c"), "both", "driver")
 
 
 def zero() -> Plan:
