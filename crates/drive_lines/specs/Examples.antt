@@ -1,0 +1,76 @@
+-- Examples: the lines of the session on the page about driven nights.
+use Rattle.std.specs.Prelude.{◌++◌, ◌∷◌, ℕ, List, [], codes}
+use Rattle.night_plan.specs.declared.commands.Way.TheVariants as way
+use Rattle.plan_lines.specs.declared.answers.AnswerLine.TheVariants as answer
+use Rattle.plan_lines.specs.declared.lines.PlanLine.TheVariants as line
+use Rattle.run_model.specs.declared.tasks.Outcome.TheVariants as outcome
+use Rattle.drive_lines.specs.declared.fields.TryName.{TryName}
+use Rattle.drive_lines.specs.declared.orders.Order.{Order}
+use Rattle.drive_lines.specs.declared.orders.Order.TheVariants as order
+use Rattle.drive_lines.specs.declared.reports.Report.{Report}
+use Rattle.drive_lines.specs.declared.reports.Report.TheVariants as report
+use Rattle.drive_lines.specs.Orders.{order_line}
+use Rattle.drive_lines.specs.Phrases.{phrase_text}
+use Rattle.drive_lines.specs.Reports.{report_phrase}
+
+-- Lines of the executor, each with its LF.
+abbrev pub report_lines : List Report → List ℕ
+report_lines [] = []
+report_lines (r ∷ reports) = (phrase_text (report_phrase r) ++ 10 ∷ []) ++ report_lines reports
+
+-- Lines of the program, each with its LF.
+abbrev pub order_lines : List Order → List ℕ
+order_lines [] = []
+order_lines (o ∷ orders) = order_line o ++ order_lines orders
+
+-- A try of a command of the group `dumps`.
+abbrev pub try_of : (key : List ℕ) (number : ℕ) → TryName
+try_of key number = record { group = codes "dumps"; key = key; number = number }
+
+-- Two commands, of which one runs at a time.
+abbrev pub planned : List Report
+planned =
+    report.Plan (line.Pool 1)
+    ∷ report.Group (record { priority = 0; way = way.Stop }) (codes "dumps")
+    ∷ report.Command
+    (record { group = 0; priority = 0; retries = 1; wait = 30; factor = 2; cap = 600 })
+    (codes "users")
+    ∷ report.Plan (line.Take (record { pool = 0; amount = 1 }))
+    ∷ report.Command
+    (record { group = 0; priority = 0; retries = 0; wait = 0; factor = 1; cap = 0 })
+    (codes "orders")
+    ∷ report.Plan (line.Take (record { pool = 0; amount = 1 }))
+    ∷ []
+
+-- The plan is accepted, and the first night begins.
+abbrev pub accepted : List Order
+accepted = order.Answer (answer.Plan 2) ∷ order.Night 1 ∷ order.Answer answer.End ∷ []
+
+-- A command fails, and is tried again after 30 seconds. Meanwhile another one begins.
+abbrev pub failed : List Report
+failed =
+    report.Ended 0 (outcome.Failure (codes "exit 1")) ∷ report.Plan (line.Now 1005) ∷ []
+
+abbrev pub begun : List Order
+begun =
+    order.Begin 1 1 (try_of (codes "orders") 0)
+    ∷ order.Answer (answer.Later 1035)
+    ∷ order.Durable
+    ∷ order.Answer answer.End
+    ∷ []
+
+-- That one is canceled, and has to stop.
+abbrev pub canceled : List Report
+canceled = report.Plan (line.Now 1040) ∷ report.Cancel 1 (codes "by hand") ∷ []
+
+abbrev pub stopped : List Order
+stopped =
+    order.Stop 1 (codes "by hand") ∷ order.Durable ∷ order.Answer answer.End ∷ []
+
+-- It is gone, and the first command begins again.
+abbrev pub gone : List Report
+gone = report.Gone 1 ∷ report.Plan (line.Now 1042) ∷ []
+
+abbrev pub begun_again : List Order
+begun_again =
+    order.Begin 0 2 (try_of (codes "users") 1) ∷ order.Durable ∷ order.Answer answer.End ∷ []

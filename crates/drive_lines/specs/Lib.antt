@@ -1,0 +1,9 @@
+pub mod Spaces
+pub mod Cuts
+pub mod Words
+pub mod Fields
+pub mod Phrases
+pub mod Reports
+pub mod Orders
+pub mod Inputs
+pub mod Examples
