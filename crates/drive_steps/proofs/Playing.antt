@@ -10,7 +10,10 @@ use Rattle.std.specs.Result.{result_unwrap_or}
 use Rattle.std.specs.Prelude.{unwrap_or}
 use Rattle.std.proofs.Math.Bool.{or-true}
 use Rattle.std.proofs.lemmas.List.Elements.{All-from_recursion, recursion_from_All}
-use Rattle.std.proofs.lemmas.Option.{none-some, same_Some, slice_get_past}
+use Rattle.std.proofs.lemmas.Option.{none-some, same_Some, slice_get-map, slice_get_past}
+use Rattle.std.proofs.lemmas.Bool.{cases_lt, eqb-true}
+use Rattle.std.proofs.Common.{◌⊎◌, ◌-◌, ◌==◌, inl, inr}
+use Rattle.night_drive.proofs.Turning.{try_is}
 use Rattle.run_model.specs.Allowed.{after, allowed}
 use Rattle.run_model.specs.declared.answers.Reply.{Reply}
 use Rattle.run_model.specs.declared.commands.Step.{Step}
@@ -47,7 +50,7 @@ use Rattle.night_drive.proofs.Playing.{starts_are_turns}
 use Rattle.drive_steps.specs.declared.told.Begun.{Begun}
 use Rattle.drive_steps.specs.Rooms.{last_group}
 use Rattle.drive_steps.specs.Rows.{IsRight, RowsBeginAll, TasksAreToldOnce, Tells}
-use Rattle.drive_steps.specs.Rows.{TellsAcknowledged}
+use Rattle.drive_steps.specs.Rows.{TellsAcknowledged, TellsLastTries}
 use Rattle.drive_steps.specs.Starts.{group_of, key_of, next_try, row_of}
 use Rattle.drive_steps.specs.Told.{begins_told, is_answer, task_in}
 use Rattle.drive_steps.proofs.Going.{Goes, goes_nowhere, goes_on, housed_goes, owned_goes, row_is}
@@ -308,6 +311,8 @@ pub record Played (plan : Plan) (names : Names) (s : Session) (row : List Step) 
       → Contains (accepted s row) (event.Start begin.task)
   pub numbers : (i : ℕ) (begin : Begun) → slice_get begun i ≡ Some begin
       → begin.task ≡ length s.state.work.tasks + i
+  pub more : length (session_after s row).state.work.tasks
+      ≡ length s.state.work.tasks + length begun
   pub any : list_any is_ack (replies s row) ≡ true
   pub whole : up_to_last_ack row (replies s row) ≡ row
 
@@ -385,6 +390,7 @@ join p plan names fits s c less chosen row n others here rest =
       numbers = at_each (λ i x. x.task ≡ length s.state.work.tasks + i) begin others
           (omega (arith, here.one.number))
           (λ i x at. omega (arith, rest.numbers i x at, here.one.more));
+      more = omega (arith, rest.more, here.one.more);
       any = first;
       whole = ap (λ b. cond b (step.Command asked
           ∷ up_to_last_ack (step.Start ∷ row) (replies s1 (step.Start ∷ row))) []) first
@@ -409,6 +415,7 @@ played p plan names fits [] all s ready [] told = record {
   right = λ i begin at. absurd (none-some begin at);
   listed = λ i begin at. absurd (none-some begin at);
   numbers = λ i begin at. absurd (none-some begin at);
+  more = omega arith;
   any = refl;
   whole = refl;
 }
@@ -487,3 +494,69 @@ tells_acknowledged s plan names chosen begun tells =
 pub tasks_are_told_once : TasksAreToldOnce
 tasks_are_told_once s plan names chosen begun tells =
     (told_so s plan names chosen begun tells).numbers
+
+-- ---- the last try
+
+pub tells_last_tries : TellsLastTries
+tells_last_tries s plan names chosen begun tells different =
+    all_of (λ (begin : Begun). IsOfCommand end names plan.commands.items begin.task begin.command)
+    begun of
+  where
+    row : List Step
+    row = row_of s.state names plan.commands.items chosen
+
+    end : State
+    end = (session_after s row).state
+
+    it : Played plan names s row chosen begun
+    it = told_so s plan names chosen begun tells
+
+    chosen_at : (i : ℕ) (begin : Begun) → slice_get begun i ≡ Some begin
+        → slice_get chosen i ≡ Some begin.command
+    chosen_at i begin at =
+        ap (λ (xs : List ℕ). slice_get xs i) (sym it.commands)
+        ∙ slice_get-map (λ (x : Begun). x.command) begun i
+        ∙ ap (option_map (λ (x : Begun). x.command)) at
+
+    other_try : (i j : ℕ) (begin other : Begun) → slice_get begun i ≡ Some begin
+        → slice_get begun j ≡ Some other → i < j → (d : ℕ) → (begin.command == d) ≡ true
+        → (other.command == d) ≡ false
+    other_try i j begin other at there less d own = by_other (other.command == d) refl
+      where
+        by_other : (b : Bool) → (other.command == d) ≡ b → b ≡ false
+        by_other false is = refl
+        by_other true is =
+            let one : begin.command ≡ d = eqb-true begin.command d own in
+            let two : other.command ≡ d = eqb-true other.command d is in
+            let same : i ≡ j =
+            different i j begin.command (chosen_at i begin at)
+            (chosen_at j other there ∙ ap (λ (x : ℕ). Some x) (two ∙ sym one)) in
+            absurd (omega (arith, same, less))
+
+    of : (i : ℕ) (begin : Begun) → slice_get begun i ≡ Some begin
+        → IsOfCommand end names plan.commands.items begin.task begin.command
+    of i begin at = record {
+      only = (it.right i begin at).own;
+      last = λ d command group key called its m after.
+          by_place m (cases_lt m (length end.work.tasks)) d command group key called
+          (sym ((it.right i begin at).own d command group key called) ∙ its) after;
+    }
+      where
+        by_place : (m : ℕ) → (m < length end.work.tasks) ⊎ (length end.work.tasks ≤ m)
+            → (d : ℕ) (command : Command) (group key : List ℕ)
+            → IsCalled names plan.commands.items d command group key
+            → (begin.command == d) ≡ true → begin.task < m
+            → is_try end names.night group key m ≡ false
+        by_place m (inr past) d command group key called own after =
+            past_is_no_try end names.night group key (length end.work.tasks) refl m past
+        by_place m (inl within) d command group key called own after =
+            let j : ℕ = m - length s.state.work.tasks in
+            let here : begin.task ≡ length s.state.work.tasks + i = it.numbers i begin at in
+            let other = row_at begun j (omega (arith, within, it.more, after, here)) in
+            let number : other.0.task ≡ m =
+            it.numbers j other.0 other.1 ∙ omega (arith, after, here) in
+            try_is end names.night group key m
+            ∙ ap (λ b. b && has_stage counts end.work m)
+            (ap (is_task end names.night group key) (sym number)
+            ∙ (it.right j other.0 other.1).own d command group key called
+            ∙ other_try i j begin other.0 at other.1 (omega (arith, after, here)) d own)

@@ -43,8 +43,8 @@ row_of_d_and_e =
     ∷ step.Command (call.Go (codes "disks--2-2") (codes "sh") (codes "e")) ∷ step.Start
     ∷ step.Flush ∷ []
 
--- A new store was opened. The second night has a scope with its number, and below that the disks and
--- the tapes each have a scope and a group.
+-- A new store was opened. The second night has a scope with its number, and below that the disks
+-- and the tapes each have a scope and a group.
 abbrev pub first_events : List Event
 first_events =
     event.Restart

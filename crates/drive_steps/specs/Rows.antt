@@ -12,7 +12,7 @@ use Rattle.night_plan.specs.Turns.{after as after_turn, Begin}
 use Rattle.night_drive.specs.declared.ends.Ends.{Ends}
 use Rattle.night_drive.specs.declared.names.Names.{Names}
 use Rattle.night_drive.specs.Distinct.{AreDistinct}
-use Rattle.night_drive.specs.PlanTurns.{night_in}
+use Rattle.night_drive.specs.PlanTurns.{IsOfCommand, night_in}
 use Rattle.night_drive.specs.Seen.{AreNames, IsCalled}
 use Rattle.night_drive.specs.Turns.{is_task}
 use Rattle.drive_steps.specs.declared.told.Begun.{Begun}
@@ -79,3 +79,17 @@ TasksAreToldOnce =
     (s : Session) (plan : Plan) (names : Names) (chosen : List ℕ) (begun : List Begun)
     → Tells s plan names chosen begun → (i : ℕ) (begin : Begun)
     → slice_get begun i ≡ Some begin → begin.task ≡ length s.state.work.tasks + i
+
+-- No command is chosen twice.
+abbrev pub AreDifferent : List ℕ → Type 0
+AreDifferent chosen =
+    (i j c : ℕ) → slice_get chosen i ≡ Some c → slice_get chosen j ≡ Some c → i ≡ j
+
+-- Each task that is told is the last try of its command, so its end can be recorded.
+abbrev pub TellsLastTries : Type 0
+TellsLastTries =
+    (s : Session) (plan : Plan) (names : Names) (chosen : List ℕ) (begun : List Begun)
+    → Tells s plan names chosen begun → AreDifferent chosen
+    → All (λ (begin : Begun). IsOfCommand
+    (session_after s (row_of s.state names plan.commands.items chosen)).state names
+    plan.commands.items begin.task begin.command) begun

@@ -47,8 +47,8 @@ pub fn two_commands_begin_in_a_row()
         ≡ Some (begin 1 9 ∷ begin 2 10 ∷ []) }
 {}
 
-/// What the laws of a row ask of a session can be so. In a new store, whose groups have no task yet,
-/// `d` and `e` of the disks begin, with its first two tasks.
+/// What the laws of a row ask of a session can be so. In a new store, whose groups have no task
+/// yet, `d` and `e` of the disks begin, with its first two tasks.
 pub fn two_commands_are_told_in_a_new_store()
     ensures { (plan : PlanLines) (names : InStore) → AreFour plan names
         → Tells (begun_at new_night) plan names (1 ∷ 2 ∷ []) (begin 1 0 ∷ begin 2 1 ∷ []) }
