@@ -1,0 +1,3 @@
+pub mod LockLemmas
+pub mod NameLemmas
+pub mod PlaceLemmas

@@ -1,0 +1,5 @@
+pub mod Examples
+pub mod Locks
+pub mod MemoryFiles
+pub mod Names
+pub mod OpenFiles

@@ -1,0 +1,26 @@
+//! The calls of the system on which stores rest, as traits whose clauses say what is assumed of
+//! them: [`OpenFile`] for the bytes of a file, [`FolderNames`] for names, and [`FileLocks`] for
+//! locks.
+//!
+//! [`MemoryFile`], [`MemoryNames`] and [`MemoryLocks`] meet every clause in memory. They can be
+//! made to fail at any call, and say what a crash may leave. Tests use them in place of a system
+//! that can't be made to fail when it should.
+#![tactic(auto)]
+
+pub mod examples;
+pub mod laws;
+mod locks;
+mod memory_files;
+mod memory_locks;
+mod memory_names;
+mod names;
+mod open_files;
+mod places;
+
+pub use locks::{FileLocks, Lock};
+pub use memory_files::MemoryFile;
+pub use memory_locks::MemoryLocks;
+pub use memory_names::MemoryNames;
+pub use names::FolderNames;
+pub use open_files::{CallFailed, OpenFile};
+pub use places::Place;
