@@ -1,6 +1,7 @@
 pub mod Appending
 pub mod FieldTexts
 pub mod OnLiterals
+pub mod OrderTexts
 pub mod PhraseTexts
 pub mod PlanTexts
 pub mod ReportTexts

@@ -239,7 +239,7 @@ named_taken (line.Cancel c) h = absurd (false≢true h)
 named_taken (line.Stands c p) h = absurd (false≢true h)
 named_taken (line.Failed c moment failures) h = absurd (false≢true h)
 
--- The first word of a line that stays as it is takes no name, and that of a group or a command does.
+-- The first word of a line that stays as it is takes no name. That of a group or a command does.
 pub kept_no_name : (l : PlanLine) → is_kept l ≡ true → takes_name (first_of (plan_text l)) ≡ false
 kept_no_name (line.Pool size) h = refl
 kept_no_name (line.Need need) h = refl

@@ -3,6 +3,7 @@ use Rattle.std.specs.Prelude.{◌≡◌, ◌==◌, ℕ, Bool, false, List}
 use Rattle.std.specs.List.{list_any}
 use Rattle.drive_lines.specs.Spaces.{spaced}
 
+-- A byte is a space.
 abbrev pub is_space : ℕ → Bool
 is_space b = b == 32
 

@@ -40,10 +40,12 @@ fields_shape (fields.Lives t) = shape.Lives
 abbrev pub IsShort : ℕ → Type 0
 IsShort n = n < 10 ^ 12
 
+-- An error is a text.
 abbrev pub FitsOutcome : Outcome → Type 0
 FitsOutcome outcome.Success = Unit {0}
 FitsOutcome (outcome.Failure why) = IsText why
 
+-- A group and a key are names, and the number has two bytes.
 pub record FitsTry (t : TryName) : Type 0 where
   pub group : IsName t.group
   pub key : IsName t.key

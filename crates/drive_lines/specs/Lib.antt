@@ -7,3 +7,4 @@ pub mod Reports
 pub mod Orders
 pub mod Inputs
 pub mod Examples
+pub mod OrderReading

@@ -56,6 +56,7 @@ pub record Spells (p : Phrase) (bytes : List ℕ) : Type 0 where
 
 -- ---- for private functions: no public contract cites what follows
 
+-- A line with this first word has a name at its end.
 abbrev pub takes_name : List ℕ → Bool
 takes_name word = bytes_eq word (codes "group") || bytes_eq word (codes "command")
 

@@ -12,8 +12,6 @@ abbrev pub after : (first : List ℕ) → (rest : Option (List ℕ)) → List �
 after first None = first
 after first (Some rest) = spaced first rest
 
--- ---- for private functions: no public contract cites what follows
-
 -- The bytes up to the first space.
 abbrev pub first_of : List ℕ → List ℕ
 first_of [] = []
@@ -23,6 +21,8 @@ first_of (b ∷ bytes) = if b == 32 then [] else b ∷ first_of bytes
 abbrev pub rest_of : List ℕ → Option (List ℕ)
 rest_of [] = None
 rest_of (b ∷ bytes) = if b == 32 then Some bytes else rest_of bytes
+
+-- ---- for private functions: no public contract cites what follows
 
 -- The bytes that are lent, if any are.
 abbrev pub lent : Option (Bor (List ℕ)) → Option (List ℕ)

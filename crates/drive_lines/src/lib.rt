@@ -10,6 +10,7 @@ mod cuts;
 pub mod examples;
 pub mod fields;
 pub mod inputs;
+pub mod laws;
 pub mod orders;
 mod phrases;
 pub mod reports;
