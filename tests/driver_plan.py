@@ -185,10 +185,10 @@ ROLES = [("disks", "UNTIL", "disks--until"), ("disks-", "UNTIL", "disks---until"
 ALL = ("settings are limit N, until MOMENT, within TIME, after X.., retries N [wait TIME [xN] [up"
        " to TIME]], timeout TIME, in FOLDER, env NAME=VALUE, stop on failure, background keep, via"
        " WORDS.., ask WORDS.., stop WORDS.., shell WORDS.., priority N, uses NAME N, pool NAME N,"
-       " failure cancel")
+       " failure cancel, on DAY..")
 OF_NIGHT = ("is no setting of all groups together; these are until MOMENT, within TIME, retries N"
             " [wait TIME [xN] [up to TIME]], timeout TIME, in FOLDER, env NAME=VALUE, background"
-            " keep, shell WORDS.., uses NAME N, pool NAME N")
+            " keep, shell WORDS.., uses NAME N, pool NAME N, on DAY..")
 RETURN = "a carriage return stands within it; write a line feed where the line is to end"
 BACKSLASH = ("it ends with a backslash, which doesn't join it to the next line; put a longer"
              " command into a script")

@@ -3,6 +3,7 @@
 from __future__ import annotations
 
 import collections
+import datetime
 import time
 from collections.abc import Iterator, Mapping
 from dataclasses import dataclass, field
@@ -29,6 +30,7 @@ class Facts:
     done: dict[str, str] = field(default_factory=dict)  # groups, with the cause
     busy: set[Name] = field(default_factory=set)  # those that live, or whose end isn't recorded
     changed: set[Name] = field(default_factory=set)  # whose ends did since a planner got them
+    day: datetime.date | None = None  # of the night; None if it makes no difference
 
     def ended(self, name: Name, end: End, now: float) -> None:
         """Takes in the end of a command."""
@@ -73,6 +75,7 @@ class Book:
     tries: collections.Counter[tuple[str, str]] = field(default_factory=collections.Counter)
     deadlines: dict[str, str] = field(default_factory=dict)  # as the file has them
     last: dict[Name, Task] = field(default_factory=dict)
+    day: datetime.date | None = None  # on which the night began, as far as it is known
     retried: set[int] = field(default_factory=set)
 
     def set_deadline(self, base: str, scope: Scope, own: str | None, of_all: str | None) -> None:
@@ -105,6 +108,7 @@ def book_of(state: State, past: Past, night: int) -> Book:
     book = Book(night, round_of(tops[-1].name) if tops else Round(max(past.round, 1)),
                 rounds=rounds, is_new=night > max(state.night() if state.scopes else 1, past.night))
     book.top = tops[-1] if tops else None
+    book.day = next((day for it in tops if (day := state.day(it.name))), None)
     below = {it.number for it in state.scopes if state.night_of(it.number) == night}
     for scope in state.scopes:
         if scope.number in below and scope.kind == "cause" and base_of(scope.name) != OF_ALL:
@@ -153,7 +157,7 @@ def logged_groups(state: State, past: Past) -> set[str]:
 def facts_of(state: State, past: Past, lines: Mapping[Tried, Line], book: Book, now: float,
              forgiven: Mapping[Name, int]) -> Facts:
     """What a night has so far. Failures of a command that are forgiven don't count."""
-    facts = Facts()
+    facts = Facts(day=book.day)
     if past.night == book.night:
         read_past_ends(facts, past, lines, now)
     ours = state.groups_of(book.night)

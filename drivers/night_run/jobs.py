@@ -20,11 +20,13 @@ A moment is a time of day, such as 05:30, which means the next one, or a date an
 from __future__ import annotations
 
 import collections
+import datetime
 from collections.abc import Callable, Iterable
 from dataclasses import dataclass
 from typing import TypeVar
 
 from . import Mistake, Name
+from .days import Days
 from .lines import Mistakes
 from .ordering import Node, in_order
 from .parsing import Parsed
@@ -66,10 +68,15 @@ class Job:
     keeps: bool  # processes that it leaves may live on
     way: Way  # where it runs
     shell: tuple[str, ...]  # what runs it; nothing where that is /bin/sh
+    days: Days | None  # of the nights in which it is due; None if it is due in each
 
     @property
     def name(self) -> Name:
         return self.group, self.key
+
+    def is_due(self, day: datetime.date | None) -> bool:
+        """Whether it is due in the night of that day. If the day isn't known, it is."""
+        return self.days is None or day is None or self.days.has(day)
 
     @property
     def cleans_up(self) -> bool:
@@ -115,6 +122,11 @@ class Jobs:
 
     def cleans_up(self, name: Name) -> bool:
         return name in self.all and self.all[name].cleans_up
+
+    @property
+    def has_days(self) -> bool:
+        """Whether a command isn't due in each night."""
+        return any(it.days for it in self.all.values())
 
     def priority(self, group: str) -> int:
         return self.groups[group].priority or 0
@@ -176,7 +188,8 @@ class Jobs:
             tuple({name: value for it in reversed(every) for name, value in it.env.items()}
                   .items()), any(it.keeps for it in every), group.way,
             () if group.way.via else (
-                first(every, lambda it: it if it.shell else None) or Settings()).shell)
+                first(every, lambda it: it if it.shell else None) or Settings()).shell,
+            first(every, lambda it: it.days))
 
     def uses(self, every: list[Settings]) -> tuple[tuple[str, int], ...]:
         """How much a command has of each pool while it runs."""

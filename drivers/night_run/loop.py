@@ -50,6 +50,7 @@ from .keeping import Keeper
 from .leftovers import Leftover, Leftovers
 from .log import Log
 from .night import FULL, NightEnded, NotStarted, Session, SessionFull, refusal
+from .nights import know_day
 from .obeying import Canceler
 from .opening import StoreFull, advance, ready_state, set_limits, withdraw, withdrawn
 from .past import Past
@@ -221,6 +222,7 @@ class Driver:
         self.commands = {name: it for name, it in self.commands.items()
                          if it.has_begun and not it.is_never}
         self.book = book_of(state, self.past, self.night + self.begins_night)
+        know_day(self.files, self.book, self.jobs)
         last = self.book.last
         for name, command in list(self.commands.items()):
             if name in last and last[name].phase in ENDED and command.number == last[name].number:

@@ -11,11 +11,14 @@ that can't be read: a file stays unless it is known to be of an old night.
 
 from __future__ import annotations
 
+import datetime
 import re
 from dataclasses import dataclass, field
 
 from .beside import Part
+from .facts import Book
 from .files import Files
+from .jobs import Jobs
 from .telling import error_text, note_once
 
 MOMENT = r"([0-9]{1,12}(?:\.[0-9]{1,3})?)"
@@ -58,6 +61,16 @@ class Nights:
         self.begun[it.number] = it
         if self.well and self.well[0] >= it.number:
             self.well = None
+
+
+def know_day(files: Files, book: Book, jobs: Jobs) -> None:
+    """Sets the day of a night, if it makes a difference: that on which it began, as the store has
+    it, or else this file; or today, if it has yet to begin."""
+    if not jobs.has_days:
+        book.day = None
+    elif book.day is None:
+        begun = None if book.is_new else read_nights(files).begun.get(book.night)
+        book.day = datetime.date.fromtimestamp(begun.begun) if begun else datetime.date.today()
 
 
 def read_nights(files: Files) -> Nights:

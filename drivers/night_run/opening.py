@@ -123,6 +123,8 @@ class Maker:
         book.top = self.scope(name, "root", OF_ALL)
         if book.night > 1:
             self.derive(role_name(name, Role.ROUND), name, f"value {OF_ALL} {book.night}")
+        if book.day:
+            self.derive(role_name(name, Role.DAY), name, f"value day {book.day.isoformat()}")
 
     def below(self) -> str:
         """The scope below which the groups' scopes are made."""

@@ -180,6 +180,8 @@ class Planner:
         has_failed = end is not None and self.has_failed(facts, job, end)
         if name in facts.busy and not (has_failed and way_of(self.jobs, job.group) != "go-on"):
             return f"busy {at}"
+        if end is None and name not in facts.busy and not job.is_due(facts.day):
+            return f"ok {at}"  # (what comes after it doesn't wait for it)
         if end is None:
             return f"interrupted {at}" if name in facts.interrupted else f"fresh {at}"
         if end.is_ok:

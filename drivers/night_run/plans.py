@@ -3,6 +3,7 @@ what `--dry-run` prints of that."""
 
 from __future__ import annotations
 
+import datetime
 import enum
 import time
 from collections.abc import Mapping, Sequence
@@ -13,6 +14,7 @@ from .facts import Facts, book_of, facts_of
 from .past import Past
 from .planner import Planner
 from .rounds import Role, role_name
+from .rows import NOT_DUE
 from .standing import CANCELLED, FAILED, RUNNING, WAITING, Standing
 from .state import State
 from .summary import retry
@@ -66,12 +68,15 @@ def commands(planner: Planner, view: View, most: int, wish: Wish) -> list[str]:
         return lines(planner, again(view), most)
     if wish is Wish.REST or not view.state.scopes[1:] and not view.past.round:
         return lines(planner, view.facts, most)
-    anew = Facts(busy=set(view.facts.busy))
+    tonight = datetime.date.today() if planner.jobs.has_days else None
+    anew = Facts(busy=set(view.facts.busy), day=tonight)
     if not is_rest:
         return lines(planner, anew, most)
     night = view.book.night
     return [f"night {night}, the rest of it:", *lines(planner, view.facts, most),
-            f"night {night + 1}:", *(f"later {' '.join(it)}" for it in planner.jobs.all)]
+            f"night {night + 1}:", *(line(name, it) if it.phase == NOT_DUE else
+                                     f"later {' '.join(name)}"
+                                     for name, it in planner.standings(anew).items())]
 
 
 def again(view: View) -> Facts:

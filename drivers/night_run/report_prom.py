@@ -10,7 +10,7 @@ from collections.abc import Iterator
 
 from .escapes import escaped
 from .report_words import by_group, counts, end_of, last_end
-from .rows import NOT_NEEDED, PHASES, WELL, Report, Row, Try
+from .rows import PHASES, SELDOM, WELL, Report, Row, Try
 
 Labels = dict[str, str]
 Sample = tuple[Labels, float]
@@ -55,10 +55,10 @@ def known(labels: Labels, value: float | None) -> list[Sample]:
 
 def standing(report: Report) -> Iterator[Sample]:
     """How many commands of each group are in each phase; phases without any count, too, but for
-    what isn't needed."""
+    what isn't needed or due."""
     for group, rows in by_group(report):
         found = counts(rows)
-        for phase in PHASES if found.get(NOT_NEEDED) else PHASES[:-1]:
+        for phase in (it for it in PHASES if it not in SELDOM or found.get(it)):
             yield ({"store": report.store, "group": group.name, "phase": phase},
                    float(found.get(phase, 0)))
 

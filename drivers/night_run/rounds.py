@@ -24,6 +24,7 @@ class Role(enum.Enum):
     SAID = "said"  # the deadline's words
     ROUND = "round"  # the night's number
     ENDED = "ended"  # the night has ended
+    DAY = "day"  # the day of the night
 
 
 @dataclass(frozen=True, order=True)

@@ -11,11 +11,13 @@ from dataclasses import dataclass
 
 # How a command stands, in the order in which a report shows it. `waiting` has yet to be started,
 # `not started` never will be, and `interrupted` was cut off and runs again in the next run. What is
-# `not needed` waited for a failure that didn't come.
-NOT_NEEDED = "not needed"
+# `not needed` waited for a failure that didn't come, and what is `not due` is for other days.
+NOT_NEEDED, NOT_DUE = "not needed", "not due"
 PHASES = ("ok", "failed", "canceled", "not started", "interrupted", "running", "waiting",
-          NOT_NEEDED)
-WELL = ("ok", NOT_NEEDED)
+          NOT_NEEDED, NOT_DUE)
+WELL = ("ok", NOT_NEEDED, NOT_DUE)
+# Those that are counted only where they occur.
+SELDOM = (NOT_NEEDED, NOT_DUE)
 # The name of all groups together.
 OF_ALL = "night"
 

@@ -21,6 +21,7 @@
     stop on failure         (a group) after a failure no more of its commands are begun
     failure cancel          (a group) the first failure cancels the group
     background keep         processes that a command leaves in its session may live on
+    on DAY..                the days of the nights in which it is due: mon..fri, 1, last (`days`)
     via WORDS..             (a group) the program that takes each command over; WORDS are the rest
                             of the line
     ask WORDS..             (a group) the program that reports how a try ended; the same
@@ -39,6 +40,7 @@ import re
 from collections.abc import Callable
 from dataclasses import dataclass, field, replace
 
+from .days import BEGINS, OF_WEEK, Days, read_days
 from .reading import TIME, At, Missing, Words, Wrong, seconds_of, short
 
 MOMENT = re.compile(r"[0-9]+:[0-9]+(:[0-9]+)?|[0-9]+-[0-9]+-[0-9]+T\S+")
@@ -120,6 +122,7 @@ class Settings:
     keeps: bool = False
     way: Way = Way()
     shell: tuple[str, ...] = ()
+    days: Days | None = None
 
 
 class Of(enum.Flag):
@@ -296,6 +299,11 @@ def read_background(words: Words, its: Settings) -> None:
     its.keeps = True
 
 
+def read_on(words: Words, its: Settings) -> None:
+    words.once("list of days", its.days is not None)
+    its.days = read_days(words)
+
+
 # In the order in which a mistake lists them. (`stop` stands there twice.)
 SETTINGS = (
     Setting("limit", "limit N", read_limit, Of.GROUP, looks=re.compile("[0-9]+")),
@@ -316,6 +324,7 @@ SETTINGS = (
     Setting("uses", "uses NAME N", read_uses, EACH, follows=re.compile(r"\S+ [0-9]+")),
     Setting("pool", "pool NAME N", read_pool, Of.NIGHT, follows=re.compile(r"\S+ [0-9]+")),
     Setting("failure", "failure cancel", read_failure, Of.GROUP, follows=re.compile("cancel")),
+    Setting("on", "on DAY..", read_on, EACH, looks=OF_WEEK, follows=BEGINS),
 )
 BY_WORD = {it.word: it for it in SETTINGS}
 ALL = f"settings are {', '.join(it.shown for it in SETTINGS)}"

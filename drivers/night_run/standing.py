@@ -9,7 +9,7 @@ from . import Name
 from .ends import canceled
 from .facts import Facts
 from .jobs import Job, Jobs, Need
-from .rows import NOT_NEEDED
+from .rows import NOT_DUE, NOT_NEEDED
 
 # How a command stands. The last two are for now.
 OK, FAILED, CANCELLED, NEVER = "ok", "failed", "canceled", "not started"
@@ -17,7 +17,7 @@ INTERRUPTED, RUNNING, WAITING = "interrupted", "running", "waiting"
 # Where what says it can't be read; in a summary alone.
 NOT_KNOWN = "not known"
 # Those that nothing of this night changes any more.
-FINAL = (OK, FAILED, CANCELLED, NEVER, NOT_NEEDED)
+FINAL = (OK, FAILED, CANCELLED, NEVER, NOT_NEEDED, NOT_DUE)
 
 
 @dataclass(frozen=True)
@@ -54,7 +54,7 @@ class Shown:
         if name in facts.busy:
             return Standing(RUNNING)
         if word == "ok":
-            return Standing(OK)
+            return Standing(OK) if end is not None else self.not_due(self.jobs.all[name])
         if word in ("failed", "canceled"):
             cause = end or canceled(facts.done.get(name[0], ""))
             return Standing(CANCELLED if cause.is_canceled else FAILED, cause.text)
@@ -63,6 +63,11 @@ class Shown:
         if end is not None:
             return Standing(WAITING, end.text)
         return Standing(INTERRUPTED if name in facts.interrupted else WAITING)
+
+    def not_due(self, job: Job) -> Standing:
+        """How a command stands that isn't due in this night, which nothing waits for."""
+        day = self.facts.day
+        return Standing(NOT_DUE, job.days.why_not(day) if job.days and day else "")
 
     def never_begun(self, job: Job) -> Standing:
         """How a command stands that neither failed nor was canceled, and never begins."""
@@ -90,7 +95,9 @@ class Shown:
         if need.when == "failed" and all(self.words[it] == "ok" or self.is_never(it) and
                                          self.words[it] != "failed" for it in its):
             named = of if isinstance(of, str) else "/".join(of)
-            return Standing(NOT_NEEDED, f"{named} didn't fail")
+            is_due = any(it in self.facts.ends or self.jobs.all[it].is_due(self.facts.day)
+                         for it in its)
+            return Standing(NOT_NEEDED, f"{named} didn't fail" if is_due else f"{named} isn't due")
         return None
 
     def reason(self, other: Name, need: Need) -> str:

@@ -3,13 +3,16 @@
 A night is the first of a store, or one that lies below a scope of kind value whose key is `night`
 and whose text is the night's number. In it `night`, or `night--2`, is the scope of all groups
 together, their top; below it each group has a scope of its name, of kind cause, below one with its
-deadline if it has any (`disks--until`; the words that said it are the value of `disks--said`). The
+deadline if it has any (`disks--until`; the words that said it are the value of `disks--said`). If
+commands aren't due in each night, the night's day is the value of `night--day`. The
 tasks lie in bare groups in these scopes. `disks--2` is a later round of
 `disks`: of another night, or of a group that was done or given back by a renewal (`rounds`).
 """
 
 from __future__ import annotations
 
+import contextlib
+import datetime
 import functools
 import json
 from collections.abc import Iterator
@@ -116,6 +119,13 @@ class State:
         """The words with which the file gave a scope its own deadline."""
         found = self.by_name.get(role_name(name, Role.SAID))
         return found.value if found else None
+
+    def day(self, top: str) -> datetime.date | None:
+        """The day of the night with this scope of all groups together, if the store has it."""
+        found = self.by_name.get(role_name(top, Role.DAY))
+        with contextlib.suppress(ValueError):
+            return datetime.date.fromisoformat(found.value or "") if found else None
+        return None
 
     def has_own_deadline(self, number: int) -> bool:
         parent = self.scopes[number].parent

@@ -20,7 +20,7 @@ from dataclasses import dataclass, field
 from . import Name
 from .facts import Facts
 from .jobs import Job, Jobs
-from .rows import NOT_NEEDED
+from .rows import NOT_DUE, NOT_NEEDED
 from .standing import FAILED, INTERRUPTED, NEVER, OK, RUNNING, WAITING
 from .status_times import Usual
 
@@ -28,7 +28,7 @@ from .status_times import Usual
 MOST_WAIT, MOST_GROWTH = 49 * 86_400, 32
 # The phases of what has yet to end.
 OPEN = (RUNNING, WAITING, INTERRUPTED)
-WELL = (OK, NOT_NEEDED)
+WELL = (OK, NOT_NEEDED, NOT_DUE)
 
 
 @dataclass(frozen=True)

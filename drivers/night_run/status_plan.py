@@ -112,6 +112,8 @@ def words_of_job(job: Job) -> Iterator[str]:
     if job.priority:
         yield f"priority {job.priority}"
     yield from (f"uses {pool} {amount}" for pool, amount in job.uses)
+    if job.days:
+        yield f"on {job.days.text}"
     if job.timeout:
         yield f"timeout {time_of(job.timeout)}"
 

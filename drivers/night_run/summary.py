@@ -12,11 +12,11 @@ from .jobs import Jobs
 from .log import Line, Tried, text_of_line
 from .report_words import commands
 from .rounds import base_of
-from .rows import NOT_NEEDED, WELL
+from .rows import NOT_DUE, NOT_NEEDED, WELL
 from .standing import CANCELLED, FAILED, NEVER, NOT_KNOWN, OK, WAITING
 
 # The counts of the last line, in order.
-KINDS = ("ok", "failed", "canceled", "not started", "left", "not known", "not needed")
+KINDS = ("ok", "failed", "canceled", "not started", "left", "not known", "not needed", "not due")
 
 
 def so_far(ends: Iterable[End], count: int, running: int) -> str:
@@ -33,7 +33,7 @@ def how_it_stands(row: rows.Row) -> str:
     """How a command stands, in one line."""
     if row.phase in (NEVER, NOT_NEEDED):
         return f"{row.phase}, because {row.end}"
-    if row.phase == NOT_KNOWN:
+    if row.phase in (NOT_KNOWN, NOT_DUE):
         return f"{row.phase}: {row.end}"
     if row.phase == WAITING and row.end:
         return f"{row.phase}: {retry(row.end)}"

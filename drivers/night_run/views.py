@@ -14,7 +14,7 @@ from .facts import Book, Facts, book_of, facts_of, logged_groups, numbered
 from .files import Files
 from .jobs import Jobs
 from .log import Line, Tried, read_log
-from .nights import read_nights
+from .nights import know_day, read_nights
 from .opening import check, inspected
 from .past import Past, read_past
 from .planner import Planner
@@ -56,6 +56,7 @@ def look(files: Files, planner: Planner, past: Past | None = None) -> View:
     lines = read_log(files, logged_groups(state, past))
     night = max(state.night() if state.scopes else 1, past.night)
     book = book_of(state, past, night)
+    know_day(files, book, planner.jobs)
     facts = facts_of(state, past, lines, book, time.time(), {})
     running = running_now(files)
     facts.busy = busy_in(files, state, book, running)

@@ -32,6 +32,7 @@ from .log import Log
 from .loop import Driver
 from .night import RENEWAL_SECONDS, NightEnded, program, ran
 from .opening import check, inspected
+from .nights import know_day
 from .past import Past, Unreadable, read_past
 from .planner import Planner
 from .plans import Wish, forgiven, is_left, planned
@@ -62,7 +63,8 @@ FILE = """Each line of JOBS is one of
   + ..                      the next line of the command above
   night: SETTING..          settings of all groups: until 05:30, within 8h, pool tape 2, and
                             what holds for each command unless it says otherwise: retries 1,
-                            timeout 1h, in /srv, env A=B, uses tape 1, background keep, shell bash
+                            timeout 1h, in /srv, env A=B, uses tape 1, on mon..fri,
+                            background keep, shell bash
   each NAME: A B..          a list: a line with {NAME} in its group or key stands for one line for
                             each value. The values may also be `file FILE` or `command COMMAND`
   include FILE              the lines of another file
@@ -93,6 +95,8 @@ Settings, one or more in a line:
   stop on failure           (a group) when a command has failed for good, start no more commands
                             of the group
   failure cancel            (a group) when a command has failed for good, cancel the group
+  on mon..fri, on 1 last    start only in nights of these days, of the week or of the month. A
+                            night has the day on which it began
   background keep           don't end the processes that a command leaves in the background
   via WORDS..               (a group) run WORDS with the command as one more argument, for example
                             to run it on another machine; WORDS takes the rest of the line
@@ -546,6 +550,7 @@ class Run:
         """Decides which night it is and what runs again; whether there is something to do."""
         night = max(state.night(), self.past.night)
         book = book_of(state, self.past, night)
+        know_day(self.files, book, self.jobs)
         facts = facts_of(state, self.past, self.log.lines, book, time.time(), {})
         found = self.planner.standings(facts)
         driver.night = night
@@ -564,6 +569,10 @@ class Run:
         self.tell_missing(facts.interrupted)
         has_work = not is_over or driver.begins_night or self.rest.is_due or bool(
             driver.forgiven or driver.left) or not has_mark and self.has_unwritten_end(book, facts)
+        has_work = has_work or not has_one  # (of the first night nothing may be due)
+        if self.jobs.has_days and (driver.begins_night or not book.top) and not clock.is_set():
+            raise Fault(f"this machine's clock shows {clock.shown()}, and so isn't set: nobody"
+                        " knows which commands are due tonight; set it, and run this again")
         if has_work:
             driver.before = self.renewed(driver, state)
         return has_work
@@ -572,7 +581,8 @@ class Run:
         """Whether a deadline has passed over something that is left, and the store doesn't
         have it yet."""
         return any(group in facts.done and not scope.done and any(
-            it not in facts.ends for it in self.jobs.members.get(group, ()))
+            it not in facts.ends and self.jobs.all[it].is_due(facts.day)
+            for it in self.jobs.members.get(group, ()))
             for group, scope in book.scopes.items())
 
     def renewed(self, driver: Driver, state: State) -> State | None:
