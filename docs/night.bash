@@ -58,7 +58,7 @@ _night_run() {
     COMPREPLY=()
     case $before in
         -j | --grace | --keep) return ;;
-        --on-begin | --on-success | --on-failure)
+        --on-begin | --on-success | --on-failure | --mail)
             mapfile -t COMPREPLY < <(compgen -c -- "$current" | sort -u)
             return ;;
         --report)
@@ -77,7 +77,7 @@ _night_run() {
     if [[ $current == -* ]]; then
         mapfile -t COMPREPLY < <(
             compgen -W "-j --grace --keep --failed --again --nightly --resume --quiet \
-                --on-begin --on-success --on-failure --list --json --dry-run --report \
+                --on-begin --on-success --on-failure --mail --list --json --dry-run --report \
                 --status --watch --tail --output --cancel --version --help" -- "$current")
     else
         compopt -o filenames 2> /dev/null

@@ -1,5 +1,5 @@
-"""Days: which commands are due in a night, what comes after those that aren't, and a night that goes
-on when its day is over."""
+"""Days: which commands are due in a night, what comes after those that aren't, and a night that
+goes on when its day is over."""
 
 from __future__ import annotations
 

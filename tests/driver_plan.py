@@ -183,12 +183,13 @@ ROLES = [("disks", "UNTIL", "disks--until"), ("disks-", "UNTIL", "disks---until"
          ("x" * 20 + "--10000-9", "SAID", "x" * 20 + "--10000-9--s")]
 
 ALL = ("settings are limit N, until MOMENT, within TIME, after X.., retries N [wait TIME [xN] [up"
-       " to TIME]], timeout TIME, in FOLDER, env NAME=VALUE, stop on failure, background keep, via"
-       " WORDS.., ask WORDS.., stop WORDS.., shell WORDS.., priority N, uses NAME N, pool NAME N,"
-       " failure cancel, on DAY..")
+       " to TIME]], timeout TIME, in FOLDER, env NAME=VALUE, env file FILE, stop on failure,"
+       " background keep, via WORDS.., ask WORDS.., stop WORDS.., shell WORDS.., priority N, uses"
+       " NAME N, pool NAME N, failure cancel, on DAY.., user NAME, owner ADDRESS")
 OF_NIGHT = ("is no setting of all groups together; these are until MOMENT, within TIME, retries N"
-            " [wait TIME [xN] [up to TIME]], timeout TIME, in FOLDER, env NAME=VALUE, background"
-            " keep, shell WORDS.., uses NAME N, pool NAME N, on DAY..")
+            " [wait TIME [xN] [up to TIME]], timeout TIME, in FOLDER, env NAME=VALUE, env file"
+            " FILE, background keep, shell WORDS.., uses NAME N, pool NAME N, on DAY.., user NAME,"
+            " owner ADDRESS")
 RETURN = "a carriage return stands within it; write a line feed where the line is to end"
 BACKSLASH = ("it ends with a backslash, which doesn't join it to the next line; put a longer"
              " command into a script")
@@ -246,7 +247,8 @@ MISTAKES = [
     ("night: limit 3", 1, "the limit of all groups together is the option -j"),
     ("night: priority 3", 1, f"priority N {OF_NIGHT}"),
     ("night: stop on failure", 1, f"stop on failure {OF_NIGHT}"),
-    ("night: after one", 1, f"after X.. {OF_NIGHT}"), ("night: via x", 1, f"via WORDS.. {OF_NIGHT}"),
+    ("night: after one", 1, f"after X.. {OF_NIGHT}"),
+    ("night: via x", 1, f"via WORDS.. {OF_NIGHT}"),
     ("night: retries 3 retries 2", 1, "night has a number of retries already"),
     ("g: pool tape 2", 1, "a pool is a setting of all groups together: night: pool NAME N"),
     ("night: pool Tape 2", 1, "the pool 'Tape' is not 1 to 20 of a-z, 0-9, - and _"),

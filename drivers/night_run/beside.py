@@ -254,6 +254,17 @@ def open_trusted(given: str) -> int:
     return file
 
 
+def open_private(given: str) -> int:
+    """The same; a file that not everybody may read, either."""
+    file = open_trusted(given)
+    found = os.fstat(file)
+    if found.st_mode & stat.S_IROTH:
+        os.close(file)
+        raise NotOurs(given, f"it belongs to {name_of(found.st_uid)}, mode {mode_of(found)}, so"
+                             f" others may read it: chmod o-r {given}")
+    return file
+
+
 # --- what is made
 
 class Umask:

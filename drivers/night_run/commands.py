@@ -121,6 +121,8 @@ class Command(Running):
         return bool(self.pid or self.failure or self.is_adopted or self.is_never)
 
     def environment(self, store: str, inherited: Mapping[str, str]) -> dict[str, str]:
+        if self.job.user:
+            inherited = self.job.user.environment(inherited)
         return {**inherited, **dict(self.job.env), "NIGHT_STORE": store,
                 "NIGHT_GROUP": self.job.group, "NIGHT_KEY": self.job.key,
                 "NIGHT_TRY": str(self.tried)}
@@ -133,6 +135,8 @@ class Command(Running):
         it = Named(self.group, self.job.key, self.tried)
         given = self.environment(far.files.path, inherited)
         words = [*(self.job.shell or (SHELL,)), "-c", self.job.command]
+        if self.job.user:
+            words = [*self.job.user.words(), *words]
         try:
             look_for(folder)
             if way.via:

@@ -7,6 +7,7 @@ from __future__ import annotations
 
 import contextlib
 import os
+import time
 import traceback
 from collections.abc import Mapping
 from dataclasses import dataclass, field, replace
@@ -16,10 +17,13 @@ from .alarms import Alarm
 from .beside import write_all
 from .escapes import plain_lines
 from .night import NightEnded
+from .owners import OWNER, SEND, Mail, sendmail
 from .signals import Signals
 from .telling import tell
 
 WELL, NOT_WELL, MISTAKE, FAULT = range(4)
+# How many seconds the mails to owners may take together.
+MOST_MAILING = 120.0
 # With this variable the place of an error that nobody foresaw is shown.
 DEBUG = "NIGHT_DEBUG"
 
@@ -36,6 +40,7 @@ class Outcome:
     has_run: bool = False  # whether there was something to do
     is_silent: bool = False  # whether nothing is printed
     missed: int = 0  # commands of the night before that didn't end well, and are reported first now
+    mails: tuple[Mail, ...] = ()  # to the owners of what didn't end well
     alarm: raised.Alarm | None = None  # what an alarm would be about, if it is of a whole night
     is_given: bool = False  # whether an earlier run gave it
 
@@ -84,6 +89,7 @@ class Hooks:
     signals: Signals | None = None
     alarms: Mapping[str, Alarm] = field(default_factory=dict)
     has_failed: bool = False  # whether what is run at the end didn't end well
+    mail: str | None = None  # the command that sends a mail; None where sendmail does
 
     def run(self, word: str, text: str, environment: Mapping[str, str]) -> bool:
         return word not in self.alarms or self.alarms[word].run(
@@ -99,11 +105,34 @@ class Hooks:
     def end(self, it: Outcome) -> None:
         word = "--on-success" if it.is_well else "--on-failure"
         self.has_failed |= not self.run(word, it.text(), it.environment())
+        if not it.is_well:
+            self.has_failed |= not self.send(it.mails)
+
+    def send(self, mails: tuple[Mail, ...]) -> bool:
+        """Sends the mails to owners, as long as there is time; whether all were sent."""
+        late, count = time.monotonic() + MOST_MAILING, 0
+        for it in mails if self.signals else ():
+            if time.monotonic() >= late:
+                tell(f"no time is left for {len(mails) - count} more mails to owners")
+                return False
+            count += self.send_one(it, self.signals) if self.signals else 0
+        return count == len(mails)
+
+    def send_one(self, it: Mail, signals: Signals) -> bool:
+        program = "" if self.mail else sendmail()
+        if not self.mail and not program:
+            tell(f"the mail to {it.owner}: there is no sendmail; --mail COMMAND names another"
+                 " program")
+            return False
+        return Alarm(f"the mail to {it.owner}", self.mail or SEND, signals).run(
+            it.text(not self.mail), {"NIGHT_STORE": self.store, OWNER: it.owner,
+                                     **({"SENDMAIL": program} if program else {})})
 
 
-def hooks_of(commands: Mapping[str, str | None], store: str, signals: Signals) -> Hooks:
+def hooks_of(commands: Mapping[str, str | None], store: str, signals: Signals,
+             mail: str | None = None) -> Hooks:
     return Hooks(store, signals, {word: Alarm(word, command, signals)
-                                  for word, command in commands.items() if command})
+                                  for word, command in commands.items() if command}, mail=mail)
 
 
 def leave(it: Outcome, hooks: Hooks) -> int:

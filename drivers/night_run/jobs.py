@@ -22,7 +22,7 @@ from __future__ import annotations
 import collections
 import datetime
 from collections.abc import Callable, Iterable
-from dataclasses import dataclass
+from dataclasses import dataclass, field
 from typing import TypeVar
 
 from . import Mistake, Name
@@ -33,6 +33,7 @@ from .parsing import Parsed
 from .reading import At, short
 from .settings import OF_ALL, Retries, Settings, Timeout, Way
 from .telling import note
+from .users import User
 
 T = TypeVar("T")
 # What may stand before the names after `after`.
@@ -64,10 +65,12 @@ class Job:
     timeout: int | None
     timeout_text: str
     folder: str | None
-    env: tuple[tuple[str, str], ...]
+    env: tuple[tuple[str, str], ...] = field(repr=False)  # its values may be secrets
     keeps: bool  # processes that it leaves may live on
     way: Way  # where it runs
     shell: tuple[str, ...]  # what runs it; nothing where that is /bin/sh
+    user: User | None  # as whom root runs it; None if it is the user of the night
+    owner: str | None  # who gets a mail if it doesn't end well
     days: Days | None  # of the nights in which it is due; None if it is due in each
 
     @property
@@ -159,10 +162,11 @@ class Jobs:
             self.mistakes.add(its.at, f"{group} has `ask`, and no `via`")
         if not its.way.via:
             return
-        shells = [it.at for it in (its, *self.of_commands(group)) if it.shell]
-        if shells:
-            self.mistakes.add(shells[0], f"{group} has `via`, whose words run its commands, and"
-                                         " `shell`")
+        for what in "shell", "user":
+            found = [it.at for it in (its, *self.of_commands(group)) if getattr(it, what)]
+            if found:
+                self.mistakes.add(found[0], f"{group} has `via`, whose words run its commands, and"
+                                            f" `{what}`")
 
     def of_commands(self, group: str) -> list[Settings]:
         """The settings of single commands of a group."""
@@ -185,11 +189,12 @@ class Jobs:
             first(own, lambda it: it.priority) or 0, self.uses(every),
             timeout.seconds if timeout else None, timeout.text if timeout else "",
             first(every, lambda it: it.folder),
-            tuple({name: value for it in reversed(every) for name, value in it.env.items()}
-                  .items()), any(it.keeps for it in every), group.way,
+            tuple({name: value for it in reversed(every)
+                   for name, value in (it.secrets | it.env).items()}.items()), any(it.keeps for it in every), group.way,
             () if group.way.via else (
                 first(every, lambda it: it if it.shell else None) or Settings()).shell,
-            first(every, lambda it: it.days))
+            None if group.way.via else first(every, lambda it: it.user),
+            first(every, lambda it: it.owner), first(every, lambda it: it.days))
 
     def uses(self, every: list[Settings]) -> tuple[tuple[str, int], ...]:
         """How much a command has of each pool while it runs."""

@@ -180,12 +180,13 @@ def real_path(path: str) -> str:
         return path
 
 
-def text_beside(path: str, name: str, shown: str) -> str:
+def text_beside(path: str, name: str, shown: str,
+                opening: Callable[[str], int] = open_trusted) -> str:
     """The text of a file that this file names, as Latin letters and others; Wrong where it can't be
     read or isn't to be trusted."""
     given = beside(path, name)
     try:
-        return decoded(answered(lambda: bytes_of(given, open_trusted), SECONDS) or b"")
+        return decoded(answered(lambda: bytes_of(given, opening), SECONDS) or b"")
     except OSError as error:
         raise Wrong(f"{shown}: {descriptors.why(error)}") from None
     except NoAnswer:

@@ -26,4 +26,5 @@ class Rest:
         lines = (f"night {night - 1}, the rest of it:" if night else "the rest of the last night:",
                  *rest.lines, *((f"night {night}:",) if night else ()), *it.lines)
         return replace(it, lines=lines, failed=rest.failed + it.failed,
+                       mails=(*rest.mails, *it.mails),
                        missed=rest.failed + rest.left, is_silent=rest.is_silent and it.is_silent)

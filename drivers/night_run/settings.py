@@ -18,6 +18,9 @@
     timeout TIME            how long a try may take; then it is stopped, and has failed
     in FOLDER               the folder that it runs in
     env NAME=VALUE          a variable of its environment
+    env file FILE           variables of a file (`envfiles`)
+    user NAME               the user as whom root runs it (`users`)
+    owner ADDRESS           who gets a mail if it doesn't end well (`owners`)
     stop on failure         (a group) after a failure no more of its commands are begun
     failure cancel          (a group) the first failure cancels the group
     background keep         processes that a command leaves in its session may live on
@@ -41,11 +44,13 @@ from collections.abc import Callable
 from dataclasses import dataclass, field, replace
 
 from .days import BEGINS, OF_WEEK, Days, read_days
+from .envfiles import VARIABLE, variables_of
 from .reading import TIME, At, Missing, Words, Wrong, seconds_of, short
+from .users import User, user_of
 
 MOMENT = re.compile(r"[0-9]+:[0-9]+(:[0-9]+)?|[0-9]+-[0-9]+-[0-9]+T\S+")
 POOL = re.compile("[a-z0-9_-]{1,20}")
-VARIABLE = re.compile(r"[A-Za-z_][A-Za-z0-9_]*")
+OWNER = re.compile(r"(?!-)[A-Za-z0-9._%+-]{1,64}(?:@[A-Za-z0-9.-]{1,190})?")
 GROWTH = re.compile("x([0-9]{1,2})")
 OF_ALL = "night"
 LAST_MOMENT = 253_000_000_000
@@ -123,6 +128,9 @@ class Settings:
     way: Way = Way()
     shell: tuple[str, ...] = ()
     days: Days | None = None
+    secrets: dict[str, str] = field(default_factory=dict, repr=False)  # of files of variables
+    user: User | None = None
+    owner: str | None = None
 
 
 class Of(enum.Flag):
@@ -248,6 +256,9 @@ def read_in(words: Words, its: Settings) -> None:
 
 
 def read_env(words: Words, its: Settings) -> None:
+    if words.take_if("file"):
+        its.secrets.update(variables_of(words.at.path, words.value("the file of variables")))
+        return
     name, is_set, value = words.value("NAME=VALUE").partition("=")
     if not is_set or not VARIABLE.fullmatch(name):
         raise Wrong(f"{short(name)} is not written like NAME=VALUE")
@@ -299,6 +310,19 @@ def read_background(words: Words, its: Settings) -> None:
     its.keeps = True
 
 
+def read_user(words: Words, its: Settings) -> None:
+    words.once("user", its.user is not None)
+    its.user = user_of(words.value("the name of the user"))
+
+
+def read_owner(words: Words, its: Settings) -> None:
+    value = words.value("the owner")
+    words.once("owner", its.owner is not None)
+    if not OWNER.fullmatch(value):
+        raise Wrong(f"the owner {short(value)} is not written like anna or anna@example.org")
+    its.owner = value
+
+
 def read_on(words: Words, its: Settings) -> None:
     words.once("list of days", its.days is not None)
     its.days = read_days(words)
@@ -314,7 +338,7 @@ SETTINGS = (
             looks=re.compile(r"[0-9]+( wait \S+)?")),
     Setting("timeout", "timeout TIME", read_timeout, EACH, looks=TIME),
     Setting("in", "in FOLDER", read_in, EACH),
-    Setting("env", "env NAME=VALUE", read_env, EACH),
+    Setting("env", "env NAME=VALUE, env file FILE", read_env, EACH),
     Setting("stop", "stop on failure", read_stop, Of.GROUP, looks=re.compile("on failure")),
     Setting("background", "background keep", read_background, EACH, looks=re.compile("keep")),
     Setting("via", "via WORDS..", read_via, Of.GROUP),
@@ -325,6 +349,8 @@ SETTINGS = (
     Setting("pool", "pool NAME N", read_pool, Of.NIGHT, follows=re.compile(r"\S+ [0-9]+")),
     Setting("failure", "failure cancel", read_failure, Of.GROUP, follows=re.compile("cancel")),
     Setting("on", "on DAY..", read_on, EACH, looks=OF_WEEK, follows=BEGINS),
+    Setting("user", "user NAME", read_user, EACH, follows=re.compile(r"\S")),
+    Setting("owner", "owner ADDRESS", read_owner, EACH, follows=re.compile(r"\S")),
 )
 BY_WORD = {it.word: it for it in SETTINGS}
 ALL = f"settings are {', '.join(it.shown for it in SETTINGS)}"

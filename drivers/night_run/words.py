@@ -33,6 +33,7 @@ from .loop import Driver
 from .night import RENEWAL_SECONDS, NightEnded, program, ran
 from .opening import check, inspected
 from .nights import know_day
+from .owners import mails_of
 from .past import Past, Unreadable, read_past
 from .planner import Planner
 from .plans import Wish, forgiven, is_left, planned
@@ -64,7 +65,7 @@ FILE = """Each line of JOBS is one of
   night: SETTING..          settings of all groups: until 05:30, within 8h, pool tape 2, and
                             what holds for each command unless it says otherwise: retries 1,
                             timeout 1h, in /srv, env A=B, uses tape 1, on mon..fri,
-                            background keep, shell bash
+                            user www, owner anna@example.org, background keep, shell bash
   each NAME: A B..          a list: a line with {NAME} in its group or key stands for one line for
                             each value. The values may also be `file FILE` or `command COMMAND`
   include FILE              the lines of another file
@@ -91,7 +92,10 @@ Settings, one or more in a line:
   uses NAME N               take N of that pool while the command runs
   timeout 10m               stop a try that takes longer; it counts as failed
   in FOLDER                 the working directory
-  env NAME=VALUE            a variable of the environment
+  env NAME=VALUE            a variable of the environment; `env file FILE` takes those of a file,
+                            whose values are shown nowhere
+  user NAME                 run the command as this user, if root runs the night
+  owner ADDRESS             mail ADDRESS the failures of its commands at the end of the night
   stop on failure           (a group) when a command has failed for good, start no more commands
                             of the group
   failure cancel            (a group) when a command has failed for good, cancel the group
@@ -160,7 +164,7 @@ def read_words(given: list[str]) -> argparse.Namespace:
         usage="night-run STORE JOBS [-j N] [--grace S] [--keep N] [--quiet]\n"
               "                       [--failed | --again | --nightly | --resume]\n"
               "                       [--on-begin COMMAND] [--on-success COMMAND]\n"
-              "                       [--on-failure COMMAND]\n"
+              "                       [--on-failure COMMAND] [--mail COMMAND]\n"
               "       night-run STORE JOBS --list [--json] | --report html|text|prom\n"
               "       night-run STORE JOBS --dry-run [--failed | --again | --nightly]\n"
               "       night-run STORE [JOBS] --status [--watch | --json]\n"
@@ -188,6 +192,10 @@ def read_words(given: list[str]) -> argparse.Namespace:
                         help="run COMMAND once if the run ends in any other way, even if nothing"
                         " could run. Its standard input is the summary. NIGHT_STATUS, and the"
                         " counts NIGHT_FAILED and NIGHT_LEFT, are in its environment")
+    reader.add_argument("--mail", metavar="COMMAND",
+                        help="send the mail to each owner of what didn't end well with COMMAND,"
+                        " instead of sendmail. Its standard input is the mail, and NIGHT_OWNER in"
+                        " its environment the owner's address")
     what = reader.add_mutually_exclusive_group()
     what.add_argument("--failed", action="store_true",
                       help="also run again the commands that failed or were canceled")
@@ -273,7 +281,7 @@ def run() -> int:
         return exits.leave(looked(words), Hooks())
     signals = Signals()
     hooks = hooks_of({it: getattr(words, name) for it, name in HOOKS.items()}, words.store,
-                     signals)
+                     signals, words.mail)
     made = Run(words, signals, hooks)
     it = made.outcome()
     status = exits.leave(it, hooks)
@@ -466,7 +474,7 @@ class Run:
         ran = len(self.driver.ran) if self.driver else 0
         return self.rest.before(dataclasses.replace(
             it, lines=(*failures(made), *self.held(), total(made, ran)), failed=failed_count(made),
-            left=left_count(made)), made.night)
+            left=left_count(made), mails=mails_of(self.jobs, made)), made.night)
 
     def held(self) -> tuple[str, ...]:
         """Why the last commands that were due couldn't be started, if so."""
@@ -637,4 +645,5 @@ class Run:
             has_run or self.words.resume))
         return self.rest.before(Outcome(
             status, lines=lines, failed=failed_count(made), left=left_count(made),
-            has_run=has_run, is_silent=is_silent, alarm=alarm, is_given=is_given), made.night)
+            has_run=has_run, is_silent=is_silent, mails=mails_of(self.jobs, made), alarm=alarm,
+            is_given=is_given), made.night)
