@@ -350,6 +350,20 @@ def open_files(tries: Shared) -> None:
             (0, "2 commands: 2 ok; 2 run this time"), 1 if "std" in words else 2))
 
 
+def linked_files(tries: Shared) -> None:
+    """A file that a file of commands names is looked for beside that file, whichever link has led
+    to it, and whichever folder night-run is started in."""
+    folder = files_of(tries, {"conf/JOBS": "include more\neach h: file hosts", "conf/hosts": "a b",
+                              "conf/more": "g {h} x", "hosts": "wrong", "more": "wrong"})
+    os.symlink("conf/JOBS", f"{folder}/JOBS")
+    os.symlink("conf", f"{folder}/link")
+    for path in "JOBS", "link/JOBS", "conf/JOBS":
+        its = driver_module(tries, "jobs").Jobs(f"{folder}/{path}")
+        tries.is_same("files that a linked file names", path, [
+            (" ".join(name), it.command) for name, it in its.all.items()], [("g a", "x"),
+                                                                            ("g b", "x")])
+
+
 LISTS: list[Callable[[Shared], None]] = [
     made, refused, settings_over_lists, night_over_lists, lists_amid_a_night, unused_lists,
-    signal_amid_a_list, open_files]
+    signal_amid_a_list, open_files, linked_files]

@@ -100,11 +100,30 @@ class Plan:
     kinds: tuple[str, ...] = ()
     rests: tuple[str, ...] = ()
     is_brief: bool = False
+    # How the file is written: by lists, in several lines, and in two files.
+    is_listed: bool = False
+    # The retries of all commands, and the keys that are due on other days.
+    retries: int | None = None
+    not_due: frozenset[str] = frozenset()
 
-    def text(self, dice: random.Random, program: str, room: str) -> str:
-        """The file of commands. Settings may stand anywhere."""
-        lines = [f"{it.group} {it.key} {it.shell(program, room)}"
-                 for it in self.commands.values()]
+    def files(self, dice: random.Random, program: str, room: str) -> dict[str, str]:
+        """The file of commands, and what it includes."""
+        lines = self.lines(dice, program, room)
+        if not self.is_listed:
+            return {"JOBS": text_of(lines)}
+        at = dice.randrange(len(lines))
+        return {"JOBS": text_of([*lines[:at], "include MORE"]), "MORE": text_of(lines[at:])}
+
+    def lines(self, dice: random.Random, program: str, room: str) -> list[str]:
+        """The lines of commands and settings. Settings may stand anywhere."""
+        lines = self.lists(dice, program, room) if self.is_listed else [
+            f"{it.group} {it.key} {it.shell(program, room)}" for it in self.commands.values()]
+        if self.retries is not None:
+            lines.insert(dice.randrange(len(lines) + 1), f"night: retries {self.retries}")
+        if self.not_due:
+            lines.insert(dice.randrange(len(lines) + 1), f"night: on {days_from(0)} {days_from(1)}")
+        lines += [f"{self.commands[it].group} {it}: on {days_from(3)}"
+                  for it in sorted(self.not_due)]
         for group in self.groups.values():
             for it in group.settings():
                 lines.insert(dice.randrange(len(lines) + 1), f"{group.name}: {it}")
@@ -112,7 +131,24 @@ class Plan:
             if command.settings():
                 lines.insert(dice.randrange(len(lines) + 1),
                              f"{command.group} {command.key}: {' '.join(command.settings())}")
-        return "".join(f"{it}\n" for it in ("# a night", "", *lines))
+        return lines
+
+    def lists(self, dice: random.Random, program: str, room: str) -> list[str]:
+        """The lines of commands, of which those that differ in their keys alone are made by a list,
+        and others may have several lines."""
+        alike: dict[Command, list[str]] = {}
+        for it in self.commands.values():
+            what = Command(it.group, "", it.milliseconds, it.status, it.fails, it.flags, it.form)
+            alike.setdefault(what, []).append(it.key)
+        lines: list[str] = []
+        for at, (what, keys) in enumerate(alike.items()):
+            if keys[1:]:
+                lines.append(f"each l{at}: {' '.join(keys)}")
+            key = f"{{l{at}}}" if keys[1:] else keys[0]
+            shell = replace(what, key=key).shell(program, room)
+            lines.append(f"{what.group} {key}" + (f"\n+ :\n+\n+ {shell}" if dice.random() < 0.3
+                                                  else f" {shell}"))
+        return lines
 
     def has_deadline(self, group: str) -> bool:
         return self.groups[group].until is not None or self.groups[group].within is not None
@@ -120,7 +156,7 @@ class Plan:
     def retries_of(self, key: str) -> int:
         command = self.commands[key]
         own, its = command.retries, self.groups[command.group].retries
-        return own if own is not None else its or 0
+        return own if own is not None else its if its is not None else self.retries or 0
 
     def timeout_of(self, key: str) -> int | None:
         command = self.commands[key]
@@ -136,7 +172,16 @@ class Plan:
                 found |= {it.key for it in self.commands.values() if it.group == name}
             else:
                 found.add(name.rpartition("/")[2])
-        return found
+        return found - self.not_due
+
+
+def text_of(lines: list[str]) -> str:
+    return "".join(f"{it}\n" for it in ("# a night", "", *lines))
+
+
+def days_from(days: int) -> str:
+    """The day of the week so many days after today."""
+    return time.strftime("%a", time.localtime(time.time() + days * 86400)).lower()
 
 
 def make_plan(dice: random.Random, knows: bool, shape: str = "") -> Plan:
@@ -155,6 +200,10 @@ def make_plan(dice: random.Random, knows: bool, shape: str = "") -> Plan:
         set_group(dice, plan, group, knows)
     if knows:
         add_settings(dice, plan)
+        plan.is_listed = dice.random() < 0.4
+        plan.retries = dice.choice((None, None, None, 0, 1))
+        if shape != "clock" and dice.random() < 0.3:
+            plan.not_due = frozenset(dice.sample(sorted(plan.commands), len(plan.commands) // 5))
     plan.disturbances = dice.randint(1, 3) if shape == "many" else dice.randint(0, 5)
     plan.slow = dice.choice((0, 0, 0, 0, 3, 20))
     return plan

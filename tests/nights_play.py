@@ -366,7 +366,7 @@ class Night:
         phases = self.phases()
         for key in self.plan.commands:
             self.compare_key(seen, key, phases.get(key, "nothing"), phases)
-        is_ok = all(phases.get(it) == "ok" for it in self.plan.commands)
+        is_ok = all(phases.get(it) in ("ok", "not due") for it in self.plan.commands)
         room.holds((status == 0) == is_ok, f"10: status {status}, and the commands are {phases}")
         count = sum(it == "ok" for it in phases.values())
         total = len(self.plan.commands)
@@ -397,7 +397,9 @@ class Night:
         last = tries[-1] if tries else None
         end = end_between(seen, key, since, now)
         holds = self.room.holds
-        holds(phase in ENDED, f"10: {key} is {phase} at the end")
+        is_due = key not in self.plan.not_due
+        holds(phase in ENDED if is_due else phase == "not due" and not seen.tries[key],
+              f"10: {key} is {phase} at the end, and its last try was {last}")
         # (an end may be durable that a stop, or a kill of `night` alone, kept from being acked)
         kills = [*(it.at for it in seen.stops), *seen.hits]
         is_ok = last and last.is_whole() and (end == "ok" or end is None and last.status == 0

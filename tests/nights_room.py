@@ -95,7 +95,8 @@ class Room:
             os.mkdir(f"{self.path}/{it}")
         os.symlink("../s", f"{self.path}/x/s")
         os.symlink("../JOBS", f"{self.path}/x/JOBS")
-        self.write("JOBS", plan.text(dice, tools.job, self.path))
+        for name, text in plan.files(dice, tools.job, self.path).items():
+            self.write(name, text)
         self.write("slow", str(plan.slow))
         self.environment = {**os.environ, "NIGHT": tools.night}
         self.seen = Seen(plan, slack=PACE.slack)

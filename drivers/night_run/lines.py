@@ -166,10 +166,12 @@ def included_by(text: str) -> str:
 # --- files
 
 def beside(path: str, name: str) -> str:
-    """A file that this file names, in the folder of that file. What the caller has open, as
-    /dev/stdin, is in no folder."""
-    folder = "" if is_passed_on(path) else os.path.dirname(path)
-    return os.path.join(folder, name)
+    """A file that this file names, in the folder of that file, whichever link has led there. What
+    the caller has open, as /dev/stdin, is in no folder."""
+    if is_passed_on(path):
+        return name
+    folder, real = os.path.dirname(path), os.path.dirname(real_path(path))
+    return os.path.join(folder if os.path.abspath(folder) == real else real, name)
 
 
 def real_path(path: str) -> str:
