@@ -62,7 +62,8 @@ _night_run() {
             mapfile -t COMPREPLY < <(compgen -c -- "$current" | sort -u)
             return ;;
         --report)
-            mapfile -t COMPREPLY < <(compgen -W "html text prom" -- "$current")
+            mapfile -t COMPREPLY < <(compgen -W \
+                "html text prom history history-html history-json" -- "$current")
             return ;;
         --cancel)
             # the groups of the file of commands, if it stands before, or else of the last run

@@ -12,6 +12,7 @@ import tempfile
 from driver_plan import driver_module
 from driver_room import Room, Shared, hit, job
 
+# (that of an older driver, whose lines say less)
 HEAD = "Try\tGroup\tKey\tBegan\tSeconds\tEnd\tCommand\n"
 # How many kB a driver may take.
 MOST_MEMORY = 60_000
@@ -208,7 +209,7 @@ def full_logs(tries: Shared) -> None:
                 with open(f"{where}/s.log", encoding="ascii") as file:
                     text = file.read()
             keys = [it.split("\t")[2] for it in text.splitlines()[1:]]
-            whole = all(len(it.split("\t")) == 7 and it.endswith("\texit 12\techo")
+            whole = all(len(it.split("\t")) == 11 and it.endswith("\texit 12\techo\t-\t-\t-\t-")
                         for it in text.splitlines()[1:])
             tries.is_same(kind, (room_left, last), (ran.returncode, keys, whole, text[-1:]),
                           (0, [*"abc", *last], True, "\n"))

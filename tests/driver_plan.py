@@ -185,11 +185,12 @@ ROLES = [("disks", "UNTIL", "disks--until"), ("disks-", "UNTIL", "disks---until"
 ALL = ("settings are limit N, until MOMENT, within TIME, after X.., retries N [wait TIME [xN] [up"
        " to TIME]], timeout TIME, in FOLDER, env NAME=VALUE, env file FILE, stop on failure,"
        " background keep, via WORDS.., ask WORDS.., stop WORDS.., shell WORDS.., priority N, uses"
-       " NAME N, pool NAME N, failure cancel, on DAY.., user NAME, owner ADDRESS")
+       " NAME N, pool NAME N, failure cancel, on DAY.., user NAME, owner ADDRESS, nice N,"
+       " ionice CLASS [N], memory 2G, cpu 200%, output 100M")
 OF_NIGHT = ("is no setting of all groups together; these are until MOMENT, within TIME, retries N"
             " [wait TIME [xN] [up to TIME]], timeout TIME, in FOLDER, env NAME=VALUE, env file"
             " FILE, background keep, shell WORDS.., uses NAME N, pool NAME N, on DAY.., user NAME,"
-            " owner ADDRESS")
+            " owner ADDRESS, nice N, ionice CLASS [N], memory 2G, cpu 200%, output 100M")
 RETURN = "a carriage return stands within it; write a line feed where the line is to end"
 BACKSLASH = ("it ends with a backslash, which doesn't join it to the next line; put a longer"
              " command into a script")
@@ -304,6 +305,30 @@ MISTAKES = [
     ("g one: failure cancel", 1, "limit, until, within, stop on failure, failure cancel, via, ask"
      " and stop are settings of a group"),
     ("g: failure stop", 1, "the setting is failure cancel"),
+    ("g: nice 20", 1, "nice '20' is not -20 to 19"),
+    ("g: nice -21", 1, "nice '-21' is not -20 to 19"),
+    ("g: nice ٣", 1, "nice '٣' is not -20 to 19"),
+    ("g: nice", 1, f"the number after `nice` is missing; {ALL}"),
+    ("g: nice 5 nice 6", 1, "g has a niceness already"),
+    ("g: ionice fast", 1, "the class 'fast' is not idle, best-effort or realtime"),
+    ("g: ionice best-effort 8", 1, "no setting is called '8'"),
+    ("g: ionice idle 3", 1, "no setting is called '3'"),
+    ("g: memory 2", 1, "memory '2' is not written like 512K, 100M or 2G"),
+    ("g: memory 2.5G", 1, "memory '2.5G' is not written like 512K, 100M or 2G"),
+    ("g: memory 2g", 1, "memory '2g' is not written like 512K, 100M or 2G"),
+    ("g: memory -1G", 1, "memory '-1G' is not written like 512K, 100M or 2G"),
+    ("g: memory 0G", 1, "memory 0G: no shell can run in less than 1M"),
+    ("g: memory 1023K", 1, "memory 1023K: no shell can run in less than 1M"),
+    ("g: memory 1G\ng: memory 2G", 2, "g has a limit of memory already"),
+    ("g: cpu 200", 1, "cpu '200' is not written like 50% or 200%"),
+    ("g: cpu 0%", 1, "cpu '0%' is not written like 50% or 200%"),
+    ("g: cpu 50% cpu 60%", 1, "g has a limit of cpu already"),
+    ("g: output 0M", 1, "output 0M: a try that may print nothing has its output elsewhere, as in"
+     " `COMMAND > /dev/null`"),
+    ("g: output lots", 1, "output 'lots' is not written like 512K, 100M or 2G"),
+    ("g: output 1M output 1M", 1, "g has a limit of output already"),
+    ("g: via x\ng one: memory 2G", 2, "g has `via`, so its commands run elsewhere, where nice,"
+     " ionice, memory and cpu limit nothing"),
     ("g: failure cancel stop on failure", 1, "g has a failure cancel already"),
     ("g: stop on failure failure cancel", 1, "g has a stop on failure already"),
     ("g one: after failed two", 1, "after 'two': no such key of g, and no such group"),

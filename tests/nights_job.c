@@ -8,8 +8,9 @@
    h one that ignores SIGTERM, d one in a session of its own; - is none. A line is
    `WHAT GROUP KEY PID MICROSECONDS ..` by the monotonic clock:
 
-       B .. PROCESS-GROUP TRIES NIGHT_TRY FOLDER WORD OUTPUT
-                     it begins (its tries so far, with this one; the name of its standard output)
+       B .. PROCESS-GROUP TRIES NIGHT_TRY FOLDER WORD OUTPUT NICE KILOBYTES
+                     it begins (its tries so far, with this one; the name of its standard output;
+                     its niceness, and how much memory it may have, 0 for any)
        E .. STATUS                                       it ends so
        T ..                                              SIGTERM came
        G .. FLAG                                         a process that it leaves begins
@@ -23,6 +24,7 @@
 #include <stdlib.h>
 #include <string.h>
 #include <sys/file.h>
+#include <sys/resource.h>
 #include <sys/stat.h>
 #include <sys/wait.h>
 #include <time.h>
@@ -140,9 +142,12 @@ static void tell_begin(int many, const char *folder) {
   if (readlink("/proc/self/fd/1", output, sizeof output - 1) < 0) _exit(90);
   /* (of one that was removed the system says so after its name) */
   output[strcspn(output, " ")] = 0;
-  snprintf(rest, sizeof rest, " %d %d %s %s %s %s", (int)getpgrp(), many,
+  struct rlimit data;
+  if (getrlimit(RLIMIT_DATA, &data)) _exit(90);
+  snprintf(rest, sizeof rest, " %d %d %s %s %s %s %d %lu", (int)getpgrp(), many,
            number && *number ? number : "-", *folder ? folder : "/", word && *word ? word : "-",
-           strrchr(output, '/') ? strrchr(output, '/') + 1 : "-");
+           strrchr(output, '/') ? strrchr(output, '/') + 1 : "-", getpriority(PRIO_PROCESS, 0),
+           data.rlim_cur == RLIM_INFINITY ? 0ul : (unsigned long)data.rlim_cur >> 10);
   tell("B", rest);
 }
 

@@ -10,7 +10,7 @@ from collections import Counter, defaultdict
 from collections.abc import Callable, Iterator
 from dataclasses import dataclass, field
 
-from nights_plan import Group, Plan
+from nights_plan import KILOBYTES, MEMORY, NICE, Group, Plan
 
 # A cancel is obeyed, and a deadline is, within this many seconds.
 PROMPT = 2.0
@@ -41,6 +41,8 @@ class Try:
     folder: str
     word: str
     output: str
+    nice: int = 0
+    kilobytes: int = 0  # of memory, at most; 0 for any
     ended: float | None = None
     status: int | None = None
     terms: list[float] = field(default_factory=list)
@@ -137,7 +139,7 @@ def read_told(seen: Seen, path: str) -> None:
         at, name = int(moment) / 1e6, (key, int(pid))
         if what == "B":
             by_pid[name] = Try(key, int(pid), int(rest[0]), at, int(rest[1]), rest[2], rest[3],
-                               rest[4], rest[5])
+                               rest[4], rest[5], int(rest[6]), int(rest[7]))
             seen.tries[key].append(by_pid[name])
         elif what == "E":
             by_pid[name].ended, by_pid[name].status = at, int(rest[0])
@@ -174,7 +176,8 @@ def complaints(seen: Seen) -> list[str]:
     """What is not as it must be: the number of the invariant, and what was seen."""
     found = [*starts_acked(seen), *seen.beside]
     for check in (places, cancels_obeyed, deadlines_kept, timeouts_kept, ended_once, stopped_not_ok,
-                  run_twice, ordered, stopped_on_failure, outputs_own, in_places):
+                  run_twice, ordered, stopped_on_failure, outputs_own, in_places,
+                  limited):
         found += check(seen)
     return found
 
@@ -406,6 +409,19 @@ def in_places(seen: Seen) -> Iterator[str]:
             yield f"in: {it.key} ran in {it.folder}"
         if command.word and it.word != command.word:
             yield f"env: {it.key} had the word {it.word}"
+
+
+def limited(seen: Seen) -> Iterator[str]:
+    """Each command has the limits of its own and of its group. (Its memory may be that of a scope,
+    where systemd makes one.)"""
+    usual, has_systemd = os.nice(0), os.path.isdir("/run/systemd/system")
+    for it in seen.all_tries():
+        command = seen.plan.commands[it.key]
+        its = f"{command.limits} {seen.plan.groups[command.group].limits}"
+        if it.nice != usual + (1 if NICE in its else 0):
+            yield f"limits: {it.key} had the niceness {it.nice}"
+        if it.kilobytes != (KILOBYTES if MEMORY in its else 0) and not has_systemd:
+            yield f"limits: {it.key} had {it.kilobytes} kB of memory"
 
 
 # --- what is asked of all

@@ -6,6 +6,8 @@ from collections.abc import Callable
 from dataclasses import dataclass, field, replace
 from typing import Any
 
+# The limits of a command that it can see, and what it sees of the second one.
+NICE, MEMORY, KILOBYTES = "nice 1", "memory 900M", 900 << 10
 # The shapes of nights: how often each is taken.
 SHAPES = {"mixed": 8, "many": 4, "stops": 3, "names": 3, "damage": 2, "clock": 1}
 
@@ -27,6 +29,7 @@ class Command:
     timeout: int | None = None
     folder: str = ""
     word: str = ""
+    limits: str = ""  # settings of what it may take of the machine
 
     def shell(self, program: str, room: str) -> str:
         """What /bin/sh is given."""
@@ -46,6 +49,8 @@ class Command:
             found.append(f"in {self.folder}")
         if self.word:
             found.append(f"env WORD={self.word}")
+        if self.limits:
+            found.append(self.limits)
         return found
 
 
@@ -62,6 +67,7 @@ class Group:
     timeout: int | None = None
     stops: bool = False
     keeps: bool = False
+    limits: str = ""
 
     def settings(self) -> list[str]:
         found = []
@@ -82,6 +88,8 @@ class Group:
             found.append("stop on failure")
         if self.keeps:
             found.append("background keep")
+        if self.limits:
+            found.append(self.limits)
         return found
 
 
@@ -265,6 +273,8 @@ def set_group(dice: random.Random, plan: Plan, group: Group, knows: bool) -> Non
         group.retries = dice.randint(0, 2)
     if plan.shape == "stops" and dice.random() < 0.4:
         group.timeout = 1
+    if dice.random() < 0.3:
+        group.limits = limits_of(dice)
     used = {it.group for it in plan.commands.values()}
     earlier = [it for it in list(plan.groups)[:list(plan.groups).index(group.name)] if it in used]
     if earlier and dice.random() < 0.15:
@@ -290,8 +300,16 @@ def add_settings(dice: random.Random, plan: Plan) -> None:
             it = replace(it, timeout=dice.choice((1, 1, 30)))
         if dice.random() < chance / 2:
             it = replace(it, folder="in", word=dice.choice(("x", "a=b", "y-1")))
+        if dice.random() < chance:
+            it = replace(it, limits=limits_of(dice))
         plan.commands[key] = it
         seen.append(it)
+
+
+def limits_of(dice: random.Random) -> str:
+    """Limits that keep no command from its work."""
+    every = [NICE, "ionice idle", MEMORY, "cpu 150%", "output 40M"]
+    return " ".join(dice.sample(every, dice.randint(1, 3)))
 
 
 # --- brief nights, each for one kind of wrong driver

@@ -22,6 +22,8 @@
     batches    lines that are sent together        terminal    standard error, never waited for
     mounts     looks that may never end            clock       whether the machine's is set
     strangers  others who have the store open      foreign     files that aren't night-run's
+    limits     what a command may use              means       how that is put on it
+    used       what a try has used                 history     the last nights
     raised     alarms that were given              descriptors how many files may be open
     status     how a night stands now: status_command prints it, status_screen lays it out, and
                status_output prints what commands print. status_plan is what the last run was to do,

@@ -21,23 +21,34 @@ from .ends import OK, End, failed
 from .far import BEGUN, PATIENCE, Elsewhere, Far
 from .files import Files
 from .jobs import Job
+from .means import NOTHING, Put, means
 from .mounts import Folders, NoAnswer
 from .processes import (boot, group_exists, groups_in, session_exists, session_lives, signal_groups,
                         signal_session, stat_of)
 from .telling import error_text, note_once
 from .tries import Contents, Named, Tries, naming
+from .used import ASKING, PYTHON, Used, of_shell, printed
 
 SHELL = "/bin/sh"
-# Writes `process $1 PID START` into the file 8, runs the words after $2 in the folder $2, and
-# writes how they ended. What the shell itself prints stands there, too. (SIGINT isn't ignored by a
-# command in the foreground, as it would be in the background.)
+# Writes `process $1 PID START` into the file 8, runs the words after $6 in the folder $2, with $3
+# KB of memory for each process if there is a $3, and writes how they ended. If they took a second,
+# or the driver has gone, it becomes the program $4, which is given the text $5 and $6 (`used`).
+# What the shell itself prints stands in that file, too. (SIGINT isn't ignored by a command in the
+# foreground, as it would be in the background. A variable that is set before the command begins has
+# a name that no command's environment has: one that is there would be changed.)
 BEGINNING = """\
 exec 2>&8; trap : HUP INT QUIT USR1 USR2 PIPE ALRM TERM
-set -f; read -r s </proc/self/stat
+set -f; read -r NIGHT_STAT </proc/self/stat
 process() { echo "process $1 $$ ${23:-0}" >&8; }
-(process "$1" $s || exit; exec 2>&1 8>&-
-[ -z "$2" ] || cd -- "$2" || exit 127; shift 2; exec "$@")
-it=$?; read -r up s </proc/uptime; echo "ended $it $up ." >&8; exit $it"""
+is_brief() { [ $((${up%.*}${up#*.} - ${22:-0})) -lt 100 ]; }
+(process "$1" $NIGHT_STAT || exit; exec 2>&1 8>&-
+[ -z "$2" ] || cd -- "$2" || exit 127
+[ -z "$3" ] || ulimit -d "$3"; shift 6; exec "$@")
+it=$?; read -r up _ </proc/uptime; echo "ended $it $up ." >&8
+read -r _ _ _ by _ </proc/self/stat
+[ -z "$4" ] || { is_brief $NIGHT_STAT && [ "$by" = $PPID ]; } ||
+exec "$4" -ISc "$5" $it "$6" 2>/dev/null
+exit $it"""
 # What the system lacks for a while: a command that can't be begun by it is begun later.
 LATER = (errno.EAGAIN, errno.ENOMEM, errno.EMFILE, errno.ENFILE, errno.ENOSPC, errno.EDQUOT,
          errno.EROFS)
@@ -115,6 +126,8 @@ class Command(Running):
         self.is_noted = False  # whether it stands in STORE.far
         self.put_off = ""  # why its shell couldn't begin it
         self.misses = 0
+        self.used = Used()
+        self.how = NOTHING  # how its processes are limited
 
     @property
     def has_begun(self) -> bool:
@@ -134,17 +147,16 @@ class Command(Running):
         folder, way = from_here(self.job.folder or ""), self.job.way
         it = Named(self.group, self.job.key, self.tried)
         given = self.environment(far.files.path, inherited)
-        words = [*(self.job.shell or (SHELL,)), "-c", self.job.command]
-        if self.job.user:
-            words = [*self.job.user.words(), *words]
         try:
             look_for(folder)
             if way.via:
-                words = [*far.filled(way.via, it), self.job.command]
+                put = Put([*far.filled(way.via, it), self.job.command])
                 self.elsewhere = Elsewhere(far, way, it, folder, given)
+            else:
+                put = self.limited()
             file = self.noted(tries, it, events, far)
             try:
-                self.spawn(far.files, file, folder, words, given)
+                self.spawn(far.files, file, folder, put, given)
                 self.record, self.tries = it, tries
             finally:
                 os.close(file)
@@ -180,16 +192,28 @@ class Command(Running):
         except OSError as error:
             raise NotNow(error_text(error)) from None
 
-    def spawn(self, files: Files, file: int, folder: str, words: list[str],
+    def limited(self) -> Put:
+        """The words that run it, and how its limits are put on them."""
+        words = [*(self.job.shell or (SHELL,)), "-c", self.job.command]
+        if self.job.user:
+            words = [*self.job.user.words(), *words]
+        if not self.job.limits.is_of_processes:
+            return Put(words)
+        return means().put(words, self.job.limits)
+
+    def spawn(self, files: Files, file: int, folder: str, put: Put,
               given: Mapping[str, str]) -> None:
-        """Begins the shell of these words, to which a file of its try is given."""
+        """Begins the shell that runs it, to which a file of its try is given."""
+        self.how = put.how
+        asking = PYTHON if self.elsewhere is None else ""
+        words = [boot(), folder, put.kilobytes, asking, ASKING, put.how, *put.words]
         with contextlib.ExitStack() as left:
             with naming(files.shown_of(Part.OUT)):
                 out = files.outputs.open(self.output, os.O_WRONLY | os.O_CREAT | os.O_TRUNC)
             left.callback(os.close, out)
             left.enter_context(Umask.restored())
             self.pid = os.posix_spawn(
-                SHELL, [SHELL, "-c", BEGINNING, SHELL, boot(), folder, *words], given,
+                SHELL, [SHELL, "-c", BEGINNING, SHELL, *words], given,
                 setsid=True, setsigdef=[signal.SIGPIPE, signal.SIGXFSZ],
                 file_actions=[(os.POSIX_SPAWN_OPEN, 0, os.devnull, os.O_RDONLY, 0),
                               (os.POSIX_SPAWN_DUP2, out, 1), (os.POSIX_SPAWN_DUP2, out, 2),
@@ -197,11 +221,13 @@ class Command(Running):
 
     def look_back(self) -> None:
         """Takes what the file of the try knows better than its shell's status: by which signal the
-        command ended, and that it never began, so that it is to begin later."""
+        command ended, what it took, and that it never began, so that it is to begin later."""
         found = None
-        if self.tries and self.record and self.status:
+        if self.tries and self.record and self.status is not None:
             found = self.tries.contents(self.record)
-        if found is None or self.stopped is not None:
+        if found is not None:
+            self.take_used(found)
+        if found is None or not self.status or self.stopped is not None:
             return
         if found.ended:
             self.status = found.ended.status
@@ -213,7 +239,17 @@ class Command(Running):
             self.record = self.elsewhere = self.status = self.took = None
             self.pid = 0
 
-    def adopt(self, its: Contents, it: Elsewhere | None, output: str) -> None:
+    def take_used(self, its: Contents) -> None:
+        """Takes what the command took. Of one that runs elsewhere that is what it prints here, and
+        a shell that was killed knows nothing of its command."""
+        if its.ended and its.ended.used:
+            self.used = its.ended.used
+        elif its.ended is None or self.elsewhere:
+            self.used = Used(limits=self.how)
+        if self.tries:
+            self.used = printed(self.used, self.tries.files.outputs.size(self.output))
+
+    def adopt(self, tries: Tries, its: Contents, it: Elsewhere | None, output: str) -> None:
         """Makes it a try of an earlier driver that has ended."""
         self.elsewhere, self.output = it, output
         self.is_adopted = self.is_gone = True
@@ -222,6 +258,8 @@ class Command(Running):
         if its.ended and self.took is not None:
             self.began = its.ended.at - self.took
         self.text = its.command or self.job.command
+        self.tries = tries
+        self.take_used(its)
 
     def never(self, end: End) -> None:
         """Makes it one that never begins, and ends so."""
@@ -274,7 +312,8 @@ class Command(Running):
             groups = set() if self.may_leave else groups_in(self.pid)
             if not self.may_leave:
                 signal_groups({self.pid, *groups}, signal.SIGTERM)
-            self.status = os.waitstatus_to_exitcode(os.waitpid(self.pid, 0)[1])
+            _, status, its = os.wait4(self.pid, 0)
+            self.status, self.used = os.waitstatus_to_exitcode(status), of_shell(its, self.how)
             if not groups and group_exists(self.pid):
                 groups = groups_in(self.pid)  # (what began while /proc was read was missed)
             self.is_clear = not groups
@@ -307,6 +346,8 @@ class Command(Running):
             return failed(f"can't be started: {self.failure}")
         if self.stopped is not None:
             return self.why
+        if self.job.limits.is_passed_by(self.used.output):
+            return too_much(self.job)
         if self.status == 0:
             return OK
         if self.elsewhere and (end := self.elsewhere.end()):
@@ -322,6 +363,11 @@ class Command(Running):
 
 # Those that commands run in.
 FOLDERS = Folders()
+
+
+def too_much(job: Job) -> End:
+    """The end of a try that prints more than it may."""
+    return failed(f"output over {job.limits.output_text}")
 
 
 def from_here(folder: str) -> str:

@@ -21,12 +21,14 @@ from __future__ import annotations
 
 import collections
 import datetime
+import functools
 from collections.abc import Callable, Iterable
 from dataclasses import dataclass, field
 from typing import TypeVar
 
 from . import Mistake, Name
 from .days import Days
+from .limits import Limits
 from .lines import Mistakes
 from .ordering import Node, in_order
 from .parsing import Parsed
@@ -72,6 +74,7 @@ class Job:
     user: User | None  # as whom root runs it; None if it is the user of the night
     owner: str | None  # who gets a mail if it doesn't end well
     days: Days | None  # of the nights in which it is due; None if it is due in each
+    limits: Limits  # what it may take of the machine
 
     @property
     def name(self) -> Name:
@@ -167,6 +170,10 @@ class Jobs:
             if found:
                 self.mistakes.add(found[0], f"{group} has `via`, whose words run its commands, and"
                                             f" `{what}`")
+        limited = [it.at for it in (its, *self.of_commands(group)) if it.limits.is_of_processes]
+        if limited:
+            self.mistakes.add(limited[0], f"{group} has `via`, so its commands run elsewhere, where"
+                                          " nice, ionice, memory and cpu limit nothing")
 
     def of_commands(self, group: str) -> list[Settings]:
         """The settings of single commands of a group."""
@@ -194,7 +201,8 @@ class Jobs:
             () if group.way.via else (
                 first(every, lambda it: it if it.shell else None) or Settings()).shell,
             None if group.way.via else first(every, lambda it: it.user),
-            first(every, lambda it: it.owner), first(every, lambda it: it.days))
+            first(every, lambda it: it.owner), first(every, lambda it: it.days),
+            functools.reduce(Limits.over, (it.limits for it in every)))
 
     def uses(self, every: list[Settings]) -> tuple[tuple[str, int], ...]:
         """How much a command has of each pool while it runs."""

@@ -151,10 +151,10 @@ class Leftover(Running):
         return self.contents.ended is not None or bool(self.elsewhere and self.elsewhere.end())
 
 
-    def adopted(self, job: Job, output: str) -> Command:
+    def adopted(self, tries: Tries, job: Job, output: str) -> Command:
         """A command of this driver that has ended as this one did."""
         made = Command(job, self.it.group, self.it.number, -1, "")
-        made.adopt(self.contents, self.elsewhere, output)
+        made.adopt(tries, self.contents, self.elsewhere, output)
         made.record, made.stopped, made.why = self.record, self.stopped, self.why
         return made
 

@@ -1,12 +1,13 @@
 """STORE.log: a line for each task that has ended, written once the store has recorded its end.
 
-    Try  Group  Key  Began  Seconds  End  Command
+    Try  Group  Key  Began  Seconds  End  Command  CPU  Memory  Output  Limits
 
 Tabs separate the fields, as in a job log of GNU parallel. Try is the number of the try of this key
 in its group, from 0, as in the name of its output. End is the text of an end (`ends`). Began and
 Seconds are - for a task whose line was lost with a driver, and for one that never began. Began is
 known of an interrupted one whose command lived on; a later try with the same Began is that very
-command. A line of another form is passed over.
+command. The last four fields are what it took (`used`), - where that isn't known; a line of an
+older driver ends with Command. A line of another form is passed over.
 """
 
 from __future__ import annotations
@@ -26,10 +27,12 @@ from .escapes import one_line
 from .files import Files
 from .rounds import round_of
 from .telling import note_once
+from .used import HEAD as FIGURES
+from .used import IN_LOG, Used, of_fields
 
-HEAD = "Try\tGroup\tKey\tBegan\tSeconds\tEnd\tCommand\n"
+HEAD = f"Try\tGroup\tKey\tBegan\tSeconds\tEnd\tCommand\t{FIGURES}\n"
 LINE = re.compile(r"([0-9]{1,6})\t([a-z0-9_-]{1,32})\t([a-z0-9_-]{1,32})\t([^\t]*)\t([^\t]*)"
-                  r"\t([^\t]*)\t(.*)")
+                  rf"\t([^\t]*)\t(.*?)(?:\t{IN_LOG})?")
 
 # The log is read from its end in blocks of this many bytes. A longer line is none of its own.
 BLOCK, MOST_LINE = 1 << 16, 1 << 20
@@ -50,6 +53,7 @@ class Line:
     seconds: str
     end: End
     command: str
+    used: Used = Used()
 
     @property
     def is_exact(self) -> bool:
@@ -80,9 +84,8 @@ def read_log(files: Files, groups: Collection[str]) -> dict[Tried, Line]:
         file = files.open(Part.LOG)
         try:
             for line in lines_of(file, groups):
-                if it := LINE.fullmatch(line.decode("utf-8", "surrogateescape")):
-                    tried = it[2], it[3], int(it[1])
-                    found.append((tried, Line(it[4], it[5], read_end(it[6]), it[7])))
+                if it := read_line(line):
+                    found.append(it)
         finally:
             os.close(file)
     except FileNotFoundError:
@@ -93,6 +96,15 @@ def read_log(files: Files, groups: Collection[str]) -> dict[Tried, Line]:
     for tried, read in reversed(found):
         made.setdefault(tried, read)
     return made
+
+
+def read_line(line: bytes) -> tuple[Tried, Line] | None:
+    """A line as it is read; None where it has another form."""
+    it = LINE.fullmatch(line.decode("utf-8", "surrogateescape"))
+    if it is None:
+        return None
+    used = of_fields(it[8], it[9], it[10], it[11]) if it[8] else Used()
+    return (it[2], it[3], int(it[1])), Line(it[4], it[5], read_end(it[6]), it[7], used)
 
 
 def lines_of(file: int, groups: Collection[str]) -> Iterator[bytes]:
@@ -234,7 +246,7 @@ class Log:
                 self.lines[tried] = line
                 group, key, number = tried
                 made.append("\t".join([str(number), group, key, line.began, line.seconds,
-                                       line.end.text, line.command]) + "\n")
+                                       line.end.text, line.command, line.used.fields]) + "\n")
         self.write("".join(made))
 
 
@@ -244,6 +256,7 @@ def moment(when: float) -> str:
     return time.strftime(f"%Y-%m-%dT%H:%M:%S.{part:03}%z", time.localtime(whole))
 
 
-def line_of(began: float | None, took: float | None, end: End, command: str) -> Line:
+def line_of(began: float | None, took: float | None, end: End, command: str,
+            used: Used = Used()) -> Line:
     when = "-" if began is None else moment(began)
-    return Line(when, "-" if took is None else f"{took:.3f}", end, text_of_line(command))
+    return Line(when, "-" if took is None else f"{took:.3f}", end, text_of_line(command), used)

@@ -500,7 +500,7 @@ class Driver:
     def adopt(self, it: Leftover, job: Job, batch: Batch) -> None:
         """Takes the end of a try that an earlier driver began."""
         output = self.files.outputs.name(it.it.group, it.it.key, it.it.number)
-        command = self.commands[job.name] = it.adopted(job, output)
+        command = self.commands[job.name] = it.adopted(self.tries, job, output)
         command.began = it.began(self.log) or command.began
         self.facts.busy.add(job.name)
         self.add_start(batch, command)
@@ -561,6 +561,8 @@ class Driver:
         if any(it.is_lingering for it in self.commands.values()):
             seconds = LINGER
         if self.left:
+            seconds = min(seconds, 0.2)
+        if any(it.job.limits.output is not None for it in self.commands.values()):
             seconds = min(seconds, 0.2)
         now, its = time.time(), moments(self.book, self.facts)
         if self.later is not None:

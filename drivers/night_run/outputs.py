@@ -4,6 +4,7 @@ from __future__ import annotations
 
 import contextlib
 import os
+import stat
 from typing import TYPE_CHECKING
 
 from .beside import Part
@@ -35,6 +36,17 @@ class Outputs:
                 return folder.stat(output) is not None
         except OSError:
             return False
+
+    def size(self, output: str) -> int | None:
+        """How many bytes an output has; None where it isn't there, or isn't a regular file."""
+        if not output:
+            return None
+        try:
+            with contextlib.closing(self.files.below(Part.OUT)) as folder:
+                found = folder.stat(output)
+        except OSError:
+            return None
+        return found.st_size if found and stat.S_ISREG(found.st_mode) else None
 
     def open(self, output: str, flags: int = os.O_RDONLY) -> int:
         """A descriptor of an output. Where it is created, so is the folder if it is gone."""

@@ -40,11 +40,11 @@ class Recorder:
             began = it.began or None if it and is_own else self.left.began(tried, self.log)
             return line_of(began, None, end, text)
         if it and is_own and it.took is not None:
-            return line_of(it.began, it.took, end, it.text)
+            return line_of(it.began, it.took, end, it.text, it.used)
         return line_of(None, None, end, text)
 
     def ended(self, it: Command, end: End) -> None:
         """The end of a command is durable."""
         began = None if it.is_never or not it.began else it.began
         self.log.add(iter([((it.group, it.job.key, it.tried),
-                            line_of(began, it.took, end, it.text))]))
+                            line_of(began, it.took, end, it.text, it.used))]))

@@ -15,8 +15,10 @@ from .escapes import one_line, plain
 from .report_axis import Axis
 from .report_style import STYLE
 from .report_words import (by_group, clock, commands, counts, facts, in_words, kind_of, line_shown,
-                           moment, of_all, period, span, tries_in_words, verdict, why_done)
+                           moment, of_all, period, span, tries_in_words, used_in_words, verdict,
+                           why_done)
 from .rows import Group, Report, Row, Try
+from .used import in_words as used
 
 SIGNS = {"good": "\u2713", "bad": "\u2717", "open": "\u25d1", "busy": "\u25b6"}
 # What didn't end well, besides failures.
@@ -87,6 +89,8 @@ def failure(row: Row) -> Html:
     parts = [tag("div", tag("h3", f"{row.group} {row.key}"), tag("b", row.end, class_="why"),
                  tag("span", tries_in_words(row), class_="soft"), class_="head"),
              tag("p", tag("code", f"$ {line_shown(one_line(row.command))}"))]
+    if figures := used_in_words(row):
+        parts.append(tag("p", figures, class_="soft"))
     if row.tail:
         parts.append(tag("pre", Html("\n".join(inside(line_shown(it)) for it in row.tail))))
     if row.output:
@@ -169,7 +173,8 @@ def tried(it: Try, now: float, axis: Axis) -> Iterator[Html]:
         return
     took = now - it.began if it.took is None else it.took
     left, right = axis.at(it.began), axis.at(it.began + took)
-    title = f"try {it.number}: {clock(it.began)}, {span(took)}, {it.end or 'running'}"
+    title = ", ".join([f"try {it.number}: {clock(it.began)}", span(took), it.end or "running",
+                       *used(it.used)])
     yield tag("span", class_=phase_class(kind_of(it)), title=title,
               style=f"left:{left:.2f}%;width:{right - left:.2f}%")
 

@@ -11,6 +11,7 @@ from collections.abc import Iterator
 from .escapes import escaped
 from .report_words import by_group, counts, end_of, last_end
 from .rows import PHASES, SELDOM, WELL, Report, Row, Try
+from .used import Used
 
 Labels = dict[str, str]
 Sample = tuple[Labels, float]
@@ -44,6 +45,18 @@ def prom(report: Report) -> str:
          [it for labels, row in commands for it in known(labels, duration(row))]),
         ("command_last_success_timestamp_seconds", "When the command ended ok in this night.",
          [it for labels, row in commands for it in known(labels, success_of(row))]),
+        ("command_cpu_seconds", "Processor seconds of the command's last ended try.",
+         [it for labels, row in commands for it in known(labels, last_used(row).cpu)]),
+        ("command_memory_bytes", "Memory that the largest process of that try had at most.",
+         [it for labels, row in commands for it in known(labels, last_used(row).memory)]),
+        ("command_output_bytes", "Bytes that this try printed.",
+         [it for labels, row in commands for it in known(labels, last_used(row).output)]),
+        ("seconds", "Seconds that all ended tries of the command took in this night.",
+         [it for labels, row in commands for it in known(labels, in_all(row))]),
+        ("median_seconds",
+         "The median of that in the last nights before this one in which the command was ok.",
+         [it for labels, row in commands
+          for it in known(labels, report.usual.get((row.group, row.key)))]),
     )
     return "".join(family(f"night_run_{name}", text, samples)
                    for name, text, samples in families if samples)
@@ -84,6 +97,16 @@ def success_of(row: Row) -> float | None:
 def duration(row: Row) -> float | None:
     ended: list[Try] = [it for it in row.tries if it.took is not None]
     return ended[-1].took if ended else None
+
+
+def last_used(row: Row) -> Used:
+    """What the last try that has ended took."""
+    return next((it.used for it in reversed(row.tries) if it.end), Used())
+
+
+def in_all(row: Row) -> float | None:
+    its = [it.took for it in row.tries if it.took is not None]
+    return sum(its) if its else None
 
 
 def family(name: str, text: str, samples: list[Sample]) -> str:

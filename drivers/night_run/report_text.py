@@ -11,7 +11,7 @@ from collections.abc import Iterator
 
 from .escapes import one_line, plain
 from .report_words import (by_group, counts, facts, in_words, line_shown, of_all, period,
-                           tries_in_words, verdict, why_done)
+                           tries_in_words, used_in_words, verdict, why_done)
 from .rows import Report, Row
 
 COLUMNS = 72
@@ -57,6 +57,8 @@ def failure(row: Row) -> Iterator[str]:
     """A failure: its end, its tries, its command, its last lines, and the path of all of them."""
     yield from wrapped(f"{named(row)} ({tries_in_words(row)})")
     yield from wrapped(line_shown(one_line(row.command)), "  $ ", "    ")
+    if figures := used_in_words(row):
+        yield from wrapped(figures, "  ", "  ")
     for it in row.tail:
         yield from wrapped(line_shown(it).expandtabs(), "  | ", "  | ")
     if row.output:

@@ -13,6 +13,7 @@ from collections.abc import Iterable
 from .ends import read_end
 from .escapes import plain
 from .rows import OF_ALL, PHASES, WELL, Group, Report, Row, Try
+from .used import in_words as used
 
 # A line of somebody else's that is longer is cut.
 MOST_SHOWN = 400
@@ -122,6 +123,11 @@ def tries_in_words(row: Row) -> str:
         return f"{found} a time that isn't known"
     took = "" if last.took is None else f" for {span(last.took)}"
     return f"{found} {clock(last.began)}{took}"
+
+
+def used_in_words(row: Row) -> str:
+    """What the last try of a command took, as far as it is known."""
+    return ", ".join(used(row.tries[-1].used)) if row.tries else ""
 
 
 def moment(when: float) -> str:

@@ -7,7 +7,10 @@ a command or its output may have any character.
 
 from __future__ import annotations
 
-from dataclasses import dataclass
+from collections.abc import Mapping
+from dataclasses import dataclass, field
+
+from .used import Used
 
 # How a command stands, in the order in which a report shows it. `waiting` has yet to be started,
 # `not started` never will be, and `interrupted` was cut off and runs again in the next run. What is
@@ -30,6 +33,7 @@ class Try:
     began: float | None
     took: float | None
     end: str  # as in the log: `ok`, `interrupted` or an error's text; "" while it runs
+    used: Used = Used()  # what it took, as far as the log says it
 
 
 @dataclass(frozen=True)
@@ -72,3 +76,5 @@ class Report:
     opened: float | None = None
     last_before: float | None = None
     last_well: float | None = None
+    # The seconds that commands took in the nights before, as far as they were read.
+    usual: Mapping[tuple[str, str], float] = field(default_factory=dict)

@@ -30,6 +30,8 @@
     ask WORDS..             (a group) the program that reports how a try ended; the same
     stop WORDS..            (a group) the program that asks for the end of a try; the same
     shell WORDS..           the program that runs the command, by -c, not /bin/sh; the same
+    nice N, ionice CLASS [N], memory 2G, cpu 200%, output 100M
+                            what it may take of the machine (`limits`)
 
 SETTINGS has a row for each. To add one: a field of Settings, a function that reads it, and a row.
 """
@@ -45,6 +47,7 @@ from dataclasses import dataclass, field, replace
 
 from .days import BEGINS, OF_WEEK, Days, read_days
 from .envfiles import VARIABLE, variables_of
+from .limits import FORMS, READ, Limits
 from .reading import TIME, At, Missing, Words, Wrong, seconds_of, short
 from .users import User, user_of
 
@@ -131,6 +134,7 @@ class Settings:
     secrets: dict[str, str] = field(default_factory=dict, repr=False)  # of files of variables
     user: User | None = None
     owner: str | None = None
+    limits: Limits = Limits()
 
 
 class Of(enum.Flag):
@@ -328,6 +332,14 @@ def read_on(words: Words, its: Settings) -> None:
     its.days = read_days(words)
 
 
+def limit(word: str, shown: str) -> Setting:
+    """A setting of what a command may take."""
+    def read(words: Words, its: Settings) -> None:
+        its.limits = READ[word](words, its.limits)
+
+    return Setting(word, shown, read, EACH, follows=FORMS[word])
+
+
 # In the order in which a mistake lists them. (`stop` stands there twice.)
 SETTINGS = (
     Setting("limit", "limit N", read_limit, Of.GROUP, looks=re.compile("[0-9]+")),
@@ -351,6 +363,8 @@ SETTINGS = (
     Setting("on", "on DAY..", read_on, EACH, looks=OF_WEEK, follows=BEGINS),
     Setting("user", "user NAME", read_user, EACH, follows=re.compile(r"\S")),
     Setting("owner", "owner ADDRESS", read_owner, EACH, follows=re.compile(r"\S")),
+    limit("nice", "nice N"), limit("ionice", "ionice CLASS [N]"), limit("memory", "memory 2G"),
+    limit("cpu", "cpu 200%"), limit("output", "output 100M"),
 )
 BY_WORD = {it.word: it for it in SETTINGS}
 ALL = f"settings are {', '.join(it.shown for it in SETTINGS)}"

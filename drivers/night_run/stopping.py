@@ -4,7 +4,7 @@ the driver to stop. Each is asked once, and killed after a grace.
 
 from __future__ import annotations
 
-from .commands import Command, Running
+from .commands import Command, Running, too_much
 from .ends import End, canceled, failed
 from .leftovers import Leftover
 from .tries import Tries
@@ -29,13 +29,21 @@ class Stopper:
             return
         if it.is_overdue():
             self.stop(it, failed(f"timeout {it.job.timeout_text}"))
+        elif it.stopped is None and it.job.limits.is_passed_by(self.printed(it.output)):
+            self.stop(it, too_much(it.job))
         self.press_one(it, cause, cuts_off)
+
+    def printed(self, output: str) -> int | None:
+        return self.tries.files.outputs.size(output)
 
     def press_left(self, it: Leftover, end: End | None, cause: str | None, cuts_off: bool) -> None:
         """Ends what an earlier driver left, if it has to; `end` is how its command has ended in
         this night."""
         if it.is_overdue() and it.job:
             self.stop(it, failed(f"timeout {it.job.timeout_text}"))
+        elif it.job and it.stopped is None and it.is_here \
+                and it.job.limits.is_passed_by(self.printed(it.it.file)):
+            self.stop(it, too_much(it.job))
         elif it.has_orphans():
             it.clear(self.grace)
         elif end and end.is_canceled:

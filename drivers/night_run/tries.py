@@ -8,6 +8,7 @@ writes the others (`commands`):
 
     process BOOT PID START          the shell, just before its command begins
     ended STATUS SECONDS .          how the command ended, and how many seconds after the boot
+    used CPU MEMORY OUTPUT LIMITS . what it took (`used`), if that was asked for
 
 Then comes the command, as the file of commands had it. Everything that is written later has its
 place from the first moment on, as empty lines, so a full disk can't prevent it. A command without a
@@ -34,6 +35,7 @@ from .lock import try_lock
 from .processes import PID, START, Process, age, lives, this_process
 from .rounds import base_of
 from .telling import error_text, note_once
+from .used import Used, of_line
 
 # How many bytes the lines of the driver and of the shell have.
 HALF = 512
@@ -74,6 +76,7 @@ class Ended:
     status: int
     at: float  # in seconds since 1970
     took: float | None
+    used: Used | None = None
 
 
 @dataclass(frozen=True)
@@ -128,13 +131,15 @@ def ended_by(process: Process, lines: list[str], changed: float) -> Ended | None
     """How a command ended. A status above 128 is that of a signal if its shell has printed so
     before, in its own words; otherwise the command ended with it. (Of SIGINT and SIGPIPE the shell
     prints nothing.)"""
+    used = of_line(lines[-1]) if lines else None
+    lines = lines[:-1] if used else lines
     found = ENDED.fullmatch(lines[-1]) if lines else None
     if not found:
         return None
     status = int(found[1])
     began = process.start / os.sysconf("SC_CLK_TCK")
     took = max(0.0, float(found[2]) - began) if found[2] and process.start else None
-    return Ended(128 - status if lines[1:] and status > 128 else status, changed, took)
+    return Ended(128 - status if lines[1:] and status > 128 else status, changed, took, used)
 
 
 # --- the files

@@ -140,12 +140,13 @@ def tries_of(view: View) -> dict[Name, list[tuple[str, rows.Try]]]:
     for tried, line in view.lines.items():
         if tried[0] in gone or tried[0] in ours:
             seen.add(tried)
-            add_try(found, tried, line.began_at(), line.took(), line.end.text)
+            add_try(found, tried, rows.Try(tried[2], line.began_at(), line.took(),
+                                           line.end.text, line.used))
     for task, tried in numbered(view.state):
         if task.group in ours and not task.is_withdrawn and tried not in seen:
             is_running = task.phase == "running" and task.name in view.facts.busy
             end = "" if is_running else (task.end or INTERRUPTED).text
-            add_try(found, tried, view.running.get(Named(*tried)), None, end)
+            add_try(found, tried, rows.Try(tried[2], view.running.get(Named(*tried)), None, end))
     return {name: as_one(its, name in view.facts.busy) for name, its in found.items()}
 
 
@@ -166,10 +167,9 @@ def as_one(its: list[tuple[str, rows.Try]], is_busy: bool) -> list[tuple[str, ro
     return made[::-1]
 
 
-def add_try(found: dict[Name, list[tuple[str, rows.Try]]], tried: Tried, began: float | None,
-            took: float | None, end: str) -> None:
-    group, key, number = tried
-    found.setdefault((base_of(group), key), []).append((group, rows.Try(number, began, took, end)))
+def add_try(found: dict[Name, list[tuple[str, rows.Try]]], tried: Tried, it: rows.Try) -> None:
+    group, key, _ = tried
+    found.setdefault((base_of(group), key), []).append((group, it))
 
 
 def groups(jobs: Jobs, view: View) -> tuple[rows.Group, ...]:

@@ -102,6 +102,10 @@ Settings, one or more in a line:
   on mon..fri, on 1 last    start only in nights of these days, of the week or of the month. A
                             night has the day on which it began
   background keep           don't end the processes that a command leaves in the background
+  nice N, ionice CLASS [N]  let other programs go first, as the programs of these names do; CLASS is
+                            idle, best-effort or realtime
+  memory 2G, cpu 200%       limits: by a scope of systemd, or else for each process
+  output 100M               stop a try that prints more; it counts as failed
   via WORDS..               (a group) run WORDS with the command as one more argument, for example
                             to run it on another machine; WORDS takes the rest of the line
   ask WORDS.., stop WORDS.. (a group) learn how such a try ended, and end it
@@ -110,7 +114,7 @@ Settings, one or more in a line:
 
 A command inherits the environment of night-run, and finds NIGHT_STORE, NIGHT_GROUP, NIGHT_KEY and
 NIGHT_TRY there. Its standard input is empty, and its output goes to STORE.out/GROUP.KEY.TRY.
-STORE.log lists each try: when it ran, for how long, and how it ended. Press Ctrl-C once to let the
+STORE.log lists each try: when it ran, for how long, how it ended, and what it used. Press Ctrl-C once to let the
 running commands finish, and twice to stop them. SIGTERM stops them at once.
 
 The exit status is 0 if every command is ok (or what you asked for was printed or done), 1 if one
@@ -129,7 +133,7 @@ more."""
 MOST_FILES = 4096
 # A clock of a store that is ahead by more seconds than this is not waited for.
 MOST_AHEAD = 60
-FORMS = ("html", "text", "prom")
+FORMS = ("html", "text", "prom", "history", "history-html", "history-json")
 
 
 # The commands that a night runs as it begins and ends.
@@ -165,7 +169,9 @@ def read_words(given: list[str]) -> argparse.Namespace:
               "                       [--failed | --again | --nightly | --resume]\n"
               "                       [--on-begin COMMAND] [--on-success COMMAND]\n"
               "                       [--on-failure COMMAND] [--mail COMMAND]\n"
-              "       night-run STORE JOBS --list [--json] | --report html|text|prom\n"
+              "       night-run STORE JOBS --list [--json]\n"
+              "       night-run STORE JOBS --report html|text|prom\n"
+              "       night-run STORE JOBS --report history|history-html|history-json\n"
               "       night-run STORE JOBS --dry-run [--failed | --again | --nightly]\n"
               "       night-run STORE [JOBS] --status [--watch | --json]\n"
               "       night-run STORE [JOBS] --tail GROUP/KEY | --output GROUP/KEY\n"
@@ -209,8 +215,10 @@ def read_words(given: list[str]) -> argparse.Namespace:
                       " Use it after a reboot")
     what.add_argument("--list", action="store_true",
                       help="print the commands that aren't ok, and change nothing")
-    what.add_argument("--report", choices=FORMS, metavar="html|text|prom",
-                      help="print the night as a web page, as text for a mail, or as metrics")
+    what.add_argument("--report", choices=FORMS, metavar="FORM",
+                      help="print the night as a web page (html), as text for a mail (text), or as"
+                      " metrics (prom); or print the last 30 nights of each command (history,"
+                      " history-html, history-json)")
     what.add_argument("--status", action="store_true",
                       help="print what runs, what failed, what waits and for what, and when the"
                       " night will end")
@@ -362,8 +370,7 @@ def shown(files: Files, planner: Planner, words: argparse.Namespace) -> list[str
     made = report(files, planner.jobs, view)
     if words.report:
         from . import report as forms
-        form = {"html": forms.html, "text": forms.text, "prom": forms.prom}[words.report]
-        return [form(made).rstrip("\n")]
+        return [forms.made(words.report, files, made).rstrip("\n")]
     if words.dry_run:
         return planned(planner, view, words.most, wish_of(words))
     if words.json:
