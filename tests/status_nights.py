@@ -22,7 +22,7 @@ WAITS = "until [ -e go ]; do sleep 0.05; done"
 FILE = ["night: pool tape 1", "g: limit 2", f"g a echo begun; {WAITS}",
         "g b printf 'no \\033[2J room\\n'; exit 3", f"g c {WAITS}", "g d true", "h: uses tape 1",
         f"h t {WAITS}", "h u true", "i x true", "i x: after g h/t", "i w true",
-        "i w: after failed h", "i y true", "i y: after ended g/a"]
+        "i w: after failed h", "i v true", "i v: after failed g", "i y true", "i y: after ended g/a"]
 # What a terminal is sent to draw a screen, and nothing else.
 DRAWS = re.compile("\x1b\\[(?:H|2J|K|J)")
 
@@ -69,7 +69,7 @@ def a_night(tries: Shared) -> None:
     tries.is_same(f"{kind}: what waits", room.path, {
         f"{one['group']}/{one['key']}": one["why"] for one in it["waiting"]}, {
         "g/d": "for the limit 2 of g", "h/u": "for 1 of the pool tape, of which 0 is free",
-        "i/w": "after a failure of h", "i/y": "after the end of g/a"})
+        "i/w": "after a failure of h", "i/v": "for a place (-j 3)", "i/y": "after the end of g/a"})
     tries.is_same(f"{kind}: its driver, -j and file", room.path,
                   (it["driver"], it["most"], it["path"]), (run.pid, 3, f"{room.path}/JOBS"))
     for one in it["running"]:
@@ -90,7 +90,7 @@ def a_night(tries: Shared) -> None:
     it = look(room)
     tries.is_same(f"{kind}: after it", room.path, (
         it["is_over"], it["driver"], it["running"], it["waiting"], it["counts"]), (
-        True, None, [], [], {"ok": 6, "failed": 1, "not started": 1, "not needed": 1}))
+        True, None, [], [], {"ok": 7, "failed": 1, "not started": 1, "not needed": 1}))
     os.unlink(f"{room.path}/go")
     run = room.start("s", "JOBS", "-j", "3", "--again")
     room.until(lambda: room.text("s.out/g--2.a.0") and "exit 3" in room.text("s.log")
@@ -162,7 +162,7 @@ def killed(tries: Shared) -> None:
                   (names(it["running"]), it["is_over"]), (set(), False))
     room.run("s", "JOBS")
     tries.is_same("a killed night: it is finished", room.path, look(room)["counts"],
-                  {"ok": 6, "failed": 1, "not started": 1, "not needed": 1})
+                  {"ok": 7, "failed": 1, "not started": 1, "not needed": 1})
 
 
 def edited(tries: Shared) -> None:
@@ -286,10 +286,10 @@ def watched(tries: Shared) -> None:
     status, output = ended(room, run)
     tries.is_same("a watch: the night isn't disturbed", room.path,
                   (status, output.splitlines()[-1]),
-                  (1, "9 commands: 6 ok, 1 failed, 1 not started, 1 not needed; 7 run this time"))
+                  (1, "10 commands: 7 ok, 1 failed, 1 not started, 1 not needed; 8 run this time"))
     it = Terminal(room, "s", "--status", columns=200)
     it.end()
-    tries.holds("a status on a terminal", room.path, "9 of 9 ended" in it.text
+    tries.holds("a status on a terminal", room.path, "10 of 10 ended" in it.text
                 and "\x1b" not in it.text, it.text[-2000:])
 
 

@@ -97,6 +97,9 @@ FORECASTS: list[tuple[str, list[str], int, dict[str, str], dict[str, float], dic
      "10 g/a"),
     ("a warning after a failure", [f"{A} 10", f"{B} 100", "g b: after failed a"], 4,
      {"g/a": "failed"}, {}, {}, "100 g/b"),
+    ("a warning after one failure of a group", [f"{A} 10", f"{B} 50", "h w true 100",
+                                                "h w: after failed g"], 4,
+     {"g/a": "failed", "g/b": "running"}, {"g/b": 0}, {}, "100 h/w"),
     ("after the end of what failed", [f"{A} 10", f"{B} 100", "g b: after ended a"], 4,
      {"g/a": "failed"}, {}, {}, "100 g/b"),
     ("what was interrupted runs again", [f"{A} 10", f"{B} 20"], 1, {"g/a": "interrupted"}, {}, {},
@@ -448,6 +451,14 @@ def screens(tries: Shared) -> None:
                                ("waits", "tape/offsite")):
                 tries.holds(f"a screen: something that {kind} is shown", what,
                             not count or any(it.startswith(mark) for it in shown), shown)
+    for lines, wanted in (
+            (9, ["RUNNING: 1", "NOT WELL: 1", "WAITING: 1"]),
+            (12, ["RUNNING: 1", "", "NOT WELL", "www/mirror0  exit 1 in 3 tries", "  | last line 0",
+                  "WAITING: 1"]),
+            (14, ["", "RUNNING", "disks/host-0", "  for 1h00m, usually 50m00s, since 22:00:10,",
+                  "  process 4000", "  b.store.out/disks--12.host-0.0", "NOT WELL: 1",
+                  "WAITING: 1"])):
+        tries.is_same("a small screen", lines, screen(night(1), Size(44, lines))[6:], wanted)
     began = time.process_time()
     large = screen(night(8000), Size(80, 22))
     tries.is_same("a screen of 24,000 commands: what is left out", "", sum(

@@ -21,7 +21,7 @@ from .processes import Process, age, lives
 from .report_words import clock, end_of
 from .rounds import base_of
 from .standing import CANCELLED, FAILED, FINAL, INTERRUPTED, NEVER, RUNNING, WAITING, Standing
-from .status_forecast import OPEN, Forecast, Moment, Room, forecast, retry_due
+from .status_forecast import Forecast, Moment, Room, forecast, is_open, retry_due
 from .status_plan import Plan, known_alone, parsed_plan, plan_text
 from .status_times import Times, Usual, usual_times
 from .tries import NAME, Named, process_in
@@ -243,12 +243,7 @@ class Waits:
         return sorted(its, key=rank)
 
     def is_blocked(self, job: Job) -> bool:
-        return any(map(self.is_open, job.after))
-
-    def is_open(self, need: Need) -> bool:
-        """Whether something that a command comes after has yet to end."""
-        its = self.jobs.members[need.of] if isinstance(need.of, str) else [need.of]
-        return any(self.phases[it] in OPEN for it in its)
+        return any(is_open(self.jobs, self.phases, it) for it in job.after)
 
     def one(self, name: Name) -> Waiting:
         job, due = self.jobs.all[name], self.due(name)
@@ -262,7 +257,7 @@ class Waits:
         return retry_due(self.jobs.all[name], self.facts) if self.phases[name] == WAITING else None
 
     def reason(self, job: Job, due: float | None) -> str:
-        open_ones = [it for it in job.after if self.is_open(it)]
+        open_ones = [it for it in job.after if is_open(self.jobs, self.phases, it)]
         if open_ones:
             return f"after {', '.join(map(named, open_ones))}"
         if due is not None and due > self.now:

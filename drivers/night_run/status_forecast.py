@@ -19,7 +19,7 @@ from dataclasses import dataclass, field
 
 from . import Name
 from .facts import Facts
-from .jobs import Job, Jobs
+from .jobs import Job, Jobs, Need
 from .rows import NOT_DUE, NOT_NEEDED
 from .standing import FAILED, INTERRUPTED, NEVER, OK, RUNNING, WAITING
 from .status_times import Usual
@@ -73,6 +73,14 @@ def retry_due(job: Job, facts: Facts) -> float | None:
     most = MOST_WAIT if job.most_wait is None else job.most_wait
     growth: int = job.factor ** min(count - 1, MOST_GROWTH)
     return at + min(job.wait * growth, most)
+
+
+def is_open(jobs: Jobs, phases: Mapping[Name, str], need: Need) -> bool:
+    """Whether a command that comes after this still waits for it. One failure is enough of a
+    group."""
+    its = jobs.members[need.of] if isinstance(need.of, str) else [need.of]
+    has_failed = need.when == "failed" and any(phases[it] == FAILED for it in its)
+    return not has_failed and any(phases[it] in OPEN for it in its)
 
 
 # What comes next in a play: at this moment this happens to this command or group. Of one moment,
@@ -208,14 +216,7 @@ class Play:
 
     def expect(self, job: Job) -> None:
         """A command that hasn't begun waits for what it comes after."""
-        open_ones: set[Name | str] = set()
-        for it in job.after:
-            if isinstance(it.of, str):
-                is_open = self.members[it.of] > 0
-            else:
-                is_open = self.phases[it.of] in OPEN
-            if is_open:
-                open_ones.add(it.of)
+        open_ones = {it.of for it in job.after if is_open(self.jobs, self.phases, it)}
         self.count[job.name] = len(open_ones)
         for of in open_ones:
             self.wanted[of].append(job.name)

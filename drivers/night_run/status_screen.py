@@ -11,7 +11,7 @@ from __future__ import annotations
 import textwrap
 import time
 import unicodedata
-from collections.abc import Iterator, Sequence
+from collections.abc import Callable, Iterator, Sequence
 from dataclasses import dataclass
 
 from . import rows
@@ -51,7 +51,8 @@ class Block:
 class Section:
     """Commands of one kind: how many there are, and the first of them."""
 
-    head: str
+    title: str
+    columns: str  # the names of their columns, after the title
     count: int
     blocks: Sequence[Block]
 
@@ -64,15 +65,21 @@ class Shown:
     whole: int = 0
 
 
+# A way to show more of a section.
+More = Callable[[Shown, Section], Shown]
+
+
 def screen(it: Status, size: Size) -> list[str]:
     """The lines of a status."""
     head = [line for text in heads(it) for line in wrapped(text, size.columns)]
     most, width = size.lines or MOST_SHOWN, name_width(it, size.columns)
     sections = [it for it in (
-        Section(columns_head(width, size.columns), len(it.running),
+        Section("RUNNING", columns_head(width, size.columns), len(it.running),
                 [running_block(one, width, size) for one in it.running[:most]]),
-        Section("NOT WELL", len(it.unwell), [unwell_block(one, size) for one in it.unwell[:most]]),
-        Section("WAITING", len(it.waiting), waiting_blocks(it.waiting[:most], size))) if it.count]
+        Section("NOT WELL", "", len(it.unwell),
+                [unwell_block(one, size) for one in it.unwell[:most]]),
+        Section("WAITING", "", len(it.waiting), waiting_blocks(it.waiting[:most], size)))
+        if it.count]
     shown = head + fitted(sections, size, len(head))
     return shown if size.lines is None else shown[:size.lines]
 
@@ -80,24 +87,36 @@ def screen(it: Status, size: Size) -> list[str]:
 def fitted(sections: Sequence[Section], size: Size, above: int) -> list[str]:
     """As many commands of each kind as there is room for, taken in turn, and then their paths."""
     shown = [Shown()] * len(sections)
-    is_changed = True
-    while is_changed:
-        is_changed = False
-        for more in (one_more, one_path):
-            for at, section in enumerate(sections):
-                found = more(shown[at], section)
-                wanted = [found if at == other else it for other, it in enumerate(shown)]
-                if found != shown[at] and fits(sections, wanted, size, above):
-                    shown, is_changed = wanted, True
-            if is_changed:
-                break
+    while True:
+        more = grown(sections, shown, (first, one_more), size, above)
+        if more == shown:
+            more = grown(sections, shown, (one_path,), size, above)
+        if more == shown:
+            break
+        shown = more
     return [line for section, it in zip(sections, shown) for line in lines_of(section, it)]
 
 
+def grown(sections: Sequence[Section], shown: Sequence[Shown], ways: Sequence[More], size: Size,
+          above: int) -> list[Shown]:
+    """More of each kind, by the first way for which there is room."""
+    found = list(shown)
+    for at, section in enumerate(sections):
+        for way in ways:
+            more = [*found[:at], way(found[at], section), *found[at + 1:]]
+            if more != found and fits(sections, more, size, above):
+                found = more
+                break
+    return found
+
+
+def first(it: Shown, _: Section) -> Shown:
+    """The first command, with its path."""
+    return it if it.count else Shown(1, 1)
+
+
 def one_more(it: Shown, section: Section) -> Shown:
-    """One command more; the first one has its path."""
-    count = min(it.count + 1, len(section.blocks))
-    return Shown(count, max(it.whole, 1))
+    return Shown(min(it.count + 1, len(section.blocks)), it.whole)
 
 
 def one_path(it: Shown, section: Section) -> Shown:
@@ -112,8 +131,11 @@ def fits(sections: Sequence[Section], shown: Sequence[Shown], size: Size, above:
 
 
 def lines_of(section: Section, it: Shown) -> Iterator[str]:
+    if not it.count:
+        yield f"{section.title}: {section.count}"
+        return
     yield ""
-    yield section.head
+    yield f"{section.title}{section.columns}"
     for at, block in enumerate(section.blocks[:it.count]):
         yield from block.short
         if at < it.whole:
@@ -201,10 +223,11 @@ def day(when: float, now: float) -> str:
 # --- commands
 
 def columns_head(width: int, columns: int) -> str:
+    """The names of the columns of what runs."""
     if columns < NARROW:
-        return "RUNNING"
+        return ""
     names = ("for", "usually", "since", "process")
-    return "RUNNING".ljust(width) + "".join(
+    return " " * (width - len("RUNNING")) + "".join(
         name.rjust(width) for name, width in zip(names, WIDTHS))
 
 
