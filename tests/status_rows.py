@@ -66,7 +66,8 @@ FORECASTS: list[tuple[str, list[str], int, dict[str, str], dict[str, float], dic
     ("a priority", [f"{A} 20", f"{B} 20", f"{C} 10", f"{D} 30", "g c: priority 1",
                     "g d: after c"], 2, {}, {}, {}, "50 g/d"),
     ("a group's priority comes first", [f"{A} 10", "g a: priority 9", "h b true 10",
-                                        "h: priority 1", "h c true 50", "h c: after b"], 1, {}, {}, {}, "70 g/a"),
+                                        "h: priority 1", "h c true 50", "h c: after b"], 1, {}, {},
+     {}, "70 g/a"),
     ("what is ok is over", [f"{A} 100", f"{B} 20", "g b: after a"], 1, {"g/a": "ok"}, {}, {},
      "20 g/b"),
     ("what runs already", [f"{A} 100", f"{B} 20"], 1, {"g/a": "running"}, {"g/a": 30}, {},
@@ -259,7 +260,8 @@ def log_of(night: int, *rows: str) -> str:
     """The log of a night, by rows of KEY SECONDS END."""
     group = "g" if night == 1 else f"g--{night}"
     began = "2026-11-26T22:00:00.000+0000"
-    return HEAD + "".join(f"0\t{group}\t{key}\t{began}\t{seconds}\t{end}\ttrue\n" for key, seconds, end in (it.split(" ", 2) for it in rows))
+    return HEAD + "".join(f"0\t{group}\t{key}\t{began}\t{seconds}\t{end}\ttrue\n"
+                          for key, seconds, end in (it.split(" ", 2) for it in rows))
 
 
 def usual(tries: Shared) -> None:
@@ -354,7 +356,9 @@ def plans(tries: Shared) -> None:
                       (list(found.jobs.all), found.jobs.pools), (list(jobs.all), jobs.pools))
     for text in ("", "# night-run\n", "g a true\n", "# night-run -j 4 x\n",
                  "# night-run -j 0 x\ng a b",
-                 "# night-run -j 4 x\ng a true\ng: no such setting\n", "\0\xff"):
+                 "# night-run -j 4 x\ng a true\ng: no such setting\n", "\0\xff",
+                 "# night-run -j 4 x\neach h: command touch ran; echo a\ng {h} true\n",
+                 "# night-run -j 4 x\ng a true\ninclude /etc/hostname\n"):
         tries.is_same("a plan that is none", repr(text), parsed_plan(Files("s"), text), None)
 
 

@@ -25,6 +25,9 @@ from .tries import Tries
 
 PLAN = "plan"
 MOST_MINUTES = 999_999
+# What no plan has: it is read without a command, and without another file.
+LOOKS_ELSEWHERE = re.compile(r"^[ \t]*(?:each[ \t]+\S+:[ \t]+(?:command|file)\b|"
+                             r"include[ \t]+\S+[ \t]*$)", re.M)
 HEAD = re.compile(r"# night-run -j ([1-9][0-9]{0,3}) (.*)")
 
 
@@ -62,8 +65,8 @@ def plan_text(files: Files) -> str:
 
 
 def parsed_plan(files: Files, text: str) -> Plan | None:
-    """The plan with this text; None if it is none."""
-    head = HEAD.match(text)
+    """The plan with this text; None if it is none. No command of it is run."""
+    head = HEAD.match(text) if not LOOKS_ELSEWHERE.search(text) else None
     with contextlib.suppress(Mistake):
         return Plan(Jobs(f"{files.shown_of(Part.TRIES)}/{PLAN}", text.split("\n")),
                     int(head[1]), head[2]) if head else None
