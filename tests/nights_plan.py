@@ -405,6 +405,14 @@ def stopping() -> Plan:
     return plan
 
 
+def due() -> Plan:
+    """Commands that are due on another day, and one that comes after them."""
+    plan = brief("due", 3, alike(8, 20) + [Command("b", "b000", 20, after=("a/a000", "a/a003"))],
+                 "driver")
+    plan.not_due, plan.is_listed = frozenset(("a000", "a003")), True
+    return plan
+
+
 BRIEF: dict[str, Callable[[], Plan]] = {it.__name__: it for it in (
     acks, places, limits, late, alive, zero, termed, failing, twice, background, spoilt, looked,
-    chained, stopping)}
+    chained, stopping, due)}
