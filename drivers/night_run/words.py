@@ -65,7 +65,8 @@ FILE = """Each line of JOBS is one of
   night: SETTING..          settings of all groups: until 05:30, within 8h, pool tape 2, and
                             what holds for each command unless it says otherwise: retries 1,
                             timeout 1h, in /srv, env A=B, uses tape 1, on mon..fri,
-                            user www, owner anna@example.org, background keep, shell bash
+                            user www, owner anna@example.org, background keep, nice 10,
+                            ionice idle, memory 2G, cpu 200%, output 100M, shell bash
   each NAME: A B..          a list: a line with {NAME} in its group or key stands for one line for
                             each value. The values may also be `file FILE` or `command COMMAND`
   include FILE              the lines of another file
