@@ -9,6 +9,9 @@
     night      the program `night`                 opening     a session, made ready for the loop
     commands   processes: begun, stopped, reaped   leftovers   those of a driver that was killed
     far        commands that run elsewhere         outputs     what the commands print
+    wants      what an operator wants of a night besides the file of commands: petitions are
+               requests for that, and wanting asks; changes says what comes of it, tonight keeps
+               it, and taking has a driver do it
     cancels    what another terminal asks for      renewal     of a store that is nearly full
     files      what lies beside the store          past, log   two of these files
     views      rows for a list and a report        summary     what is printed at the end

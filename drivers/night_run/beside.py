@@ -67,6 +67,7 @@ class Part(Enum):
     CANCEL = ".cancel"
     ENDED = ".ended"
     NIGHTS = ".nights"
+    TONIGHT = ".tonight"
     FAR = ".far"
     FAILED = ".failed"
     MAKING = ".making"

@@ -9,12 +9,13 @@ from collections.abc import Iterator, Mapping
 from dataclasses import dataclass, field
 
 from . import Name
-from .ends import End, Kind
+from .ends import End, Kind, canceled
 from .log import Line, Tried
 from .past import Past
 from .rounds import Round, base_of, named, round_of
 from .settings import OF_ALL
 from .state import ENDED, Scope, State, Task
+from .tonight import Tonight
 
 PASSED = "its deadline has passed"
 
@@ -31,6 +32,8 @@ class Facts:
     busy: set[Name] = field(default_factory=set)  # those that live, or whose end isn't recorded
     changed: set[Name] = field(default_factory=set)  # whose ends did since a planner got them
     day: datetime.date | None = None  # of the night; None if it makes no difference
+    tonight: Tonight = field(default_factory=Tonight)  # what is wanted of the night
+    anew: set[str] = field(default_factory=set)  # groups that were done, and begin anew
 
     def ended(self, name: Name, end: End, now: float) -> None:
         """Takes in the end of a command."""
@@ -50,6 +53,28 @@ class Facts:
         """The end of a command was taken in, and doesn't count."""
         self.ends.pop(name, None)
         self.changed.add(name)
+
+    def forget(self, name: Name) -> None:
+        """Nothing of a command counts any more: it runs again."""
+        self.ends.pop(name, None)
+        self.failures.pop(name, None)
+        self.failed_at.pop(name, None)
+        self.interrupted.discard(name)
+        self.changed.add(name)
+
+    def cancel_one(self, name: Name, cause: str, now: float) -> None:
+        """A command is canceled that never ran."""
+        self.ends[name], self.failed_at[name] = canceled(cause), now
+        self.changed.add(name)
+
+    def left_out(self, name: Name) -> str:
+        """By whom a command isn't to be begun any more; empty where it may be."""
+        return self.tonight.left_out(name)
+
+    def is_left_out(self, name: Name) -> bool:
+        """Whether a command never ran to an end, because it is left out."""
+        by, end = self.left_out(name), self.ends.get(name)
+        return bool(by) and (end is None or end == canceled(by))
 
     def is_ok(self, name: Name) -> bool:
         return name in self.ends and self.ends[name].is_ok
@@ -77,6 +102,7 @@ class Book:
     last: dict[Name, Task] = field(default_factory=dict)
     day: datetime.date | None = None  # on which the night began, as far as it is known
     retried: set[int] = field(default_factory=set)
+    tonight: Tonight = field(default_factory=Tonight)  # what is wanted of the night
 
     def set_deadline(self, base: str, scope: Scope, own: str | None, of_all: str | None) -> None:
         """Keeps which deadline a group is stopped by: at one moment that of all groups together
@@ -86,9 +112,25 @@ class Book:
 
     def next_name(self, base: str) -> str:
         """A name for a new scope or group, which nothing had before."""
-        had = self.rounds.get(base)
-        made = self.rounds[base] = had.next() if had and had >= self.round else self.round
+        made = self.rounds[base] = self.next_round(base)
         return named(base, made)
+
+    def next_round(self, base: str) -> Round:
+        """The round of that name."""
+        had = self.rounds.get(base)
+        return had.next() if had and had >= self.round else self.round
+
+    def close_old(self) -> None:
+        """A command that is to run again has its new tries in another group of the store: no
+        group is open that is older."""
+        for its in (self.groups, self.free):
+            for base in [it for it, name in its.items() if self.is_old(it, name)]:
+                del its[base]
+
+    def is_old(self, base: str, name: str) -> bool:
+        """Whether a group of the store is older than what has to run again."""
+        since = [it.since for (group, _), it in self.tonight.redo.items() if group == base]
+        return bool(since) and round_of(name) < max(since)
 
 
 def groups_of(state: State, past: Past, night: int) -> set[str]:
@@ -131,6 +173,8 @@ def book_of(state: State, past: Past, night: int) -> Book:
     if past.night == night:
         book.gone = {base_of(it): cause for it, cause in past.done.items()
                      if base_of(it) not in book.scopes}
+    book.tonight = past.notes.of(night)
+    book.close_old()
     return book
 
 
@@ -157,20 +201,43 @@ def logged_groups(state: State, past: Past) -> set[str]:
 def facts_of(state: State, past: Past, lines: Mapping[Tried, Line], book: Book, now: float,
              forgiven: Mapping[Name, int]) -> Facts:
     """What a night has so far. Failures of a command that are forgiven don't count."""
-    facts = Facts(day=book.day)
+    facts = Facts(day=book.day, tonight=book.tonight)
     if past.night == book.night:
         read_past_ends(facts, past, lines, now)
     ours = state.groups_of(book.night)
     for task, tried in numbered(state):
-        if task.group in ours and not task.is_withdrawn:
+        if task.group in ours and not task.is_withdrawn and counts(facts, task.name, task.group):
             read_task(facts, task, lines.get(tried), now)
+    for name, cause in book.tonight.canceled.items():
+        if name not in facts.ends:
+            facts.cancel_one(name, cause, now)
     for name, count in forgiven.items():
         left = facts.failures.get(name, 0) - count
         facts.failures[name] = max(0, left)
         if left <= 0 and not facts.is_ok(name):
             facts.ends.pop(name, None)
     read_done(facts, book, max(state.clock, now))
+    facts.anew = groups_anew(book, facts)
+    for group in facts.anew:
+        del facts.done[group]
     return facts
+
+
+def groups_anew(book: Book, facts: Facts) -> set[str]:
+    """The groups that are done, and in which a command is to run again: they get another scope,
+    unless they have it already."""
+    found = set()
+    for (group, _), it in facts.tonight.redo.items():
+        scope = book.scopes.get(group)
+        if group in facts.done and (scope is None or round_of(scope.name) < it.since):
+            found.add(group)
+    return found
+
+
+def counts(facts: Facts, name: Name, group: str) -> bool:
+    """Whether an end in a group of the store counts: not if the command runs again since then."""
+    again = facts.tonight.redo.get(name)
+    return again is None or round_of(group) >= again.since
 
 
 def read_past_ends(facts: Facts, past: Past, lines: Mapping[Tried, Line], now: float) -> None:
@@ -180,11 +247,17 @@ def read_past_ends(facts: Facts, past: Past, lines: Mapping[Tried, Line], now: f
                                  if line.end.kind not in (Kind.OK, Kind.INTERRUPTED))
     for group, key, end in past.ends:
         name = base_of(group), key
+        if not counts(facts, name, group):
+            continue
         facts.ended(name, end, now)
         if not end.is_ok:
             facts.failures[name] = max(1, failed[group, key])
     # (also of one that was interrupted then, in another try)
-    facts.failures.update(past.failures)
+    last = dict(sorted(past.rounds(), key=lambda it: it[1]))
+    facts.failures.update({
+        name: count for name, count in past.failures.items()
+        if name not in facts.tonight.redo or name[0] in last
+        and last[name[0]] >= facts.tonight.redo[name].since})
 
 
 def read_task(facts: Facts, task: Task, line: Line | None, now: float) -> None:

@@ -11,6 +11,7 @@
     STORE.ended      how commands ended whose groups a renewal has given back (`past`)
     STORE.far        which commands may run elsewhere (`far`)
     STORE.nights     when the last nights began, and when one was well (`nights`)
+    STORE.tonight    what operators want of a night (`tonight`)
     STORE.log.N      the log of night N (`keeping`)
     STORE.failed     a sync of the store failed, or its `night` was killed in one; the next opening
                      mends it

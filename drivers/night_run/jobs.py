@@ -96,6 +96,7 @@ class Jobs:
     def __init__(self, path: str, lines: Iterable[str] | None = None) -> None:
         """Reads the file of this path; or these lines, which are called by the path."""
         self.path = path
+        self.limits: dict[str, int] = {}  # those that were set tonight
         self.mistakes = Mistakes(path)
         self.parsed = Parsed(path, self.mistakes, lines)
         self.groups, self.files = self.parsed.groups, self.parsed.files
@@ -118,7 +119,13 @@ class Jobs:
         self.mistakes.refuse()
 
     def limit(self, group: str) -> int | None:
-        return self.groups[group].limit
+        """How many commands of a group may run at a time."""
+        return self.limits.get(group, self.groups[group].limit)
+
+    def limit_in_store(self, group: str) -> int | None:
+        """The same as the store is to know it: it can't have another one while commands run, so
+        one that was set tonight isn't there."""
+        return None if group in self.limits else self.groups[group].limit
 
     def stops(self, group: str) -> bool:
         return self.groups[group].stops

@@ -66,6 +66,7 @@ from .state import ENDED, JOB, State
 from .standing import Standing
 from .status_line import Line
 from .stopping import Stopper
+from .taking import ScopesWanted, Taker
 from .telling import error_text, note, progress, tell, tell_once
 from .timing import Deadlines, cause_of, moments
 from .tries import Tries
@@ -87,9 +88,10 @@ class Driver:
         self.files, self.planner, self.jobs = files, planner, planner.jobs
         self.log, self.past, self.tries = log, past, tries
         self.left, self.most, self.grace = left, most, grace
-        self.canceler, self.far = Canceler(self), Far(files)
+        self.canceler, self.far, self.taker = Canceler(self), Far(files), Taker(self)
         self.night = 1
         self.begins_night = False
+        self.next_night = 0  # that this run begins after this one, if it does
         self.forgiven: dict[Name, int] = {}  # of each command failures that don't count
         self.anew: set[str] = set()  # done groups that get another scope
         self.commands: dict[Name, Command] = {}  # those that were begun, or are to be
@@ -123,7 +125,7 @@ class Driver:
                     if self.missing:
                         raise Fault(self.missing)
                     return
-                except SessionFull:
+                except (SessionFull, ScopesWanted):
                     with contextlib.suppress(NightEnded):
                         self.session.close()
                 except StoreFull:
@@ -187,6 +189,7 @@ class Driver:
         if Scopes(self, state).make():
             self.night, self.begins_night = self.book.night, False
             self.anew.clear()
+            self.taker.tidy()
         set_limits(self.session, self.book, self.jobs, list(self.book.groups))
         self.cancel_groups()
         self.rebind()
@@ -200,6 +203,8 @@ class Driver:
             mark = role_name(top.name, Role.ENDED)
             self.session.ask([f"derive {mark} {top.name} value ended {when}"], may=[4, *FULL])
         self.session.close()
+        if all(it.is_final for it in found.values()):
+            self.taker.close()
 
     def give_back(self) -> None:
         """Renews the store in the midst of a night. The commands run on meanwhile."""
@@ -223,6 +228,7 @@ class Driver:
                          if it.has_begun and not it.is_never}
         self.book = book_of(state, self.past, self.night + self.begins_night)
         know_day(self.files, self.book, self.jobs)
+        self.jobs.limits = self.book.tonight.limits
         last = self.book.last
         for name, command in list(self.commands.items()):
             if name in last and last[name].phase in ENDED and command.number == last[name].number:
@@ -233,6 +239,7 @@ class Driver:
             ours = set() if self.begins_night else groups_of(state, self.past, self.book.night)
             self.left.take_up(self.far, state, self.past, ours, self.inherited)
         self.facts.busy = self.left.names() | set(self.commands)
+        self.anew |= self.facts.anew
         top = self.book.top
         self.has_mark = bool(top and role_name(top.name, Role.ENDED) in state.by_name)
         self.has_looked = True
@@ -281,6 +288,7 @@ class Driver:
         self.add_ends(batch)
         self.look_for_leftovers(batch)
         asked = self.canceler.add(batch)
+        self.taker.take()
         self.add_clock(batch)
         begun = self.add_begins(batch)
         if batch.lines:
@@ -290,6 +298,7 @@ class Driver:
             self.begin(it)
         self.stop_those_due()
         self.look_at_room()
+        self.taker.look_for_scopes()
 
     def look_for_store(self) -> None:
         """Sees whether the store is in its place; what is open of it takes ends meanwhile."""
@@ -357,7 +366,7 @@ class Driver:
         if self.asked_to_end or self.is_full or self.missing:
             return []
         try:
-            found = self.planner.choose(self.facts, self.most, time.time(), self.commands)
+            found = self.planner.choose(self.facts, self.taker.most, time.time(), self.commands)
         except NotStarted as error:
             self.hold(error)
             return []
@@ -391,9 +400,9 @@ class Driver:
         """The lines that make a group of the store in a group's scope."""
         scope = self.book.scopes[base].name
         taken = self.book.limits
-        group = scope if scope not in taken and scope not in self.past.groups() else \
-            self.book.next_name(base)
-        limit = self.jobs.limit(base) if base in self.jobs.members else None
+        is_taken = scope in taken or scope in self.past.groups() or self.book.is_old(base, scope)
+        group = self.book.next_name(base) if is_taken else scope
+        limit = self.jobs.limit_in_store(base) if base in self.jobs.members else None
         self.book.groups[base], self.book.limits[group] = group, limit
         batch.add(f"bare {group} {scope}", self.submitted)
         if limit:
@@ -445,7 +454,7 @@ class Driver:
                 is_done = command.name[0] in self.facts.done and not command.job.cleans_up
                 if self.asked_to_end or self.missing or is_done:
                     self.drop(command)
-                elif retry:
+                elif retry and not self.taker.is_paused:
                     self.begin(command)
         self.press()
 
@@ -485,7 +494,7 @@ class Driver:
         another try begins."""
         for it in self.left.over():
             # (a limit may be less than what runs, where the file has another one now)
-            limit = self.jobs.limit(it.name[0]) if it.counts and it.job else None
+            limit = self.jobs.limit_in_store(it.name[0]) if it.counts and it.job else None
             if limit is not None and sum(name[0] == it.name[0] for name in self.commands) >= limit:
                 continue
             self.left.drop(it)

@@ -109,7 +109,7 @@ class Canceler:
     def free_group(self, batch: Batch, base: str) -> str:
         """A group of the store that is never at a limit; empty where the usual one has none."""
         book = self.driver.book
-        if not self.driver.jobs.limit(base):
+        if not self.driver.jobs.limit_in_store(base):
             return ""
         if base not in book.free:
             made = book.free[base] = book.next_name(base)

@@ -195,9 +195,9 @@ def set_limits(session: Session, book: Book, jobs: Jobs, bases: Iterable[str]) -
     lines = []
     for base in bases:
         group = book.groups.get(base)
-        if group and base in jobs.members and book.limits.get(group) != jobs.limit(base):
-            lines.append(f"limit {group} {jobs.limit(base) or 'none'}")
-            book.limits[group] = jobs.limit(base)
+        if group and base in jobs.members and book.limits.get(group) != jobs.limit_in_store(base):
+            lines.append(f"limit {group} {jobs.limit_in_store(base) or 'none'}")
+            book.limits[group] = jobs.limit_in_store(base)
     session.ask(lines, may=[LIMIT_WHILE_ACTIVE, WAITED])
 
 

@@ -26,6 +26,7 @@ from .beside import Part
 from .ends import End, read_end
 from .files import Files
 from .rounds import Round, base_of, round_of
+from .tonight import Notes, read_notes
 
 HEAD = re.compile(r"events ([0-9]{1,20})"
                   r"(?: night ([0-9]{1,9}) round ([0-9]{1,9}) lines ([0-9]{1,9}))?")
@@ -45,6 +46,7 @@ class Past:
     done: dict[str, str] = field(default_factory=dict)
     had: list[str] = field(default_factory=list)
     failures: dict[Name, int] = field(default_factory=dict)
+    notes: Notes = field(default_factory=Notes)  # what is wanted of nights, of a file of its own
 
     @property
     def is_of_a_store_made_anew(self) -> bool:
@@ -71,6 +73,13 @@ class Unreadable(Fault):
 
 
 def read_past(files: Files) -> Past:
+    """The contents of the file, beside what is wanted of nights."""
+    made = read_ended(files)
+    made.notes = read_notes(files)
+    return made
+
+
+def read_ended(files: Files) -> Past:
     """The contents of the file; Unreadable if a line has another form."""
     shown = files.shown_of(Part.ENDED)
     try:

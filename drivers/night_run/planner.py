@@ -43,9 +43,8 @@ class Planner:
         self.jobs, self.names = jobs, list(jobs.all)
         self.numbers = {name: at for at, name in enumerate(self.names)}
         self.groups = {group: at for at, group in enumerate(jobs.members)}
-        limited = [it for it in self.groups if jobs.limit(it) is not None]
-        self.pools = {group: at for at, group in enumerate(limited, 1)}
-        self.named = {pool: at for at, pool in enumerate(jobs.pools, 1 + len(limited))}
+        self.pools: dict[str, int] = {}  # of groups with a limit
+        self.named: dict[str, int] = {}
         self.asking: Asking | None = None
         self.meanwhile: Callable[[], float] = lambda: SECONDS
         self.offset: int | None = None  # from the machine's clock to the moments that are written
@@ -70,6 +69,15 @@ class Planner:
         self.busy: set[Name] = set()
         self.held: set[Name] = set()
         self.choice: Choice | None = None
+
+    def fit(self) -> None:
+        """Gives a pool to each group that has a limit now. A group whose limit was set amid the
+        night may have had none before: another process gets the plan then."""
+        limited = [it for it in self.groups if self.jobs.limit(it) is not None]
+        if self.asking and limited != list(self.pools):
+            self.close()
+        self.pools = {group: at for at, group in enumerate(limited, 1)}
+        self.named = {pool: at for at, pool in enumerate(self.jobs.pools, 1 + len(limited))}
 
     # --- questions
 
@@ -109,6 +117,7 @@ class Planner:
               held: set[Name]) -> Choice | dict[Name, str]:
         if not self.done <= facts.done.keys():
             self.close()
+        self.fit()
         if self.offset is None:
             self.offset = LONGEST - int((time.time() if now is None else now) * TICKS)
         if self.asking is None:
@@ -180,24 +189,30 @@ class Planner:
         has_failed = end is not None and self.has_failed(facts, job, end)
         if name in facts.busy and not (has_failed and way_of(self.jobs, job.group) != "go-on"):
             return f"busy {at}"
-        if end is None and name not in facts.busy and not job.is_due(facts.day):
+        if end is None and facts.is_left_out(name):
+            return f"cut {at}"
+        is_due = job.is_due(facts.day) or name in facts.tonight.redo
+        if end is None and name not in facts.busy and not is_due:
             return f"ok {at}"  # (what comes after it doesn't wait for it)
         if end is None:
             return f"interrupted {at}" if name in facts.interrupted else f"fresh {at}"
         if end.is_ok:
             return f"ok {at}"
-        if end.is_canceled and not self.jobs.stops(job.group):
+        if end.is_canceled and (not self.jobs.stops(job.group) or facts.is_left_out(name)):
             return f"cut {at}"
         if name in held and not has_failed and (job.cleans_up or job.group not in facts.done):
             return f"busy {at}"
         count = facts.failures.get(name, 0)
         moment = self.moment_of(name, facts.failed_at[name])
-        return f"failed {at} {moment} {job.retries + 1 if end.is_canceled else count}"
+        if end.is_canceled or has_failed:
+            count = job.retries + 1 if end.is_canceled else max(count, job.retries + 1)
+        return f"failed {at} {moment} {count}"
 
     def has_failed(self, facts: Facts, job: Job, end: End) -> bool:
-        """Whether a command has ended and isn't to be tried again. A group that stops on failure
-        takes a command that was canceled for one that failed."""
-        return end.is_canceled or not end.is_ok and facts.failures.get(job.name, 0) > job.retries
+        """Whether a command has ended and isn't to be tried again, also as it was left out since.
+        A group that stops on failure takes a command that was canceled for one that failed."""
+        return end.is_canceled or not end.is_ok and (
+            facts.failures.get(job.name, 0) > job.retries or bool(facts.left_out(job.name)))
 
     def room(self, facts: Facts, most: int) -> list[str]:
         """The lines for pools that have another size. What has its place though it isn't written

@@ -7,8 +7,10 @@ import datetime
 import enum
 import time
 from collections.abc import Mapping, Sequence
+from dataclasses import replace
 
 from . import Name
+from .changes import Night
 from .escapes import one_line
 from .facts import Facts, book_of, facts_of
 from .past import Past
@@ -18,7 +20,9 @@ from .rows import NOT_DUE
 from .standing import CANCELLED, FAILED, RUNNING, WAITING, Standing
 from .state import State
 from .summary import retry
+from .taking import Opening, anew
 from .views import View
+from .wants import Want, by_me
 
 # How many values of a list are shown.
 MOST_VALUES = 40
@@ -39,7 +43,8 @@ def is_left(state: State, past: Past) -> bool:
         return False
     night = max(state.night(), past.night)
     top = book_of(state, past, night).top
-    return top is None or role_name(top.name, Role.ENDED) not in state.by_name
+    return top is None or role_name(top.name, Role.ENDED) not in state.by_name \
+        or past.notes.of(night).is_open
 
 
 def forgiven(found: Mapping[Name, Standing], facts: Facts) -> dict[Name, int]:
@@ -48,10 +53,12 @@ def forgiven(found: Mapping[Name, Standing], facts: Facts) -> dict[Name, int]:
             if it.phase in (FAILED, CANCELLED)}
 
 
-def planned(planner: Planner, view: View, most: int, wish: Wish) -> list[str]:
+def planned(planner: Planner, view: View, most: int, wish: Wish, wanted: Opening,
+            own: tuple[Want, ...] = ()) -> list[str]:
     """What the file's lists came to, and what a run would do with each command. Those that it would
     begin at once come first."""
-    return [*map(list_line, planner.jobs.lists()), *commands(planner, view, most, wish)]
+    return [*map(list_line, planner.jobs.lists()),
+            *commands(planner, view, most, wish, wanted, own)]
 
 
 def list_line(it: tuple[str, Sequence[str]]) -> str:
@@ -62,21 +69,38 @@ def list_line(it: tuple[str, Sequence[str]]) -> str:
                                                                 else "")
 
 
-def commands(planner: Planner, view: View, most: int, wish: Wish) -> list[str]:
+def commands(planner: Planner, view: View, most: int, wish: Wish, wanted: Opening,
+             own: tuple[Want, ...]) -> list[str]:
     is_rest = wish is Wish.NIGHTLY and is_left(view.state, view.past)
+    is_first = not view.state.scopes[1:] and not view.past.round
+    if is_rest or is_first or wish in (Wish.REST, Wish.FAILED):
+        view = with_wants(planner, view, wanted, own)
     if wish is Wish.FAILED:
         return lines(planner, again(view), most)
-    if wish is Wish.REST or not view.state.scopes[1:] and not view.past.round:
+    if wish is Wish.REST or is_first:
         return lines(planner, view.facts, most)
     tonight = datetime.date.today() if planner.jobs.has_days else None
-    anew = Facts(busy=set(view.facts.busy), day=tonight)
-    if not is_rest:
-        return lines(planner, anew, most)
     night = view.book.night
+    wanted.take(night + 1, anew(planner.jobs, night + 1), own, by_me())
+    facts = Facts(busy=set(view.facts.busy), day=tonight, tonight=wanted.notes.of(night + 1))
+    if not is_rest:
+        return lines(planner, facts, most)
     return [f"night {night}, the rest of it:", *lines(planner, view.facts, most),
-            f"night {night + 1}:", *(line(name, it) if it.phase == NOT_DUE else
-                                     f"later {' '.join(name)}"
-                                     for name, it in planner.standings(anew).items())]
+            f"night {night + 1}:",
+            *(line(name, it) for name, it in planner.standings(facts).items())]
+
+
+def with_wants(planner: Planner, view: View, wanted: Opening, own: tuple[Want, ...]) -> View:
+    """A night as what is wanted of it makes it."""
+    top = view.book.top
+    has_ended = bool(top and role_name(top.name, Role.ENDED) in view.state.by_name)
+    wanted.take(view.book.night, Night(planner.jobs, view.book, view.facts, view.standings,
+                                       has_ended), own, by_me())
+    view.past.notes = wanted.notes
+    book = replace(book_of(view.state, view.past, view.book.night), day=view.book.day)
+    facts = facts_of(view.state, view.past, view.lines, book, time.time(), {})
+    facts.busy = set(view.facts.busy)
+    return replace(view, book=book, facts=facts, standings=planner.standings(facts))
 
 
 def again(view: View) -> Facts:
@@ -90,8 +114,10 @@ def again(view: View) -> Facts:
 
 
 def lines(planner: Planner, facts: Facts, most: int) -> list[str]:
+    its = facts.tonight
+    planner.jobs.limits = its.limits
     found = planner.standings(facts)
-    at_once = planner.choose(facts, most, time.time())
+    at_once = planner.choose(facts, 0 if its.paused else its.most or most, time.time())
     made = [f"begin {' '.join(it)}: {one_line(planner.jobs.all[it].command)}"
             for it in at_once.names]
     return made + [line(name, it) for name, it in found.items() if name not in at_once.names]

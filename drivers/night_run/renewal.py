@@ -77,7 +77,7 @@ def keep(files: Files, log: Log, past: Past, jobs: Jobs, state: State, events: i
     log.sync()
     ends = ends_of(past if past.night == night else Past(), state, book)
     made = Past(events, night, max([past.round, *(it.number for it in book.rounds.values())]),
-                list(ends.values()), done_in(book, state))
+                list(ends.values()), done_in(book, state), notes=past.notes)
     facts = facts_of(state, past, log.lines, book, time.time(), {})
     made.failures = {name: count for name, count in facts.failures.items() if count}
     shown = {group for group, _, _ in made.ends}

@@ -14,15 +14,15 @@ from collections.abc import Iterator
 from .escapes import one_line, plain
 from .report_axis import Axis
 from .report_style import STYLE
-from .report_words import (by_group, clock, commands, counts, facts, in_words, kind_of, line_shown,
-                           moment, of_all, period, span, tries_in_words, used_in_words, verdict,
-                           why_done)
+from .report_words import (by_group, clock, commands, counts, facts, in_words, in_words_why,
+                           kind_of, line_shown, moment, of_all, period, span, tries_in_words,
+                           used_in_words, verdict, why_done)
 from .rows import Group, Report, Row, Try
 from .used import in_words as used
 
 SIGNS = {"good": "\u2713", "bad": "\u2717", "open": "\u25d1", "busy": "\u25b6"}
-# What didn't end well, besides failures.
-OTHERS = ("canceled", "not started", "interrupted")
+# What didn't end well, besides failures, or was left out.
+OTHERS = ("canceled", "not started", "interrupted", "left out")
 # A group of more commands shows its lines in time once they are asked for.
 MOST_OPEN = 60
 # How many failures stand there; those after them once they are asked for.
@@ -107,7 +107,7 @@ def others(report: Report) -> Iterator[Html]:
     if found:
         yield tag("h2", "Not done")
     for (phase, end), names in found.items():
-        why = end if end.startswith(phase) else f"{phase}: {end}" if end else phase
+        why = in_words_why(phase, end)
         yield tag("section", tag("h3", f"{len(names)} {why}"),
                   tag("p", ", ".join(names), class_="soft"), class_="card")
 

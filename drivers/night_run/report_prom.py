@@ -10,7 +10,7 @@ from collections.abc import Iterator
 
 from .escapes import escaped
 from .report_words import by_group, counts, end_of, last_end
-from .rows import PHASES, SELDOM, WELL, Report, Row, Try
+from .rows import PHASES, SELDOM, WHOLE, Report, Row, Try
 from .used import Used
 
 Labels = dict[str, str]
@@ -68,7 +68,7 @@ def known(labels: Labels, value: float | None) -> list[Sample]:
 
 def standing(report: Report) -> Iterator[Sample]:
     """How many commands of each group are in each phase; phases without any count, too, but for
-    what isn't needed or due."""
+    what isn't needed or due, or is left out."""
     for group, rows in by_group(report):
         found = counts(rows)
         for phase in (it for it in PHASES if it not in SELDOM or found.get(it)):
@@ -85,7 +85,7 @@ def ended(report: Report) -> float | None:
 
 def success(report: Report) -> float | None:
     """When the last command ended of the last night in which every command was ok."""
-    found = last_end(report.rows) if all(it.phase in WELL for it in report.rows) else None
+    found = last_end(report.rows) if all(it.phase in WHOLE for it in report.rows) else None
     return report.last_well if found is None else found
 
 

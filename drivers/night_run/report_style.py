@@ -45,7 +45,7 @@ pre { white-space: pre-wrap; margin: 8px 0; padding: 8px 10px; background: var(-
 .canceled { background: var(--canceled); } .not-started { background: var(--not-started); }
 .interrupted { background: repeating-linear-gradient(135deg, var(--interrupted) 0 4px,
   var(--track) 4px 7px); } .running { background: var(--running); }
-.waiting, .not-needed, .not-due { background: var(--waiting); }
+.waiting, .not-needed, .not-due, .left-out { background: var(--waiting); }
 .head { display: flex; flex-wrap: wrap; gap: 2px 14px; align-items: baseline; }
 .times { margin: 10px 0 0; }
 summary { cursor: pointer; font-size: 14px; color: var(--soft); }

@@ -10,15 +10,15 @@ import textwrap
 from collections.abc import Iterator
 
 from .escapes import one_line, plain
-from .report_words import (by_group, counts, facts, in_words, line_shown, of_all, period,
-                           tries_in_words, used_in_words, verdict, why_done)
+from .report_words import (by_group, counts, facts, in_words, in_words_why, line_shown, of_all,
+                           period, tries_in_words, used_in_words, verdict, why_done)
 from .rows import Report, Row
 
 COLUMNS = 72
 # How many failures are shown with their last lines, and how many names that share a reason.
 MOST_TOLD, MOST_NAMED = 20, 12
-# What didn't end well, besides failures.
-OTHERS = ("canceled", "not started", "interrupted")
+# What didn't end well, besides failures, or was left out.
+OTHERS = ("canceled", "not started", "interrupted", "left out")
 
 
 def text(report: Report) -> str:
@@ -72,7 +72,7 @@ def unlucky(report: Report) -> Iterator[str]:
         if row.phase in OTHERS:
             found[row.phase, plain(row.end)].append(f"{row.group} {row.key}")
     for (phase, end), names in found.items():
-        why = end if end.startswith(phase) else f"{phase}: {end}" if end else phase
+        why = in_words_why(phase, end)
         more = len(names) - MOST_NAMED
         shown = ", ".join(names[:MOST_NAMED]) + (f" and {more} more" if more > 0 else "")
         yield f"{len(names)} {why} ({shown})"

@@ -12,7 +12,7 @@ from collections.abc import Iterable
 
 from .ends import read_end
 from .escapes import plain
-from .rows import OF_ALL, PHASES, WELL, Group, Report, Row, Try
+from .rows import LEFT_OUT, OF_ALL, PHASES, WELL, Group, Report, Row, Try
 from .used import in_words as used
 
 # A line of somebody else's that is longer is cut.
@@ -40,6 +40,14 @@ def counts(rows: Iterable[Row]) -> dict[str, int]:
 def in_words(found: dict[str, int]) -> str:
     """Counts in words, such as `2 ok, 1 failed`."""
     return ", ".join(f"{count} {phase}" for phase, count in found.items()) or "none"
+
+
+def in_words_why(phase: str, end: str) -> str:
+    """A phase, and why it is so."""
+    if end.startswith(phase):
+        return end
+    between = " " if phase == LEFT_OUT else ": "
+    return f"{phase}{between}{end}" if end else phase
 
 
 def commands(number: int) -> str:

@@ -14,13 +14,16 @@ from .used import Used
 
 # How a command stands, in the order in which a report shows it. `waiting` has yet to be started,
 # `not started` never will be, and `interrupted` was cut off and runs again in the next run. What is
-# `not needed` waited for a failure that didn't come, and what is `not due` is for other days.
-NOT_NEEDED, NOT_DUE = "not needed", "not due"
+# `not needed` waited for a failure that didn't come, what is `not due` is for other days, and what is
+# `left out` was left out by hand.
+NOT_NEEDED, NOT_DUE, LEFT_OUT = "not needed", "not due", "left out"
 PHASES = ("ok", "failed", "canceled", "not started", "interrupted", "running", "waiting",
-          NOT_NEEDED, NOT_DUE)
-WELL = ("ok", NOT_NEEDED, NOT_DUE)
+          NOT_NEEDED, NOT_DUE, LEFT_OUT)
+# Those of a night in which nothing was left out by hand, and those that are no failure.
+WHOLE = ("ok", NOT_NEEDED, NOT_DUE)
+WELL = (*WHOLE, LEFT_OUT)
 # Those that are counted only where they occur.
-SELDOM = (NOT_NEEDED, NOT_DUE)
+SELDOM = (NOT_NEEDED, NOT_DUE, LEFT_OUT)
 # The name of all groups together.
 OF_ALL = "night"
 

@@ -9,7 +9,7 @@ from . import Name
 from .ends import canceled
 from .facts import Facts
 from .jobs import Job, Jobs, Need
-from .rows import NOT_DUE, NOT_NEEDED
+from .rows import LEFT_OUT, NOT_DUE, NOT_NEEDED
 
 # How a command stands. The last two are for now.
 OK, FAILED, CANCELLED, NEVER = "ok", "failed", "canceled", "not started"
@@ -17,7 +17,7 @@ INTERRUPTED, RUNNING, WAITING = "interrupted", "running", "waiting"
 # Where what says it can't be read; in a summary alone.
 NOT_KNOWN = "not known"
 # Those that nothing of this night changes any more.
-FINAL = (OK, FAILED, CANCELLED, NEVER, NOT_NEEDED, NOT_DUE)
+FINAL = (OK, FAILED, CANCELLED, NEVER, NOT_NEEDED, NOT_DUE, LEFT_OUT)
 
 
 @dataclass(frozen=True)
@@ -55,6 +55,8 @@ class Shown:
             return Standing(RUNNING)
         if word == "ok":
             return Standing(OK) if end is not None else self.not_due(self.jobs.all[name])
+        if facts.is_left_out(name):
+            return Standing(LEFT_OUT, facts.left_out(name))
         if word in ("failed", "canceled"):
             cause = end or canceled(facts.done.get(name[0], ""))
             return Standing(CANCELLED if cause.is_canceled else FAILED, cause.text)
@@ -76,11 +78,9 @@ class Shown:
             return Standing(NEVER, f"{'/'.join(failed)} failed, and" + (
                 " that cancels the group" if self.jobs.cancels(job.group)
                 else " the group stops on failure"))
-        for it in job.after:
-            found = self.in_vain(it)
-            if found is not None:
-                return found
-        return Standing(NEVER)
+        found = [it for it in map(self.in_vain, job.after) if it is not None]
+        its = [it for it in found if it.phase != LEFT_OUT]
+        return (its or found or [Standing(NEVER)])[0]
 
     def in_vain(self, need: Need) -> Standing | None:
         """How a command stands because this need of it is never met; None where it may be."""
@@ -89,6 +89,8 @@ class Shown:
             other = self.member(of) if isinstance(of, str) else of if self.is_never(of) else None
             if other is None:
                 return None
+            if other in self.found and self.found[other].phase == LEFT_OUT:
+                return Standing(LEFT_OUT, f"because {'/'.join(other)} is left out")
             is_needed = other not in self.found or self.found[other].phase != NOT_NEEDED
             return Standing(NEVER if is_needed else NOT_NEEDED, self.reason(other, need))
         its = self.jobs.members[of] if isinstance(of, str) else [of]
@@ -129,10 +131,12 @@ class Shown:
         return self.first[group]
 
     def member(self, group: str) -> Name | None:
-        """The first command of a group that never begins again."""
+        """The first command of a group that never begins again; one that is left out only where
+        no other is."""
         if group not in self.ended:
-            its = self.jobs.members[group]
-            self.ended[group] = next((it for it in its if self.is_never(it)), None)
+            its = [it for it in self.jobs.members[group] if self.is_never(it)]
+            others = [it for it in its if it in self.found and self.found[it].phase != LEFT_OUT]
+            self.ended[group] = next(iter(others or its), None)
         return self.ended[group]
 
     def is_never(self, name: Name) -> bool:

@@ -12,11 +12,12 @@ from .jobs import Jobs
 from .log import Line, Tried, text_of_line
 from .report_words import commands
 from .rounds import base_of
-from .rows import NOT_DUE, NOT_NEEDED, WELL
+from .rows import LEFT_OUT, NOT_DUE, NOT_NEEDED, WELL, WHOLE
 from .standing import CANCELLED, FAILED, NEVER, NOT_KNOWN, OK, WAITING
 
 # The counts of the last line, in order.
-KINDS = ("ok", "failed", "canceled", "not started", "left", "not known", "not needed", "not due")
+KINDS = ("ok", "failed", "canceled", "not started", "left", "not known", "not needed", "not due",
+         "left out")
 
 
 def so_far(ends: Iterable[End], count: int, running: int) -> str:
@@ -33,6 +34,8 @@ def how_it_stands(row: rows.Row) -> str:
     """How a command stands, in one line."""
     if row.phase in (NEVER, NOT_NEEDED):
         return f"{row.phase}, because {row.end}"
+    if row.phase == LEFT_OUT:
+        return f"{row.phase} {row.end}"
     if row.phase in (NOT_KNOWN, NOT_DUE):
         return f"{row.phase}: {row.end}"
     if row.phase == WAITING and row.end:
@@ -53,7 +56,7 @@ def failures(report: rows.Report) -> list[str]:
     """A line for each command that didn't end well, and the last lines that it printed."""
     lines = []
     for it in report.rows:
-        if it.phase in WELL:
+        if it.phase in WHOLE:
             continue
         is_shown = it.output and it.phase in (FAILED, CANCELLED)
         where = f"; {it.output}" if is_shown else ""
@@ -88,6 +91,11 @@ def nothing_to_do(report: rows.Report, when: str) -> str:
 
 def is_well(report: rows.Report) -> bool:
     return all(it.phase in WELL for it in report.rows)
+
+
+def is_whole(report: rows.Report) -> bool:
+    """Whether it is well, and nothing was left out by hand."""
+    return all(it.phase in WHOLE for it in report.rows)
 
 
 def failed_count(report: rows.Report) -> int:

@@ -57,6 +57,7 @@ def look(files: Files, planner: Planner, past: Past | None = None) -> View:
     night = max(state.night() if state.scopes else 1, past.night)
     book = book_of(state, past, night)
     know_day(files, book, planner.jobs)
+    planner.jobs.limits = book.tonight.limits
     facts = facts_of(state, past, lines, book, time.time(), {})
     running = running_now(files)
     facts.busy = busy_in(files, state, book, running)

@@ -20,8 +20,9 @@ from typing import NoReturn
 
 from . import (Fault, Mistake, Name, cancels, clock, descriptors, early, exits, foreign,
                raised, rows, status_command, status_output, strangers, telling)
-from .beside import Umask
+from .beside import Part, Umask
 from .canceling import cancel
+from .changes import Night
 from .exits import Hooks, Outcome, hooks_of, outcome_of
 from .facts import Book, Facts, book_of, facts_of, groups_of, logged_groups, when_ended
 from .files import Files, become_owner
@@ -44,12 +45,15 @@ from .rounds import Role, role_name
 from .signals import Signals
 from .state import State
 from .status_plan import write_plan
-from .summary import (changed, failed_count, failures, is_well, left_count, list_lines,
+from .summary import (changed, failed_count, failures, is_well, is_whole, left_count, list_lines,
                       names_not_there, nothing_to_do, total)
+from .taking import Opening, anew
 from .telling import note
 from .tries import Tries
 from .version import version
 from .views import View, look, remembered, report, without_past
+from .wanting import lines_of, want
+from .wants import add_wants, by_me, wants_of
 
 HELP = """Runs the shell commands of the file JOBS, and records in the file STORE how each of them
 ended. STORE is created if it doesn't exist. After a crash, a kill or a power failure, run the same
@@ -174,6 +178,9 @@ def read_words(given: list[str]) -> argparse.Namespace:
               "       night-run STORE JOBS --report html|text|prom\n"
               "       night-run STORE JOBS --report history|history-html|history-json\n"
               "       night-run STORE JOBS --dry-run [--failed | --again | --nightly]\n"
+              "       night-run STORE [JOBS] --only | --redo | --skip GROUP[/KEY]..\n"
+              "       night-run STORE [JOBS] --set GROUP.limit=N | --set j=N\n"
+              "       night-run STORE --pause | --resume\n"
               "       night-run STORE [JOBS] --status [--watch | --json]\n"
               "       night-run STORE [JOBS] --tail GROUP/KEY | --output GROUP/KEY\n"
               "       night-run STORE [JOBS] --cancel GROUP[/KEY] [WHY..]\n"
@@ -230,6 +237,7 @@ def read_words(given: list[str]) -> argparse.Namespace:
     what.add_argument("--cancel", nargs="+", metavar=("GROUP", "WHY"),
                       help="cancel a group, one command (GROUP/KEY), or all groups (`night`), also"
                       " while another night-run runs them")
+    add_wants(reader)
     reader.add_argument("--dry-run", action="store_true",
                         help="print what would be started, also with --failed, --again or"
                         " --nightly, and change nothing")
@@ -243,7 +251,11 @@ def read_words(given: list[str]) -> argparse.Namespace:
     found = reader.parse_args(given)
     if not found.store:
         reader.error("STORE is empty")
-    if not (found.cancel or is_status(found)) and found.jobs is None:
+    try:
+        found.wants = wants_of(found)
+    except Mistake as mistake:
+        reader.error(str(mistake))
+    if not (found.cancel or found.wants or is_status(found)) and found.jobs is None:
         reader.error("JOBS is missing: give the file of commands after STORE")
     if found.json and not (found.list or found.status):
         reader.error("--json goes with --list or --status")
@@ -253,12 +265,25 @@ def read_words(given: list[str]) -> argparse.Namespace:
         reader.error("--dry-run goes with none of --list, --report and --cancel")
     if found.dry_run and is_status(found):
         reader.error("--dry-run goes with none of --status, --tail and --output")
+    if found.wants and (why := misfit(found)):
+        reader.error(why)
     return found
 
 
 def is_status(words: argparse.Namespace) -> bool:
     """Whether a night is to be looked at as it stands, which needs no file of commands."""
     return bool(words.status or words.tail is not None or words.output is not None)
+
+
+def misfit(found: argparse.Namespace) -> str:
+    """Why a line can't have what it wants of a night; empty where it can."""
+    if found.list or found.report or found.cancel or is_status(found):
+        return "--only, --redo, --skip, --set and --pause go with no other request"
+    if found.pause and found.jobs is not None:
+        return "--pause asks the active night-run, or the next one: leave JOBS out"
+    if found.jobs is None and (found.failed or found.again or found.nightly or found.dry_run):
+        return "JOBS is missing: give the file of commands after STORE"
+    return ""
 
 
 def number(word: str) -> int:
@@ -285,7 +310,8 @@ def run() -> int:
         return exits.leave(Outcome(exits.WELL, lines=(str(text).rstrip("\n"),)), Hooks())
     except Unusable as mistake:
         return unusable(given, mistake)
-    if words.list or words.report or words.dry_run or words.cancel or is_status(words):
+    is_request = is_status(words) or words.wants and words.jobs is None
+    if words.list or words.report or words.dry_run or words.cancel or is_request:
         early.let_be()
         return exits.leave(looked(words), Hooks())
     signals = Signals()
@@ -328,14 +354,18 @@ def looked(words: argparse.Namespace) -> Outcome:
     try:
         if words.report:
             from . import report as _  # (which its owner may not be able to read)
+        by = by_me()
         become_owner(words.store)
         files = Files(words.store)
         files.look()
         if is_status(words):
             lines = standing(files, words)
+        elif words.cancel:
+            lines = [cancel(files, words.jobs, *words.cancel)]
+        elif words.jobs is None:
+            lines = want(files, words.wants, by).split("\n")
         else:
-            lines = [cancel(files, words.jobs, *words.cancel)] if words.cancel else \
-                shown(files, Planner(Jobs(words.jobs)), words)
+            lines = shown(files, Planner(Jobs(words.jobs)), words)
         return Outcome(exits.WELL, lines=tuple(lines))
     except (Exception, KeyboardInterrupt) as error:
         return outcome_of(error)
@@ -373,10 +403,12 @@ def shown(files: Files, planner: Planner, words: argparse.Namespace) -> list[str
         from . import report as forms
         return [forms.made(words.report, files, made).rstrip("\n")]
     if words.dry_run:
-        return planned(planner, view, words.most, wish_of(words))
+        told = lines_of(view.past.notes, view.book.night)
+        wanted = Opening(files, planner.jobs, view.past)
+        return planned(planner, view, words.most, wish_of(words), wanted, words.wants) + told
     if words.json:
         return [json.dumps([as_json(it) for it in made.rows], indent=1)]
-    return list_lines(made)
+    return list_lines(made) + lines_of(view.past.notes, view.book.night)
 
 
 def standing(files: Files, words: argparse.Namespace) -> list[str]:
@@ -421,6 +453,7 @@ class Run:
         self.is_alone = False  # whether it has the locks
         self.tries: Tries | None = None
         self.has_planner = False
+        self.has_taken = False  # whether what is wanted of its nights is taken
         self.rest = Rest()
 
     def outcome(self) -> Outcome:
@@ -518,6 +551,7 @@ class Run:
         strangers.keep_out(self.files)
         self.files.keep_others_out()
         if not self.files.exists():
+            self.files.remove(Part.TONIGHT)  # (of another store)
             make(self.files)
             self.files.lock.sign()
         cancels.Desk(self.files).pass_over()
@@ -530,6 +564,7 @@ class Run:
                          bool(state.scopes[1:] or self.past.round))
         driver = self.begin_driver(tries, left)
         self.rest.is_due = self.words.nightly and is_left(state, self.past)
+        driver.next_night = max(state.night(), self.past.night) + 1 if self.rest.is_due else 0
         if not self.prepare(driver, state):
             return self.idle()
         write_plan(tries, self.jobs, self.words.most)
@@ -575,6 +610,13 @@ class Run:
         has_one = bool(state.scopes[1:] or self.past.round)
         driver.begins_night = has_one and (
             self.words.again or self.words.nightly and not self.rest.is_due)
+        wanted = self.take_wants(Night(self.jobs, book, facts, found, has_mark),
+                                 driver.begins_night)
+        self.past.notes = wanted.notes
+        book = book_of(state, self.past, night)
+        facts = facts_of(state, self.past, self.log.lines, book, time.time(), {})
+        found = self.planner.standings(facts)
+        is_over = all(it.is_final for it in found.values())
         if self.rest.is_due and not is_over:
             note(f"night {night} wasn't finished: the rest of it comes first")
         if self.words.failed:
@@ -590,8 +632,28 @@ class Run:
             raise Fault(f"this machine's clock shows {clock.shown()}, and so isn't set: nobody"
                         " knows which commands are due tonight; set it, and run this again")
         if has_work:
+            wanted.keep(night)
+            wanted.tell(night + driver.begins_night)
             driver.before = self.renewed(driver, state)
+        else:
+            self.past.notes = wanted.before
         return has_work
+
+    def take_wants(self, it: Night, begins_night: bool) -> Opening:
+        """What is wanted of this night, and of the next one if this run begins it."""
+        wanted = Opening(self.files, self.jobs, self.past)
+        if self.has_taken:
+            return wanted
+        self.has_taken, number, by = True, it.book.night, by_me()
+        if not begins_night:
+            if self.rest.is_due:
+                wanted.go_on(number)
+            wanted.take(number, it, self.words.wants, by, may_miss=self.rest.is_due)
+        if begins_night or self.rest.is_due:
+            wanted.take(number + 1, anew(self.jobs, number + 1), self.words.wants, by)
+        if self.words.failed:
+            wanted.forget_canceled(number)
+        return wanted
 
     def has_unwritten_end(self, book: Book, facts: Facts) -> bool:
         """Whether a deadline has passed over something that is left, and the store doesn't
@@ -642,7 +704,7 @@ class Run:
 
     def ended(self, made: rows.Report, view: View, last: str, has_run: bool) -> Outcome:
         lines = (*failures(made), *changed(self.jobs, made, view.lines), *self.held(), last)
-        if is_well(made):
+        if is_whole(made):
             self.keeper.well(made.night, last_end(made.rows))
         status = exits.WELL if is_well(made) else exits.NOT_WELL
         alarm = None if is_well(made) else raised.Alarm(made.night, last_end(made.rows))
@@ -650,7 +712,7 @@ class Run:
             self.files, alarm, self.hooks.has_alarm)
         # (a cron job that silently runs nothing is the worst)
         is_silent = self.words.quiet and (is_given or status == exits.WELL and (
-            has_run or self.words.resume))
+            is_whole(made) if has_run else self.words.resume))
         return self.rest.before(Outcome(
             status, lines=lines, failed=failed_count(made), left=left_count(made),
             has_run=has_run, is_silent=is_silent, mails=mails_of(self.jobs, made), alarm=alarm,

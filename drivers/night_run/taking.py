@@ -1,0 +1,223 @@
+"""How a driver takes what operators want of its night (`wants`): from the folder of requests while
+it runs, and from STORE.tonight and its own command line as it begins.
+
+What is wanted is written to STORE.tonight first, durably, then it holds, and then the request is
+answered. So after an answer it holds, whatever is killed.
+"""
+
+from __future__ import annotations
+
+import time
+from dataclasses import replace
+from typing import TYPE_CHECKING
+
+from .changes import Change, Night, Refused
+from .ends import canceled
+from .facts import Book, Facts, groups_anew
+from .past import Past
+from .petitions import FAILED, REFUSED, Petition, Petitions
+from .report_words import moment
+from .rounds import Round
+from .standing import WAITING, Standing
+from .telling import error_text, note, tell
+from .tonight import Tonight, write_notes
+from .wants import By, Want
+
+if TYPE_CHECKING:
+    from .files import Files
+    from .jobs import Jobs
+    from .loop import Driver
+
+
+class ScopesWanted(Exception):
+    """A group that was done begins anew: the next session makes its scope."""
+
+
+class Taker:
+    """What is wanted of a driver's night."""
+
+    def __init__(self, driver: Driver) -> None:
+        self.driver, self.desk = driver, Petitions(driver.files)
+        self.wants_scopes = False
+        self.answers: dict[str, str] = {}  # those that are given, by the names of the requests
+
+    @property
+    def its(self) -> Tonight:
+        return self.driver.book.tonight
+
+    @property
+    def is_paused(self) -> bool:
+        return self.its.paused is not None
+
+    @property
+    def most(self) -> int:
+        """How many commands may run at a time now."""
+        return 0 if self.is_paused else self.its.most or self.driver.most
+
+    def take(self) -> None:
+        """Takes what is wanted now, and answers."""
+        requests = self.desk.requests()
+        # (one whose answer couldn't be written is there again, and isn't taken twice)
+        self.answers = {it.name: self.answers[it.name] for it in requests
+                        if it.name in self.answers}
+        for it in requests:
+            if it.name not in self.answers:
+                self.answers[it.name] = self.answer_to(it)
+            self.desk.answer(it, self.answers[it.name])
+
+    def answer_to(self, it: Petition) -> str:
+        try:
+            return self.taken(it.wants, it.by)
+        except Refused as why:
+            return f"{REFUSED}{why}"
+        except OSError as error:
+            return f"{FAILED}{error_text(error)}"
+
+    def taken(self, wants: tuple[Want, ...], by: By) -> str:
+        """The answer, once what is wanted holds."""
+        driver = self.driver
+        night = Night(driver.jobs, driver.book, driver.facts,
+                      driver.planner.standings(driver.facts), driver.has_mark)
+        change = Change(night, self.its, by)
+        answer = change.take(wants)
+        nights = {driver.book.night: change.its}
+        if driver.next_night:
+            nights[driver.next_night] = self.of_next(wants, by)
+        keep(driver.files, driver.past, nights)
+        self.hold(change.its)
+        return answer
+
+    def of_next(self, wants: tuple[Want, ...], by: By) -> Tonight:
+        """The same of the night that this run begins after the rest of this one."""
+        driver, number = self.driver, self.driver.next_night
+        change = Change(anew(driver.jobs, number), driver.past.notes.of(number), by)
+        change.take(wants)
+        return change.its
+
+    def hold(self, its: Tonight) -> None:
+        """What is written down holds from now on."""
+        driver, before = self.driver, self.its
+        driver.book.tonight = driver.facts.tonight = its
+        for name, since in its.redo.items():
+            if before.redo.get(name) != since:
+                driver.facts.forget(name)
+                driver.forgiven.pop(name, None)
+        for name, cause in its.canceled.items():
+            if name not in driver.facts.ends:
+                driver.facts.cancel_one(name, cause, time.time())
+        driver.facts.changed |= driver.jobs.all.keys()
+        driver.book.close_old()
+        self.set_limits(its.limits)
+        for it in driver.commands.values():
+            by = driver.facts.left_out(it.name)
+            if by and not it.has_begun and not it.is_never:
+                it.never(canceled(by))
+        again = groups_anew(driver.book, driver.facts)
+        driver.anew |= again
+        self.wants_scopes |= bool(again)
+        driver.is_woken = True
+
+    def set_limits(self, limits: dict[str, int]) -> None:
+        """A group whose limit was set begins in a group of the store that has none."""
+        book = self.driver.book
+        self.driver.jobs.limits = limits
+        for base in limits:
+            if base in book.groups and book.limits.get(book.groups[base]) is not None:
+                del book.groups[base]
+
+    def look_for_scopes(self) -> None:
+        if self.wants_scopes:
+            self.wants_scopes = False
+            raise ScopesWanted
+
+    def tidy(self) -> None:
+        """What was wanted of earlier nights is over, now that this one is there."""
+        if min(self.driver.past.notes.nights, default=self.driver.night) < self.driver.night:
+            self.keep(self.its)
+
+    def close(self) -> None:
+        """The night has ended: what ran again after an earlier end is over, too."""
+        if self.its.is_open:
+            self.keep(replace(self.its, is_open=False))
+
+    def keep(self, its: Tonight) -> None:
+        """Writes it down, if that can be done: nothing is lost without it."""
+        try:
+            keep(self.driver.files, self.driver.past, {self.driver.book.night: its})
+        except OSError as error:
+            note(error_text(error))
+
+
+def keep(files: Files, past: Past, nights: dict[int, Tonight]) -> None:
+    """Writes down, durably, what is wanted of nights."""
+    notes = past.notes.copied()
+    notes.nights.update(nights)
+    write_notes(files, notes, min(nights))
+    past.notes = notes
+
+
+def anew(jobs: Jobs, number: int) -> Night:
+    """A night of which nothing has begun."""
+    return Night(jobs, Book(number, Round()), Facts(), dict.fromkeys(jobs.all, Standing(WAITING)))
+
+
+# --- as a run begins
+
+class Opening:
+    """What is wanted of the nights of a run, as it begins: by the last requests that no driver has
+    taken, and by its own command line."""
+
+    def __init__(self, files: Files, jobs: Jobs, past: Past) -> None:
+        self.files, self.jobs, self.past, self.before = files, jobs, past, past.notes
+        self.notes = past.notes.copied()
+        self.missed: list[str] = []  # why requests of before aren't taken
+
+    def take(self, number: int, night: Night, own: tuple[Want, ...], by: By,
+             may_miss: bool = False) -> None:
+        """Takes them for one night. Refused where one of the command line can't be taken, and
+        mustn't be missed."""
+        for want, who in self.before.next:
+            try:
+                self.change(number, night, (want,), who)
+            except Refused as why:
+                self.missed.append(f"--{want.text} by {who.who} is passed over: {why}")
+        try:
+            self.change(number, night, own, by)
+        except Refused:
+            if not may_miss:
+                raise
+
+    def change(self, number: int, night: Night, wants: tuple[Want, ...], by: By) -> None:
+        change = Change(night, self.notes.of(number), by)
+        if wants:
+            change.take(wants)
+            self.notes.nights[number] = change.its
+
+    def go_on(self, number: int) -> None:
+        """The next night is asked for: the rest of a night that was paused comes before it."""
+        its = self.notes.of(number)
+        if its.paused:
+            note(f"night {number} was paused by {its.paused.who}, and goes on")
+            self.notes.nights[number] = replace(its, paused=None)
+
+    def forget_canceled(self, number: int) -> None:
+        """What was canceled with its group runs again, by `--failed`."""
+        its = self.notes.of(number)
+        if its.canceled:
+            self.notes.nights[number] = replace(its, canceled={})
+
+    def keep(self, night: int) -> None:
+        """Writes it down, since the run has something to do: it holds from now on."""
+        self.notes.next = []
+        if self.notes != self.before:
+            write_notes(self.files, self.notes, night)
+        self.past.notes = self.notes
+        for it in self.missed:
+            tell(it)
+
+    def tell(self, number: int) -> None:
+        """Reports a pause, in which a run may wait for long."""
+        by = self.notes.of(number).paused
+        if by:
+            tell(f"{self.files.shown}: paused by {by.who}, {moment(by.at)}; night-run"
+                 f" {self.files.shown} --resume goes on")
