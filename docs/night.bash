@@ -70,6 +70,16 @@ _night_run() {
             mapfile -t COMPREPLY < <(
                 compgen -W "$(_night_run_groups "$current" night)" -- "$current")
             return ;;
+        --only | --redo | --skip)
+            # the groups, or the commands of one once there is a slash
+            mapfile -t COMPREPLY < <(
+                compgen -W "$(_night_run_groups "$current" night)" -- "$current")
+            return ;;
+        --set)
+            compopt -o nospace 2> /dev/null
+            mapfile -t COMPREPLY < <(
+                compgen -S = -W "j $(_night_run_groups | sed 's/$/.limit/')" -- "$current")
+            return ;;
         --tail | --output)
             # the commands of the group once there is a slash
             mapfile -t COMPREPLY < <(compgen -W "$(_night_run_groups "$current")" -- "$current")
@@ -79,7 +89,8 @@ _night_run() {
         mapfile -t COMPREPLY < <(
             compgen -W "-j --grace --keep --failed --again --nightly --resume --quiet \
                 --on-begin --on-success --on-failure --mail --list --json --dry-run --report \
-                --status --watch --tail --output --cancel --version --help" -- "$current")
+                --status --watch --tail --output --only --redo --skip --set --pause --cancel \
+                --version --help" -- "$current")
     else
         compopt -o filenames 2> /dev/null
         mapfile -t COMPREPLY < <(compgen -f -- "$current")
@@ -89,10 +100,10 @@ _night_run() {
 # The groups of the file of commands, and these other names; or its commands once there is a slash.
 _night_run_groups() {
     local what='$1' key='^[a-z0-9_{}-]+$' file=${COMP_WORDS[2]}
-    [[ $1 != */* ]] || what='$1 "/" $2' key='^[a-z0-9_-]+$'
+    [[ ${1-} != */* ]] || what='$1 "/" $2' key='^[a-z0-9_-]+$'
     [[ -f $file ]] || file=${COMP_WORDS[1]}.tries/plan
     [[ -f $file ]] || return
-    printf '%s\n' "${@:2}"
+    [[ ! ${2-} ]] || printf '%s\n' "${@:2}"
     awk "\$1 ~ /^[a-z0-9_-]+\$/ && \$2 ~ /$key/ && (NF > 2 || \$1 != \"include\") \
         { print $what }" "$file" | sort -u
 }

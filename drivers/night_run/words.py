@@ -613,7 +613,7 @@ class Run:
         wanted = self.take_wants(Night(self.jobs, book, facts, found, has_mark),
                                  driver.begins_night)
         self.past.notes = wanted.notes
-        book = book_of(state, self.past, night)
+        book = dataclasses.replace(book_of(state, self.past, night), day=book.day)
         facts = facts_of(state, self.past, self.log.lines, book, time.time(), {})
         found = self.planner.standings(facts)
         is_over = all(it.is_final for it in found.values())
