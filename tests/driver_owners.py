@@ -95,7 +95,7 @@ def secrets(tries: Shared) -> None:
         except OSError:
             continue
     tries.is_same(f"{kind}: in a command line", room.path,
-                  [it for it in lines if SECRET.encode() in it and b"md5sum" not in it], [])
+                  [it for it in lines if SECRET.encode() in it], [])
     kill([run.pid], which=signal.SIGKILL)
     room.ended(run)
     room.write("go", "")
