@@ -354,8 +354,13 @@ class Fake:
         self.is_asked_for = self.late = self.over = self.orphans = False
         self.stopped: float | None = None
         self.record, self.timeout_text = "its file", "5s"
-        self.job, self.did = self, list[str]()
+        self.output = self.file = "its output"
+        self.limits, self.output_text, self.passes = self, "1M", False
+        self.job, self.it, self.did = self, self, list[str]()
         self.__dict__.update(its)
+
+    def is_passed_by(self, printed: object) -> bool:
+        return bool(self.passes) and printed == PRINTED
 
     def poll(self, _: float) -> bool:
         return bool(self.over)
@@ -378,11 +383,18 @@ class Fake:
         self.did.append("pressed")
 
 
+PRINTED = 1 << 21  # bytes that each output has
+
+
 class Noted:
-    """What a `Stopper` writes into the files of tries."""
+    """What a `Stopper` writes into the files of tries, and reads of outputs."""
 
     def __init__(self) -> None:
         self.lines: list[str] = []
+        self.files = self.outputs = self
+
+    def size(self, output: str) -> int | None:
+        return PRINTED if output == "its output" else None
 
     def stop(self, record: str, why: Any) -> None:
         self.lines.append(f"{record}: {why.text if why else '-'}")
@@ -394,6 +406,9 @@ STOPPED: list[tuple[str, Mapping[str, object], str | None, bool, list[str]]] = [
     ("it is late", {"late": True}, None, False, ["stopped: timeout 5s", "pressed"]),
     ("its group is over", {}, "why", False, ["stopped: canceled: why", "pressed"]),
     ("late, and its group is over", {"late": True}, "why", False,
+     ["stopped: timeout 5s", "pressed"]),
+    ("it prints too much", {"passes": True}, None, False, ["stopped: output over 1M", "pressed"]),
+    ("late, and it prints too much", {"passes": True, "late": True}, None, False,
      ["stopped: timeout 5s", "pressed"]),
     ("a signal", {}, None, True, ["stopped: -", "pressed"]),
     ("a deadline comes before a signal", {}, "why", True, ["stopped: canceled: why", "pressed"])]
@@ -575,13 +590,13 @@ class Lines:
 def recorded_lines(tries: Shared) -> None:
     """The line of the log for a task that has ended."""
     recording = driver_module(tries, "recording")
-    read_end = driver_module(tries, "ends").read_end
+    read_end, used = driver_module(tries, "ends").read_end, driver_module(tries, "used").Used()
     for what, own, end, began, wanted, seconds in LINES:
         jobs: Any = jobs_of(tries, "g a echo x")
         log, left = Lines(), types.SimpleNamespace(began=lambda *_, known=began: known)
         it = types.SimpleNamespace(
             number=own[0], began=own[1], took=own[2], text="echo x", group="g", tried=0,
-            job=jobs.all["g", "a"], is_never=False) if own else None
+            job=jobs.all["g", "a"], used=used, is_never=False) if own else None
         recorder = recording.Recorder(jobs, log, left)
         line = recorder.line(types.SimpleNamespace(name=("g", "a"), number=7), read_end(end),
                              ("g", "a", 0), it)
