@@ -501,6 +501,9 @@ def never_began(tries: Shared) -> None:
                     room.until(lambda: told in room.text("errors"), 30), room.text("errors"))
         time.sleep(2)
         tries.is_same(f"{kind}: nothing begins", room.path, room.begun(), {"g.first": 1})
+        tries.holds(f"{kind}: the plan of the run before says nothing", room.path,
+                    not room.text("m/s.tries/plan").startswith("# night-run"),
+                    room.text("m/s.tries/plan"))
         os.remove(f"{room.path}/m/hog")
         tries.holds(f"{kind}: then they begin", room.path,
                     room.until(lambda: "g.z" in room.lines("begun"), 30))

@@ -29,6 +29,8 @@ MOST_MINUTES = 999_999
 LOOKS_ELSEWHERE = re.compile(r"^[ \t]*(?:each[ \t]+\S+:[ \t]+(?:command|file)\b|"
                              r"include[ \t]+\S+[ \t]*$)", re.M)
 HEAD = re.compile(r"# night-run -j ([1-9][0-9]{0,3}) (.*)")
+# What a plan begins with that says nothing.
+SPOILED = b"-"
 
 
 @dataclass(frozen=True)
@@ -51,8 +53,21 @@ def write_plan(tries: Tries, jobs: Jobs, most: int) -> None:
         tries.folder.put(PLAN, data)
     except OSError as error:
         note_once(error_text(error))
-        with contextlib.suppress(OSError):
-            tries.folder.remove(PLAN)  # (that of another run would mislead)
+        spoil(tries)
+
+
+def spoil(tries: Tries) -> None:
+    """Leaves no plan of another run, which would mislead. Its file stays, and says nothing: if a
+    full disk got its room back, a command would begin in that, with none for its output."""
+    with contextlib.suppress(OSError):
+        try:
+            file = tries.folder.open(PLAN, os.O_RDWR)
+            try:
+                os.pwrite(file, SPOILED, 0)
+            finally:
+                os.close(file)
+        except OSError:
+            tries.folder.remove(PLAN)
 
 
 def plan_text(files: Files) -> str:
