@@ -21,6 +21,7 @@ TOOLS = {
     "mypy": "mypy",
     "parallel": "parallel",
     "prlimit": "util-linux",
+    "promtool": "prometheus",
     "ruff": "python3-pip, by `pip install ruff`",
     "sbatch": "slurm-client",
     "scancel": "slurm-client",
