@@ -4,6 +4,7 @@ goes on when its day is over."""
 from __future__ import annotations
 
 import datetime
+import re
 import signal
 from collections.abc import Callable
 from typing import Any
@@ -62,8 +63,6 @@ STANDINGS: list[tuple[str, str, dict[str, str], dict[str, str]]] = [
      {"g a": "waiting", "g mon": "waiting"}),
 ]
 MONDAY = DATES[0]
-# Two zones, between which there is always one day.
-WEST, EAST = "AAA+12", "BBB-12"
 
 
 def days(tries: Shared) -> None:
@@ -109,11 +108,26 @@ def days_stand(tries: Shared) -> None:
         "g a": "on tue 1; tonight is mon 2026-11-30", "h b": "g isn't due"})
 
 
+def zones() -> tuple[str, str]:
+    """A zone in which it is about noon, and one in which it is the same hour of the next day: at
+    whatever hour this runs, midnight is far from both."""
+    hour = datetime.datetime.now(datetime.timezone.utc).hour
+    west = min(23, 24 - (36 - hour) % 24)
+    return f"AAA{west:+}", f"BBB{west - 24:+}"
+
+
 def day_in(zone: str) -> str:
-    """A day of the week, in one of the two zones, and its date."""
-    hours = -12 if zone == WEST else 12
-    now = datetime.datetime.now(datetime.timezone(datetime.timedelta(hours=hours)))
+    """The day of the week in a zone that is written like AAA+12 (12 hours behind), and its date."""
+    now = datetime.datetime.now(datetime.timezone.utc) - datetime.timedelta(hours=int(zone[3:]))
     return f"{now:%a} {now:%Y-%m-%d}".lower()
+
+
+def begin_a_day_earlier(room: Room) -> None:
+    """Has the file of nights say that its nights began 24 hours earlier. The file has moments in
+    seconds since 1970: where it is a day later, a begin of just now is on the later day, too, and
+    one of 24 hours ago is on the day before."""
+    room.write("s.nights", re.sub(r"(?<=begun )\d+", lambda it: str(int(it[0]) - 24 * 3600),
+                                  room.text("s.nights")))
 
 
 def night_keeps_its_day(tries: Shared) -> None:
@@ -121,12 +135,13 @@ def night_keeps_its_day(tries: Shared) -> None:
     knows of it; and so does what repeats its failures."""
     for what in ("as it is", "without its file of nights", "by its file of nights"):
         kind = f"a night over two days, {what}"
-        first, second = day_in(WEST), day_in(EAST)
+        west, east = zones()
+        first, second = day_in(west), day_in(east)
         waits = "h c echo h.c >> begun; [ -e go ] || sleep 60; [ -e fine ]"
         jobs = [waits, "h c: retries 0", job("g", "a"), job("g", "b"), "k d true"]
         whole = [*jobs, f"g a: on {first[:3]}", f"g b: on {second[:3]}", f"k: on {first[:3]}"]
         room = Room(tries, jobs[:2] if what.startswith("by") else whole)
-        room.before = ["env", f"TZ={WEST}"]
+        room.before = ["env", f"TZ={west}"]
         run = room.start()
         is_plain = what.startswith("by")
         count = 3 if is_plain else 1
@@ -139,8 +154,10 @@ def night_keeps_its_day(tries: Shared) -> None:
         room.ended(run)
         if what == "without its file of nights":
             room.write("s.nights", "")
+        if is_plain:
+            begin_a_day_earlier(room)
         room.set(whole)
-        room.before = ["env", f"TZ={EAST}"]
+        room.before = ["env", f"TZ={east}"]
         room.write("go", "")
         told = f"g b: not due: on {second[:3]}; tonight is {first}"
         tries.holds(f"{kind}: a list", room.path, told in room.run(
@@ -171,16 +188,17 @@ def night_keeps_its_day(tries: Shared) -> None:
 def rest_has_its_day(tries: Shared) -> None:
     """The rest of a night has the commands of its day, and the night after it those of its own."""
     kind = "the rest of a night on the next day"
-    first, second = day_in(WEST), day_in(EAST)
+    west, east = zones()
+    first, second = day_in(west), day_in(east)
     room = Room(tries, ["h c [ -e go ] || sleep 60", job("g", "a"), f"g a: on {second[:3]}",
                         job("g", "b"), f"g b: on {first[:3]} ", "g b: after h/c"])
-    room.before = ["env", f"TZ={WEST}"]
+    room.before = ["env", f"TZ={west}"]
     run = room.start("s", "JOBS", "--nightly")
     room.until(lambda: room.has("s.out/h.c.0"))
     kill([run.pid], which=signal.SIGTERM)
     room.ended(run)
     room.write("go", "")
-    room.before = ["env", f"TZ={EAST}"]
+    room.before = ["env", f"TZ={east}"]
     status, output = room.run("s", "JOBS", "--nightly")
     tries.is_same(kind, room.path, (status, output.splitlines(), room.lines("begun")), (0, [
         "night 1, the rest of it:", "3 commands: 2 ok, 1 not due; 2 run this time", "night 2:",
@@ -190,19 +208,20 @@ def rest_has_its_day(tries: Shared) -> None:
 def nothing_due(tries: Shared) -> None:
     """A night in which nothing is due is well, whether it is the first or a later one."""
     kind = "a night in which nothing is due"
-    now, other = day_in(WEST)[:3], day_in(EAST)[:3]
+    west, east = zones()
+    now, other = day_in(west)[:3], day_in(east)[:3]
     room = Room(tries, [job("g", "a"), f"g: on {other}"])
-    room.before = ["env", f"TZ={WEST}"]
+    room.before = ["env", f"TZ={west}"]
     count = "1 command: 1 not due; 0 run this time"
     for words in ((), ("--nightly",), ("--resume",), ("--failed",)):
         tries.is_same(f"{kind}, the first", words, (room.last("s", "JOBS", *words), room.errors),
                       ((0, count), ""))
     tries.is_same(f"{kind}: quiet", room.path, room.run("s", "JOBS", "--nightly", "--quiet"),
                   (0, ""))
-    room.before = ["env", f"TZ={EAST}"]
+    room.before = ["env", f"TZ={east}"]
     tries.is_same(f"{kind}: the next day", room.path, room.last("s", "JOBS", "--nightly"),
                   (0, "1 command: 1 ok; 1 run this time"))
-    room.before = ["env", f"TZ={WEST}"]
+    room.before = ["env", f"TZ={west}"]
     room.set([job("g", "a"), f"g: on {other}"])
     tries.is_same(f"{kind}: a later one", room.path, (
         room.last("s", "JOBS", "--again"), room.begun()), ((0, count), {"g.a": 1}))

@@ -201,9 +201,10 @@ def taken(tries: Shared) -> None:
                   {name: os.stat(f"{room.path}/s.out/g.{name}").st_size for name in found})
     small = int(found["none.0"]["memory"])
     tries.holds(f"{kind}: less than the driver has", room.path, 0 < small < 8 << 20, small)
-    tries.is_same(f"{kind}: of a failure", room.path, [
-        (it[5], it[9]) for it in (line.split("\t") for line in room.lines("s.log"))
-        if it[2] in ("fails", "dies")], [("exit 3", "3"), ("signal 9", "0")])
+    # (the two end at about the same time, so the log has them in either order)
+    tries.is_same(f"{kind}: of a failure", room.path, sorted(
+        (it[2], it[5], it[9]) for it in (line.split("\t") for line in room.lines("s.log"))
+        if it[2] in ("fails", "dies")), [("dies", "signal 9", "0"), ("fails", "exit 3", "3")])
     tries.is_same(f"{kind}: nothing is known of what was killed with its shell", room.path,
                   found["killed.0"], {"cpu": "-", "memory": "-", "output": "0", "limits": "-"})
     tries.holds(f"{kind}: a daemon doesn't count", room.path,
