@@ -198,7 +198,7 @@ def answering(tries: Shared, answer: str) -> Any:
     text = answer.replace(".", "\n")
     with tempfile.NamedTemporaryFile("w", dir=tries.folder, delete=False) as file:
         file.write(f"#!/bin/sh\n{TAKES_PLAN}printf 'plan 1\n\n'\n"
-                   f"while read -r it; do [ -n \"$it\" ] || printf '{text}'; done\n")
+                   f"while read -r it; do [ -n \"$it\" ] || {{ printf '{text}'; }}; done\n")
     os.chmod(file.name, 0o755)
     os.environ["NIGHT"] = file.name
     return it
@@ -232,8 +232,11 @@ def wrong_answers(tries: Shared) -> None:
 
 def answer_is_two(tries: Shared) -> None:
     """What comes after an answer isn't taken for the answer to the next question."""
-    it, facts = answering(tries, ".'; sleep 0.2; printf '."), facts_of(tries, {})
+    waits = "until [ -e ${0}go ]; do sleep 1; done"
+    it, facts = answering(tries, f".'; {waits}; printf '."), facts_of(tries, {})
     it.choose(facts, 1, 0.0)
+    with open(f"{os.environ['NIGHT']}go", "w", encoding="ascii"):
+        pass
     select.select([it.asking.replies], [], [], 60)
     tries.is_same("an answer before its question", "an empty line",
                   fault_of(tries, lambda: it.choose(facts, 2, 0.0)),
