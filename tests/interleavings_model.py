@@ -6,10 +6,10 @@ stands where a guard goes that no statement drops. EFFECTS says what a statement
 there can't be run. `explore` takes the steps of all threads in every order, and returns the first
 state that must not be.
 
-A step is an access to a counter of the arrivals, a lock that is taken, a sleep, a wake-up, the
-turns of a task, or a join. What lies under a lock is touched under it alone, so a statement that
-touches nothing else is of one step with the statement before it. Turns look at a scope under the
-lock, and touch no counter: of that there is no step.
+A step is a lock that is taken, a sleep, a wake-up, the turns of a task, or a join. What lies under
+a lock is touched under it alone, so a statement that touches nothing else is of one step with the
+statement before it. Turns look at a scope under the lock, and touch no counter: of that there is no
+step.
 """
 
 from __future__ import annotations
@@ -22,32 +22,52 @@ from dataclasses import dataclass
 Place = tuple[str, str]
 
 BODIES: dict[Place, str] = {
+    ("arrival_counts.rt", "come"): """
+        self.awake = self.awake.saturating_add(1);
+        """,
+    ("arrival_counts.rt", "go"): """
+        let is_last = self.is_last();
+        self.awake = self.awake.saturating_sub(1);
+        is_last
+        """,
+    ("arrival_counts.rt", "is_last"): """
+        self.awake == 1
+        """,
+    ("arrival_counts.rt", "sleep"): """
+        self.awake = self.awake.saturating_sub(1);
+        self.asleep = self.asleep.saturating_add(1);
+        self.flushes
+        """,
+    ("arrival_counts.rt", "wake"): """
+        if self.flushes == flushes {
+            self.asleep = self.asleep.saturating_sub(1);
+            self.awake = self.awake.saturating_add(1);
+        }
+        """,
+    ("arrival_counts.rt", "save"): """
+        self.awake = self.awake.saturating_add(self.asleep);
+        self.asleep = 0;
+        self.flushes = self.flushes.wrapping_add(1);
+        """,
     ("arrivals.rt", "come"): """
-        self.awake.fetch_add(1, Ordering::SeqCst);
+        self.counts.lock(rt).come();
         """,
     ("arrivals.rt", "go"): """
-        if self.awake.fetch_sub(1, Ordering::SeqCst) == 1 {
+        if self.counts.lock(rt).go() {
             self.moved.notify_one();
         }
         """,
     ("arrivals.rt", "is_last"): """
-        self.awake.load(Ordering::SeqCst) == 1
+        self.counts.lock(rt).is_last()
         """,
     ("arrivals.rt", "sleep"): """
-        let flushes = self.flushes.load(Ordering::SeqCst);
-        self.asleep.fetch_add(1, Ordering::SeqCst);
-        self.awake.fetch_sub(1, Ordering::SeqCst);
+        let flushes = self.counts.lock(rt).sleep();
         let guard = self.moved.wait(rt, guard);
-        if self.flushes.load(Ordering::SeqCst) == flushes {
-            self.asleep.fetch_sub(1, Ordering::SeqCst);
-            self.awake.fetch_add(1, Ordering::SeqCst);
-        }
+        self.counts.lock(rt).wake(flushes);
         guard
         """,
     ("arrivals.rt", "wake"): """
-        self.flushes.fetch_add(1, Ordering::SeqCst);
-        let asleep = self.asleep.swap(0, Ordering::SeqCst);
-        self.awake.fetch_add(asleep, Ordering::SeqCst);
+        self.counts.lock(rt).save();
         self.moved.notify_all();
         """,
     ("saves.rt", "save"): """
@@ -55,18 +75,18 @@ BODIES: dict[Place, str] = {
         for _ in rt.forever() {
             let durable = place.durable();
             if event <= durable {
-                arrivals.go();
+                arrivals.go(rt);
                 // place is dropped
                 return Ok(durable);
             }
-            if !arrivals.is_last() {
+            if !arrivals.is_last(rt) {
                 place = arrivals.sleep(rt, place);
                 continue;
             }
             let flushed = place.flush();
-            arrivals.wake(&place);
+            arrivals.wake(rt, &place);
             if let Err(trouble) = flushed {
-                arrivals.go();
+                arrivals.go(rt);
                 // place is dropped
                 return Err(trouble);
             }
@@ -97,11 +117,11 @@ BODIES: dict[Place, str] = {
         unreachable!()
         """,
     ("thread_calls.rt", "start"): """
-        self.arrivals.come();
+        self.arrivals.come(self.rt);
         let mut place = self.shared.lock(self.rt);
         let started = place.start_as(own);
         if started.is_err() {
-            self.arrivals.go();
+            self.arrivals.go(self.rt);
         }
         // place is dropped
         started
@@ -110,10 +130,10 @@ BODIES: dict[Place, str] = {
         save(self.rt, self.shared, self.arrivals, event)
         """,
     ("thread_calls.rt", "finish"): """
-        self.arrivals.come();
+        self.arrivals.come(self.rt);
         let mut place = self.shared.lock(self.rt);
         let finished = place.finish_as(own, task, outcome);
-        self.arrivals.go();
+        self.arrivals.go(self.rt);
         // place is dropped
         finished
         """,
@@ -124,7 +144,7 @@ BODIES: dict[Place, str] = {
         self.signal.wait(self.rt, heard)
         """,
     ("flusher_calls.rt", "save"): """
-        self.arrivals.come();
+        self.arrivals.come(self.rt);
         save(self.rt, self.shared, self.arrivals, event)
         """,
     ("flusher_calls.rt", "save_wakes"): """
@@ -280,7 +300,7 @@ BODIES: dict[Place, str] = {
 
 def statements(body: str) -> list[str]:
     """The statements of a body and the heads of its blocks, in order, without comments, contracts
-    of closures, fields of literals and patterns, `self.`, and the one ordering that there is."""
+    of closures, fields of literals and patterns, and `self.`."""
     return [it for it in pieces(re.sub(r"//[^\n]*", "", body)) if it not in ("{", "}")]
 
 
@@ -288,7 +308,7 @@ def pieces(body: str) -> list[str]:
     """The same with the braces, and with the comments that the body has."""
     body = re.sub(r"\b(?:requires|ensures)\b[^{;]*\{[^{}]*\}", "", body)
     body = re.sub(r"\b([A-Z]\w*) \{[^{}]*\}", r"\1", body)
-    body = re.sub(r"(?:, )?Ordering::SeqCst|\bself\.", "", body)
+    body = re.sub(r"\bself\.", "", body)
     body = re.sub(r"//([^\n]*)", r";//\1;", body)
     found = [re.sub(r"\s+", " ", it).strip(" ") for it in re.split(r"([;{}])", body)]
     return [it for it in found if it and it not in (";", ",", ")", ",)", ", )")]
@@ -392,56 +412,69 @@ def calls(file: str, line: str, called: str, function: str) -> None:
 
 # The arrivals.
 
-@does("arrivals.rt", "awake.fetch_add(1)", is_step=True)
+COUNTED = {"counts.lock(rt).come()": "come", "if counts.lock(rt).go()": "go",
+           "counts.lock(rt).is_last()": "is_last", "let flushes = counts.lock(rt).sleep()": "sleep",
+           "counts.lock(rt).wake(flushes)": "wake", "counts.lock(rt).save()": "save"}
+
+
+@does("arrivals.rt", *COUNTED, is_step=True)
+def lock_counts(it: Night, me: int) -> None:
+    pass
+
+
+for _line, _function in COUNTED.items():
+    calls("arrivals.rt", _line, "arrival_counts.rt", _function)
+calls("arrival_counts.rt", "let is_last = is_last()", "arrival_counts.rt", "is_last")
+
+
+@does("arrival_counts.rt", "awake = awake.saturating_add(1)")
 def come(it: Night, me: int) -> None:
     it.awake += 1
 
 
-@does("arrivals.rt", "awake.fetch_sub(1)", "if awake.fetch_sub(1) == 1", is_step=True)
+@does("arrival_counts.rt", "awake = awake.saturating_sub(1)")
 def go(it: Night, me: int) -> None:
-    it.test[me] = it.awake == 1
-    it.awake -= 1
+    it.awake = max(0, it.awake - 1)
 
 
-@does("arrivals.rt", "awake.fetch_add(asleep)", is_step=True)
-def come_again(it: Night, me: int) -> None:
-    it.awake += it.kept[me]
-    it.kept[me] = 0
-
-
-@does("arrivals.rt", "awake.load() == 1", is_step=True)
+@does("arrival_counts.rt", "awake == 1")
 def is_one(it: Night, me: int) -> None:
     it.test[me] = it.awake == 1
 
 
-@does("arrivals.rt", "asleep.fetch_add(1)", is_step=True)
+@does("arrival_counts.rt", "asleep = asleep.saturating_add(1)")
 def lie_down(it: Night, me: int) -> None:
     it.asleep += 1
 
 
-@does("arrivals.rt", "asleep.fetch_sub(1)", is_step=True)
+@does("arrival_counts.rt", "asleep = asleep.saturating_sub(1)")
 def get_up(it: Night, me: int) -> None:
-    it.asleep -= 1
+    it.asleep = max(0, it.asleep - 1)
 
 
-@does("arrivals.rt", "let asleep = asleep.swap(0)", is_step=True)
-def count_sleepers(it: Night, me: int) -> None:
-    it.kept[me], it.asleep = it.asleep, 0
-
-
-@does("arrivals.rt", "flushes.fetch_add(1)", is_step=True)
-def count_flush(it: Night, me: int) -> None:
-    it.flushes += 1
-
-
-@does("arrivals.rt", "let flushes = flushes.load()", is_step=True)
+@does("arrival_counts.rt", "flushes")
 def keep_flushes(it: Night, me: int) -> None:
     it.kept[me] = it.flushes
 
 
-@does("arrivals.rt", "if flushes.load() == flushes", is_step=True)
+@does("arrival_counts.rt", "if flushes == flushes")
 def is_no_flush(it: Night, me: int) -> None:
     it.test[me], it.kept[me] = it.flushes == it.kept[me], 0
+
+
+@does("arrival_counts.rt", "awake = awake.saturating_add(asleep)")
+def count_sleepers(it: Night, me: int) -> None:
+    it.awake += it.asleep
+
+
+@does("arrival_counts.rt", "asleep = 0")
+def count_none(it: Night, me: int) -> None:
+    it.asleep = 0
+
+
+@does("arrival_counts.rt", "flushes = flushes.wrapping_add(1)")
+def count_flush(it: Night, me: int) -> None:
+    it.flushes += 1
 
 
 @does("arrivals.rt", "let guard = moved.wait(rt, guard)", is_step=True)
@@ -633,7 +666,7 @@ def end(it: Night, me: int) -> None:
 
 
 @does("saves.rt", "return Ok(durable)")
-@does("arrivals.rt", "if true")
+@does("arrival_counts.rt", "if true")
 @does("thread_calls.rt", "if true")
 @does("nights.rt", "let Ok(mut notes) = Vec::with_capacity(alloc, jobs.len()) else",
       "let Ok(workers) = workers_of(alloc, own, jobs) else", "left")
@@ -664,12 +697,12 @@ def invert(it: Night, me: int) -> None:
 
 
 for _file in ("saves.rt", "thread_calls.rt", "flusher_calls.rt"):
-    calls(_file, "arrivals.come()", "arrivals.rt", "come")
-    calls(_file, "arrivals.go()", "arrivals.rt", "go")
-calls("saves.rt", "if !arrivals.is_last()", "arrivals.rt", "is_last")
-does("saves.rt", "if !arrivals.is_last()")(invert)
+    calls(_file, "arrivals.come(rt)", "arrivals.rt", "come")
+    calls(_file, "arrivals.go(rt)", "arrivals.rt", "go")
+calls("saves.rt", "if !arrivals.is_last(rt)", "arrivals.rt", "is_last")
+does("saves.rt", "if !arrivals.is_last(rt)")(invert)
 calls("saves.rt", "place = arrivals.sleep(rt, place)", "arrivals.rt", "sleep")
-calls("saves.rt", "arrivals.wake(&place)", "arrivals.rt", "wake")
+calls("saves.rt", "arrivals.wake(rt, &place)", "arrivals.rt", "wake")
 calls("thread_calls.rt", "save(rt, shared, arrivals, event)", "saves.rt", "save")
 calls("thread_calls.rt", "signal.wake(rt, event)", "flush_signals.rt", "wake")
 calls("flusher_calls.rt", "signal.wait(rt, heard)", "flush_signals.rt", "wait")
@@ -699,6 +732,7 @@ calls("nights.rt", "let left = joined(rt, gate, handles, shifts, count)", "night
 # comes to that, so all are there from the beginning.
 IDLE: dict[str, tuple[str, ...]] = {
     "arrivals.rt": ("guard",),
+    "arrival_counts.rt": ("is_last",),
     "saves.rt": ("let durable = place.durable()",),
     "flusher_calls.rt": ("return", "heard = event"),
     "courses.rt": ("return", "let task = started.info.task", "notes.note(Note)",

@@ -1,6 +1,6 @@
 -- Each turn comes after the start of its task has become durable.
-use Rattle.std.proofs.Common.{◌≡◌, ◌∙◌, ◌⊎◌, ℕ, zero, suc, ◌≤◌, List, [], ◌∷◌, ◌++◌, Bool, All, Ok}
-use Rattle.std.proofs.Common.{true, false, Err, Some, None, ap, append-nil, append_assoc, inl, inr}
+use Rattle.std.proofs.Common.{◌≡◌, ◌∙◌, ℕ, zero, suc, ◌≤◌, List, [], ◌∷◌, ◌++◌, Bool, All, Ok}
+use Rattle.std.proofs.Common.{true, false, Err, ap, append-nil, append_assoc, inl, inr}
 use Rattle.std.proofs.Common.{refl, subst, sym}
 use Rattle.std.proofs.lemmas.List.Elements.{All-append, All-cons, All-head, All-nil, All-rest}
 use Rattle.std.specs.Prelude.{⊤}

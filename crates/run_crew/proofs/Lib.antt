@@ -5,10 +5,10 @@ pub mod Counting
 pub mod Coursing
 pub mod Durability
 pub mod Following
-pub mod GatedShifts
 pub mod PrintedNights
 pub mod Permuting
 pub mod Rooms
+pub mod SomeShifts
 pub mod Stepping
 pub mod Strays
 pub mod Turning

@@ -1,10 +1,10 @@
 -- The turns of a worker's jobs, as the calls of its shift show them.
-use Rattle.std.proofs.Common.{◌≡◌, ◌∙◌, ℕ, zero, suc, ◌<◌, ◌+◌, List, [], ◌∷◌, ◌++◌, length, Bool}
-use Rattle.std.proofs.Common.{true, false, Ok, Option, Some, ap, arith, inl, inr, refl, subst, sym}
+use Rattle.std.proofs.Common.{◌≡◌, ◌∙◌, ℕ, zero, suc, ◌<◌, List, [], ◌∷◌, ◌++◌, length, Bool}
+use Rattle.std.proofs.Common.{true, false, Ok, Some, ap, arith, inl, inr, refl, subst, sym}
 use Rattle.std.proofs.lemmas.List.{length-set}
 use Rattle.std.proofs.lemmas.Bool.{cases_lt}
 use Rattle.std.proofs.lemmas.Option.{slice_get_within}
-use Rattle.std.specs.Prelude.{IfSome, MatchOption, ⊤, codes, slice_get, slice_set}
+use Rattle.std.specs.Prelude.{IfSome, MatchOption, ⊤, slice_get, slice_set}
 use Rattle.run_model.specs.declared.answers.TaskInfo.{TaskInfo}
 use Rattle.run_model.specs.declared.tasks.Outcome.{Outcome}
 use Rattle.run_crew.specs.declared.jobs.Turn.{Turn}

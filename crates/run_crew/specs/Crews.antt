@@ -1,6 +1,6 @@
 -- A crew over a store: what it leaves on the disk, and what is printed.
 use Rattle.std.specs.Prelude.{◌≡◌, ◌⊎◌, ◌≤◌, ◌+◌, ◌++◌, ℕ, List, length, Bool, Option, Result, Ok}
-use Rattle.std.specs.Prelude.{All, Err, Some, true, ⊤, [], codes, is_ok, IfOk, MatchResult, OnOk}
+use Rattle.std.specs.Prelude.{Err, Some, true, ⊤, [], codes, is_ok, IfOk, MatchResult, OnOk}
 use Rattle.std.specs.Fmt.{decimal}
 use Rattle.std.specs.Io.KnownBytes.{Appends}
 use Rattle.std.specs.List.{list_all}
@@ -23,7 +23,6 @@ use Rattle.book_model.specs.Stores.{Stores, StoresPrefix, StoresOpened, restarte
 use Rattle.run_crew.specs.declared.audits.Strayed.{Strayed}
 use Rattle.run_crew.specs.declared.notes.Note.{Note}
 use Rattle.run_crew.specs.Audits.{HasStrayed, IsComplete, made_at}
-use Rattle.run_crew.specs.Courses.{Call, IsSomeShift}
 use Rattle.run_crew.specs.Desks.{DeskView, finishes_of, starts_of}
 use Rattle.run_crew.specs.Notes.{all_notes, noted}
 use Rattle.run_crew.specs.Openings.{Carries, From, Known, is_work, opened_of}
@@ -81,11 +80,10 @@ pub record WasLeft {D : Type 0} (state : D → DiskState) (known : Known) (left 
   pub carries : Carries known state book
   pub disk : book.journal.disk ≡ left
 
--- This many workers left a desk and a list of notes each, and the gate gave such answers to their
--- calls. Then the desk's book was flushed. The book carries on from what is known about it, and
--- this is its disk.
-pub record IsWorked {D : Type 0} (state : D → DiskState) (known : Known) (ByGate : Call → Type 0)
-    (workers : ℕ)
+-- This many workers left a desk and a list of notes each, and their shifts were like this. Then the
+-- desk's book was flushed. The book carries on from what is known about it, and this is its disk.
+pub record IsWorked {D : Type 0} (state : D → DiskState) (known : Known)
+    (Shifts : List (List Note) → Type 0) (workers : ℕ)
     (audited : Result ⊤ Strayed) (starts finishes : ℕ) (flushed : Result ℕ Trouble)
     (left : D) : Type 0
   where
@@ -106,7 +104,7 @@ pub record IsWorked {D : Type 0} (state : D → DiskState) (known : Known) (ByGa
     pub exactly : OnOk audited (IsPermutation (made_at desk) (all_notes lists))
     pub started : starts ≡ starts_of desk.book.session.history
     pub finished : finishes ≡ finishes_of desk.book.session.history
-    pub gate : All (IsSomeShift ByGate) lists
+    pub shifts : Shifts lists
     pub each_has_a_list : length lists ≡ workers
     pub each_is_noted : finishes ≡ noted lists
     pub each_was_started : finishes ≤ starts
@@ -137,11 +135,13 @@ pub record AcksNight (p : State) (work : List Event) (n : ℕ) (s : DiskState) :
 -- A run over a disk, which is returned: the result, what was printed, and what a crash leaves of
 -- the disk at any moment since the call began, if the disk was honest and at rest. There are three
 -- cases. No book was opened: the fault gives the reason, and nothing was printed. A book was
--- opened, but memory or a thread was refused: nothing was printed. Or the workers ran, and the
--- report about what they left was printed.
-abbrev pub CrewEnds : {D : Type 0} → (D → DiskState) → (ByGate : Call → Type 0) → (given : D)
-    → (workers : ℕ) → Result Bool RunFault → (left : D) → (w0 w1 : Option (List ℕ)) → Type 0
-CrewEnds {D = D} state ByGate given workers answer left w0 w1 =
+-- opened, but memory or a thread was refused: nothing was printed. Or the workers ran, their shifts
+-- were like this, given the facts known about the opened book, and the report about what they left
+-- was printed.
+abbrev pub CrewEnds : {D : Type 0} → (D → DiskState) → (Shifts : Known → List (List Note) → Type 0)
+    → (given : D) → (workers : ℕ) → Result Bool RunFault → (left : D)
+    → (w0 w1 : Option (List ℕ)) → Type 0
+CrewEnds {D = D} state Shifts given workers answer left w0 w1 =
     ((why : Fault) × (answer ≡ Err (stopped why)) × OpensNot state given why left × (w1 ≡ w0)
     × Promises (state given) (λ p. LeavesOnly (StoresOpened p) (state given) (state left)))
     ⊎ ((b : BookView D) × HasOpened state given b
@@ -150,8 +150,8 @@ CrewEnds {D = D} state ByGate given workers answer left w0 w1 =
     × Promises (state given) (λ p. (work : List Event)
     × KeepsNight p work (state given) (state left)))
     ⊎ ((audited : Result ⊤ Strayed) × (starts : ℕ) × (finishes : ℕ) × (flushed : Result ℕ Trouble)
-    × (worked : IsWorked state (From (opened_of state b)) ByGate workers audited starts
-    finishes flushed left)
+    × (worked : IsWorked state (From (opened_of state b)) (Shifts (From (opened_of state b)))
+    workers audited starts finishes flushed left)
     × IsReported audited starts finishes flushed answer w0 w1
     × Promises (state given) (λ p.
     KeepsNight p worked.desk.book.session.history (state given) (state left)

@@ -1,3 +1,4 @@
+pub mod Arrivals
 pub mod Audits
 pub mod Courses
 pub mod Crews

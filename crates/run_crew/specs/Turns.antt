@@ -13,6 +13,7 @@ use Rattle.run_crew.specs.declared.notes.Note.{Note}
 use Rattle.run_crew.specs.Courses.{Call, most_turns}
 use Rattle.run_crew.specs.Courses as call
 use Rattle.run_crew.specs.Desks.{DeskView}
+use Rattle.run_crew.specs.Openings.{Carries, Known}
 
 module _ {J : Type 0} (answers : J → List ℕ → Bool → Type 0)
     (turns : J → TaskInfo → ℕ → Bool → Turn → J → Type 0) (Answered : Call → Type 0) where
@@ -97,10 +98,13 @@ TurnsFollow calls =
     (answer : Turn) → calls ≡ early ++ call.Make place info number done answer ∷ late
     → IsStarted early info
 
--- Some desk counted the start of the task in this note among its durable events.
-pub record WasDurable {D : Type 0} (state : D → DiskState) (note : Note) : Type 0 where
+-- Some desk whose book carries on from what is known counted the start of the task in this note
+-- among its durable events.
+pub record WasDurable {D : Type 0} (state : D → DiskState) (known : Known) (note : Note)
+    : Type 0 where
   pub started : Started
   pub desk : DeskView D
   pub task : note.task ≡ started.info.task
+  pub carries : Carries known state desk.book
   pub counted : started.event ≤ desk.book.durable
   pub durable : IsDurable state desk.book

@@ -1,69 +1,58 @@
-//! [`Arrivals`] counts the threads that are on their way to the lock to start, finish or flush, and
+//! [`Arrivals`] are the threads that are on their way to the lock to start, finish or flush, and
 //! those that sleep until another thread has flushed.
 
-use std::sync::atomic::{AtomicU64, Ordering};
-use std::sync::{Condvar, MutexGuard, Wait};
+use crate::arrival_counts::ArrivalCounts;
+use std::sync::{Condvar, Mutex, MutexGuard, Wait};
 
-/// Counts the threads that are on their way to the lock or hold it, those that sleep, and the
-/// flushes so far, modulo 2^64. A thread calls `come` before it takes the lock. It makes all other
-/// calls while it holds the lock, so that none goes to sleep after the last call that would wake
-/// it.
+/// The threads on their way to the lock of the book, and those that sleep. Their counts have a lock
+/// of their own. A thread calls `come` before it takes the lock of the book. It makes all other
+/// calls while it holds that lock, so that none goes to sleep after the last call that would wake
+/// it. No thread waits for anything else while it holds the lock of the counts.
 #[derive(Drop)]
 pub struct Arrivals {
-    awake: AtomicU64,
-    asleep: AtomicU64,
-    flushes: AtomicU64,
+    counts: Mutex<ArrivalCounts>,
     moved: Condvar,
 }
 
 impl Arrivals {
-    /// Returns the counts before any thread has come.
+    /// No thread has come yet.
     pub fn new() -> Arrivals {
         Arrivals {
-            awake: AtomicU64::new(0),
-            asleep: AtomicU64::new(0),
-            flushes: AtomicU64::new(0),
+            counts: Mutex::new(ArrivalCounts::new()),
             moved: Condvar::new(),
         }
     }
 
     /// A thread sets out for the lock.
-    pub fn come(&self) {
-        self.awake.fetch_add(1, Ordering::SeqCst);
+    pub fn come<R: Wait>(&self, rt: &R) {
+        self.counts.lock(rt).come();
     }
 
     /// A thread leaves. If it was the last one on the way, a thread that sleeps is woken, to flush.
-    pub fn go(&self) {
-        if self.awake.fetch_sub(1, Ordering::SeqCst) == 1 {
+    pub fn go<R: Wait>(&self, rt: &R) {
+        if self.counts.lock(rt).go() {
             self.moved.notify_one();
         }
     }
 
     /// Returns whether no other thread is on its way.
-    pub fn is_last(&self) -> bool {
-        self.awake.load(Ordering::SeqCst) == 1
+    pub fn is_last<R: Wait>(&self, rt: &R) -> bool {
+        self.counts.lock(rt).is_last()
     }
 
-    /// Releases the lock, and sleeps until a flush was made or no thread is on its way any more. It
-    /// may also wake for no reason.
+    /// Releases the lock of the book, and sleeps until a flush was made or no thread is on its way
+    /// any more. It may also wake for no reason.
     pub fn sleep<'a, T, R: Wait>(&self, rt: &R, guard: MutexGuard<'a, T>) -> MutexGuard<'a, T> {
-        let flushes = self.flushes.load(Ordering::SeqCst);
-        self.asleep.fetch_add(1, Ordering::SeqCst);
-        self.awake.fetch_sub(1, Ordering::SeqCst);
+        let flushes = self.counts.lock(rt).sleep();
         let guard = self.moved.wait(rt, guard);
-        if self.flushes.load(Ordering::SeqCst) == flushes {
-            self.asleep.fetch_sub(1, Ordering::SeqCst);
-            self.awake.fetch_add(1, Ordering::SeqCst);
-        }
+        self.counts.lock(rt).wake(flushes);
         guard
     }
 
-    /// The thread that holds the lock has flushed. All sleeping threads count as on their way from
-    /// now on, even before they wake. So the next flush includes what they start.
-    pub fn wake<T>(&self, _held: &MutexGuard<'_, T>) {
-        self.flushes.fetch_add(1, Ordering::SeqCst);
-        let asleep = self.asleep.swap(0, Ordering::SeqCst);
-        self.awake.fetch_add(asleep, Ordering::SeqCst);
+    /// The thread that holds the lock of the book has flushed. All sleeping threads count as on
+    /// their way from now on, even before they wake. So the next flush includes what they start.
+    pub fn wake<T, R: Wait>(&self, rt: &R, _held: &MutexGuard<'_, T>) {
+        self.counts.lock(rt).save();
         self.moved.notify_all();
     }
 }

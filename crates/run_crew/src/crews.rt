@@ -4,7 +4,7 @@ ghost use Rattle.std.specs.Prelude.{◌≡◌, ◌+◌, ◌++◌, ◌<◌, ◌�
 ghost use Rattle.arrayvec.specs.ArrayVec.{array_vec_len};
 ghost use Rattle.run_model.specs.declared.faults.Fault.TheVariants.{Memory};
 ghost use Rattle.run_model.specs.Session.{begun_at};
-ghost use Rattle.run_crew.specs.Courses.{IsGates};
+ghost use Rattle.run_crew.specs.Nights.{AreShifts, OfDesk};
 ghost use Rattle.run_crew.specs.Openings.{Carries};
 ghost use Rattle.console_lines.specs.Appended.{Appended};
 ghost use Rattle.run_crew.specs.Crews.{CrewEnds, IsReported, IsWorked, WasLeft, audit_line};
@@ -47,8 +47,11 @@ pub fn crew<D: RunDisk + Drop + Send, G: Gate + Sync, R: Threads + Wait + Sync, 
     gate: &G,
     output: &mut W,
 ) -> Result<bool, RunFault>
-    ensures { (left : D) × CrewEnds D.state (IsGates (G.lets gate.now) (G.reported gate.now)) disk
-        (vec_len jobs) result left (W.contents output.old) (W.contents output.new) }
+    ensures { (left : D) × CrewEnds D.state (λ known lists.
+        AreShifts (OfDesk D.state known (G.lets gate.now) (G.reported gate.now))
+        ⟦<Box<dyn Job + Send> as Job>⟧.answers ⟦<Box<dyn Job + Send> as Job>⟧.turns
+        (λ list. list.items) jobs.items lists)
+        disk (vec_len jobs) result left (W.contents output.old) (W.contents output.new) }
 {
     let (done, _) = crew_over(rt, alloc, disk, jobs, gate, output);
     done
@@ -65,8 +68,11 @@ pub fn crew_over<D: RunDisk + Drop + Send, G: Gate + Sync, R: Threads + Wait + S
     gate: &G,
     output: &mut W,
 ) -> (Result<bool, RunFault>, D)
-    ensures { CrewEnds D.state (IsGates (G.lets gate.now) (G.reported gate.now)) disk
-        (vec_len jobs) result.0 result.1 (W.contents output.old) (W.contents output.new) }
+    ensures { CrewEnds D.state (λ known lists.
+        AreShifts (OfDesk D.state known (G.lets gate.now) (G.reported gate.now))
+        ⟦<Box<dyn Job + Send> as Job>⟧.answers ⟦<Box<dyn Job + Send> as Job>⟧.turns
+        (λ list. list.items) jobs.items lists)
+        disk (vec_len jobs) result.0 result.1 (W.contents output.old) (W.contents output.new) }
 {
     let book = match Book::open(alloc, disk) {
         Ok(book) => book,
@@ -120,7 +126,9 @@ fn work<
     requires begun { book.session ≡ begun_at book.session.start }
     requires carries { Carries O.opening D.state book }
     ensures worked { MatchResult result.0 (λ report. IsWorked D.state O.opening
-        (IsGates (G.lets gate.now) (G.reported gate.now)) (vec_len jobs) report.audited
+        (AreShifts (OfDesk D.state O.opening (G.lets gate.now) (G.reported gate.now))
+        ⟦<Box<dyn Job + Send> as Job>⟧.answers ⟦<Box<dyn Job + Send> as Job>⟧.turns
+        (λ list. list.items) jobs.items) (vec_len jobs) report.audited
         report.starts report.finishes report.flushed result.1) (λ fault. fault ≡ Memory) }
     ensures left { WasLeft D.state O.opening result.1 }
 {

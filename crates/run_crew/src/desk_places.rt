@@ -1,12 +1,6 @@
 //! A [`Desk`] is a [`Place`], which is how the threads see it.
 
-ghost use Rattle.std.specs.Prelude.{◌≡◌};
-ghost use Rattle.run_model.specs.declared.answers.Reply.TheVariants as reported;
-ghost use Rattle.run_model.specs.declared.commands.Step.TheVariants as step;
-ghost use Rattle.run_model.specs.Session.{replied};
-ghost use Rattle.book_model.specs.Books.{Flushes, IsDurable};
-ghost use Rattle.run_crew.specs.Desks.{is_done_for};
-ghost use Rattle.run_crew.specs.Steps.{TakesStep};
+ghost use Rattle.run_crew.specs.Nights.{FinishesAt, FlushesAt, HoldsAt, ReportsAt, StartsAt};
 
 use crate::desks::Desk;
 use crate::openings::Opening;
@@ -17,32 +11,34 @@ use run_model::{Outcome, Refusal, Started, Trouble};
 use std::sync::ledger::Ledger;
 
 impl<D: RunDisk, S: Ledger, F: Ledger, O: Opening> Place for Desk<D, S, F, O> {
-    ghost holds = { λ d n. (n ≡ d.book.durable) × IsDurable D.state d.book };
+    ghost holds = { HoldsAt D.state O.opening };
 
-    ghost flushes = { λ d r e. Flushes D.state d.book r e.book };
+    ghost flushes = { FlushesAt D.state O.opening };
 
-    ghost reports = { λ d task answer. answer ≡ is_done_for d.book.session.state task };
+    ghost reports = { ReportsAt D.state O.opening };
 
     fn durable(&self) -> u64 {
         self.book().durable()
     }
 
     fn flush(&mut self) -> Result<u64, Trouble> {
+        let _book = self.book();
         Desk::flush(self)
     }
 
     fn is_done(&self, task: u16) -> bool {
+        let _book = self.book();
         Desk::is_done(self, task)
     }
 }
 
 impl<D: RunDisk, S: Ledger, F: Ledger, O: Opening> CountedPlace<S, F> for Desk<D, S, F, O> {
-    ghost starts = { λ d r e. TakesStep D.state d step.Start (replied reported.Started r) e };
+    ghost starts = { StartsAt D.state O.opening };
 
-    ghost finishes = { λ d task how r e.
-        TakesStep D.state d (step.Finish task how) (replied reported.Finished r) e };
+    ghost finishes = { FinishesAt D.state O.opening };
 
     fn start_as(&mut self, own: &mut OwnCounts<S, F>) -> Result<Started, Refusal> {
+        let _book = self.book();
         Desk::start_as(self, own)
     }
 
@@ -52,6 +48,7 @@ impl<D: RunDisk, S: Ledger, F: Ledger, O: Opening> CountedPlace<S, F> for Desk<D
         task: u16,
         outcome: &Outcome,
     ) -> Result<u64, Refusal> {
+        let _book = self.book();
         Desk::finish_as(self, own, task, outcome)
     }
 }

@@ -65,7 +65,7 @@ impl<'a, T: Place, R: Wait> FlusherCalls for ThreadFlusher<'a, T, R> {
     }
 
     fn save(&mut self, event: u64) -> Result<u64, Trouble> {
-        self.arrivals.come();
+        self.arrivals.come(self.rt);
         save(self.rt, self.shared, self.arrivals, event)
     }
 }

@@ -8,6 +8,7 @@
 //! store on a disk, and prints the audit.
 #![tactic(auto)]
 
+mod arrival_counts;
 mod arrivals;
 mod audits;
 mod counts;

@@ -4,8 +4,8 @@ ghost use Rattle.std.specs.Prelude.{◌≡◌, ◌⊎◌, ◌<◌, ◌≤◌, []
 ghost use Rattle.std.specs.Prelude.{IfOk, IfErr, OnOk};
 ghost use Rattle.run_model.specs.declared.faults.Fault.TheVariants.{Memory};
 ghost use Rattle.std.specs.List.{AllZip};
-ghost use Rattle.run_crew.specs.Courses.{IsAnswered, IsGates, IsOfShift, IsSomeShift};
-ghost use Rattle.run_crew.specs.Nights.{FlushesNight, OfDesk};
+ghost use Rattle.run_crew.specs.Courses.{IsAnswered, IsOfShift};
+ghost use Rattle.run_crew.specs.Nights.{AreShifts, FlushesNight, OfDesk};
 ghost use Rattle.run_crew.specs.Notes.{noted};
 ghost use Rattle.run_crew.specs.OwnCounts.{CountsNight, CountsSame, GivesParts, JoinsShifts};
 
@@ -63,10 +63,10 @@ pub fn run_night<
     ensures workers { IfOk result (λ r. vec_len r.0 ≡ vec_len jobs) }
     ensures own { IfOk result (λ r.
         CountsNight (vec_len jobs) (noted r.0.items) own.old own.new) }
-    ensures shifts { IfOk result (λ r. AllZip (λ list notes.
-        IsOfShift (OfDesk D.state (G.lets gate.now) (G.reported gate.now))
+    ensures shifts { IfOk result (λ r.
+        AreShifts (OfDesk D.state O.opening (G.lets gate.now) (G.reported gate.now))
         ⟦<Box<dyn Job + Send> as Job>⟧.answers ⟦<Box<dyn Job + Send> as Job>⟧.turns
-        list.items notes) jobs.items r.0.items) }
+        (λ list. list.items) jobs.items r.0.items) }
     ensures flushed { IfOk result (λ r. FlushesNight D.state O.opening own.new r.1) }
     ensures fault { IfErr result (λ fault. fault ≡ Memory) }
 {
@@ -96,11 +96,9 @@ pub fn run_shifts<
     ensures workers { IfOk result (λ lists. vec_len lists ≡ vec_len jobs) }
     ensures own { IfOk result (λ lists.
         CountsNight (vec_len jobs) (noted lists.items) own.old own.new) }
-    ensures gate { IfOk result (λ lists.
-        All (IsSomeShift (IsGates (G.lets gate.now) (G.reported gate.now))) lists.items) }
-    ensures shifts { IfOk result (λ lists. AllZip (λ list notes. IsOfShift
+    ensures shifts { IfOk result (λ lists. AreShifts
         (IsAnswered T.starts T.holds T.flushes T.reports T.finishes
-        (G.lets gate.now) (G.reported gate.now)) J.answers J.turns list.items notes)
+        (G.lets gate.now) (G.reported gate.now)) J.answers J.turns (λ list. list.items)
         jobs.items lists.items) }
     ensures fault { IfErr result (λ fault. fault ≡ Memory) }
 {

@@ -25,17 +25,17 @@ pub fn save<T: Place, R: Wait>(
     for _ in rt.forever() {
         let durable = place.durable();
         if event <= durable {
-            arrivals.go();
+            arrivals.go(rt);
             return Ok(durable);
         }
-        if !arrivals.is_last() {
+        if !arrivals.is_last(rt) {
             place = arrivals.sleep(rt, place);
             continue;
         }
         let flushed = place.flush();
-        arrivals.wake(&place);
+        arrivals.wake(rt, &place);
         if let Err(trouble) = flushed {
-            arrivals.go();
+            arrivals.go(rt);
             return Err(trouble);
         }
     }

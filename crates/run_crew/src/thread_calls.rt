@@ -15,8 +15,8 @@ use std::sync::ledger::Ledger;
 use std::sync::{Mutex, Wait};
 
 /// The calls of a worker in a thread. Each goes to the value under the lock, which is released
-/// after it, to the gate, which stays the same, to one of the worker's own jobs, or to the signal of
-/// the flusher.
+/// after it, to the gate, which stays the same, to one of the worker's own jobs, or to the signal
+/// of the flusher.
 #[derive(Drop)]
 pub struct ThreadCalls<'a, T, G, R, J> {
     pub rt: &'a R,
@@ -41,11 +41,11 @@ impl<'a, S: Ledger, F: Ledger, T: CountedPlace<S, F>, G: Gate, R: Wait, J: Job> 
     }
 
     fn start(&mut self, own: &mut OwnCounts<S, F>) -> Result<Started, Refusal> {
-        self.arrivals.come();
+        self.arrivals.come(self.rt);
         let mut place = self.shared.lock(self.rt);
         let started = place.start_as(own);
         if started.is_err() {
-            self.arrivals.go();
+            self.arrivals.go(self.rt);
         }
         started
     }
@@ -76,10 +76,10 @@ impl<'a, S: Ledger, F: Ledger, T: CountedPlace<S, F>, G: Gate, R: Wait, J: Job> 
         task: u16,
         outcome: &Outcome,
     ) -> Result<u64, Refusal> {
-        self.arrivals.come();
+        self.arrivals.come(self.rt);
         let mut place = self.shared.lock(self.rt);
         let finished = place.finish_as(own, task, outcome);
-        self.arrivals.go();
+        self.arrivals.go(self.rt);
         finished
     }
 

@@ -1,9 +1,10 @@
-use Rattle.std.proofs.Common.{◌∙◌, ap, subst, sym}
-use Rattle.std.specs.Prelude.{All}
+use Rattle.std.proofs.Common.{◌∙◌, ap, length, refl, subst, sym}
+use Rattle.std.specs.List.Sorted.{IsPermutation}
+use Rattle.std.specs.Prelude.{MatchResult, OnOk}
 use Rattle.book_model.specs.Books.{BookView}
-use Rattle.run_crew.specs.Courses.{IsGates, IsSomeShift}
+use Rattle.run_crew.specs.Audits.{HasStrayed, IsComplete, made_at}
 use Rattle.run_crew.specs.Desks.{DeskView}
-use Rattle.run_crew.specs.Notes.{noted}
+use Rattle.run_crew.specs.Notes.{all_notes}
 use Rattle.run_crew.specs.OwnCounts.{OwnCountsView}
 use Rattle.run_crew.proofs.Working.{acknowledged, no_finishes, no_starts, shares_count}
 use Rattle.run_crew.proofs.crews.work.Goals as goal
@@ -19,11 +20,13 @@ returns-clause-worked g c =
     (ap (λ (s : OwnCountsView). s.finishes) c.new-desk.ensures.own ∙ no_finishes c.args.book begun)
     c.in-Ok.ensures.own.finishes c.in-Ok.ensures.own.starts c.in-Ok.ensures.own.one_more
     c.settle-starts.ensures.counted.0 c.settle-starts.ensures.counted.1
-    (ap noted c.as_slice.ensures.value) in
+    refl in
+    let is = c.as_slice.ensures.value in
+    let desk = c.flush-flushed.new.self in
     record {
       book = c.into_inner-desk.result.book;
-      desk = c.flush-flushed.new.self;
-      lists = c.as_slice.result.now;
+      desk = desk;
+      lists = c.in-Ok.lists.items;
       flushes = c.flush-flushed.ensures.flushes;
       session = c.flush-flushed.ensures.flushes.saves.session;
       carries = c.book-book.ensures.carries;
@@ -35,14 +38,15 @@ returns-clause-worked g c =
           c.flush-flushed.ensures.flushes.saves;
       replays = c.book-book.ensures.replays;
       durable = c.book-book.ensures.images;
-      audit = c.audit-audited.ensures.answer;
-      exactly = c.audit-audited.ensures.exactly;
+      audit = subst (λ l. MatchResult c.audit-audited.result (λ _. IsComplete desk l)
+          (λ strayed. HasStrayed desk l strayed)) is c.audit-audited.ensures.answer;
+      exactly = subst (λ l. OnOk c.audit-audited.result
+          (IsPermutation (made_at desk) (all_notes l))) is c.audit-audited.ensures.exactly;
       started = c.settle-starts.ensures.history.0;
       finished = c.settle-starts.ensures.history.1;
-      gate = subst (λ l. All (IsSomeShift (IsGates (g.G.Gate.lets c.args.gate.now)
-          (g.G.Gate.reported c.args.gate.now))) l)
-          (sym c.as_slice.ensures.value) c.in-Ok.ensures.gate;
-      each_has_a_list = c.as_slice.ensures.len ∙ c.in-Ok.ensures.workers;
+      shifts = c.in-Ok.ensures.shifts;
+      each_has_a_list = ap (λ l. length l) (sym is)
+          ∙ (c.as_slice.ensures.len ∙ c.in-Ok.ensures.workers);
       each_is_noted = counts.0;
       each_was_started = counts.1;
       one_more_at_most = counts.2;

@@ -5,4 +5,5 @@ use Rattle.run_crew.proofs.laws.notes_are_what_the_jobs_answered.Goals as goal
 pub returns : goal.returns
 returns g c =
     λ gate jobs notes shift. shift_is_done g.J.Job.answers g.J.Job.turns
-    (OfDesk g.D.RunDisk.state (g.G.Gate.lets gate) (g.G.Gate.reported gate)) jobs notes shift
+    (OfDesk g.D.RunDisk.state g.O.Opening.opening (g.G.Gate.lets gate) (g.G.Gate.reported gate))
+    jobs notes shift

@@ -1,5 +1,5 @@
 use Rattle.run_model.proofs.Common.{arith, common_steps}
-use Rattle.std.proofs.Common.{subst, sym, ap, append-nil, append_assoc, ◌≡◌, ◌∙◌, ◌++◌, ◌∷◌, []}
+use Rattle.std.proofs.Common.{subst, sym, ap, append_assoc, ◌≡◌, ◌∙◌, ◌++◌, ◌∷◌, []}
 use Rattle.std.proofs.lemmas.List.Elements.{All-head, All-rest, All-same}
 use Rattle.std.specs.List.{AllZip}
 use Rattle.std.specs.declared.thread.PromisedHandle.{PromisedHandle}

@@ -2,7 +2,6 @@ use Rattle.std.proofs.Common.{Global, List, Vec, arith, map, subst, sym}
 use Rattle.std.specs.List.{AllZip}
 use Rattle.run_crew.specs.declared.notes.Note.{Note}
 use Rattle.run_crew.specs.Courses.{IsAnswered, IsOfShift}
-use Rattle.run_crew.proofs.GatedShifts.{gated_shifts}
 use Rattle.run_crew.proofs.Zipping.{maps_of_zip}
 use Rattle.run_crew.proofs.nights.run_shifts.Goals as goal
 
@@ -29,11 +28,3 @@ returns-clause-shifts g c =
     (subst (λ l. AllZip K (map (λ worker. worker.jobs) c.in-Ok-workers_of.workers.items) l)
     (sym c.gather.ensures.notes)
     (maps_of_zip K (λ worker. worker.jobs) (λ s. s.notes) _ _ c.in-Ok-shifts_of.ensures.shifts))
-
-pub returns-clause-gate : goal.returns-clause-gate
-returns-clause-gate g c =
-    let T = g.T in
-    gated_shifts T.CountedPlace.starts T.Place.holds T.Place.flushes T.Place.reports
-    T.CountedPlace.finishes (g.G.Gate.lets c.args.gate.now) (g.G.Gate.reported c.args.gate.now)
-    g.J.Job.answers g.J.Job.turns (λ list. list.items) c.args.jobs.items c.gather.new.notes.items
-    (returns-clause-shifts g c)
