@@ -1,6 +1,7 @@
 -- The numbers of files, of which a new one has to differ, and where one more step leaves a name.
 use Rattle.std.proofs.Common.{◌≡◌, ◌<◌, ◌≤◌, ◌+◌, ◌∷◌, [], ◌++◌, ◌&&◌, ℕ, List, Option, None, Some}
-use Rattle.std.proofs.Common.{IfSome, Bool, true, false, length, map, get_or, take, refl, ◌∙◌, arith}
+use Rattle.std.proofs.Common.{IfSome, Bool, true, false, length, map, get_or, take, refl, ◌∙◌}
+use Rattle.std.proofs.Common.{arith}
 use Rattle.std.specs.Prelude.{bytes_eq}
 use Rattle.std.specs.List.{All}
 use Rattle.std.proofs.Math.Bool.{and-true}

@@ -5,7 +5,7 @@ ghost use Rattle.std.specs.Prelude.{◌≡◌, ◌∷◌, [], false, true, None,
 ghost use Rattle.file_calls.specs.Examples.{on_9, renamed, shared, alone};
 ghost use Rattle.file_calls.specs.Locks.{excludes, without};
 ghost use Rattle.file_calls.specs.Names.{leads, may_lead, settled_step};
-ghost use Rattle.file_calls.specs.OpenFiles.{put_at, settled, written};
+ghost use Rattle.file_calls.specs.OpenFiles.{grown, put_at, settled, written};
 ghost use Rattle.file_calls.specs.declared.places.Place.TheVariants.{Dirty, Durable, Lost};
 
 /// A write puts its bytes in, and the file grows if they reach behind its end.
@@ -26,6 +26,14 @@ pub fn a_place_goes_its_way()
     ensures failed { settled Lost Dirty ≡ Lost }
     ensures synced_again { settled Durable Lost ≡ Lost }
     ensures kept { settled Lost Durable ≡ Durable }
+{}
+
+/// A file of three bytes, whose end is durable. A write of two bytes makes the end dirty if it
+/// begins at place 2, and not if it begins at place 1.
+pub fn an_end_goes_its_way()
+    ensures inside { grown 1 2 3 Durable ≡ Durable }
+    ensures behind { grown 2 2 3 Durable ≡ Dirty }
+    ensures lost { grown 1 2 3 Lost ≡ Lost }
 {}
 
 /// File 1 has the name `s`, which is durable. File 2 is created as `n`, and renamed to `s`. A crash

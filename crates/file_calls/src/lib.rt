@@ -2,6 +2,8 @@
 //! them: [`OpenFile`] for the bytes of a file, [`FolderNames`] for names, and [`FileLocks`] for
 //! locks.
 //!
+//! A [`SystemFile`] is a file of the system, and the only place where something is believed of it.
+//!
 //! [`MemoryFile`], [`MemoryNames`] and [`MemoryLocks`] meet every clause in memory. They can be
 //! made to fail at any call, and say what a crash may leave. Tests use them in place of a system
 //! that can't be made to fail when it should.
@@ -13,9 +15,11 @@ mod locks;
 mod memory_files;
 mod memory_locks;
 mod memory_names;
+mod moments;
 mod names;
 mod open_files;
 mod places;
+mod system_files;
 
 pub use locks::{FileLocks, Lock};
 pub use memory_files::MemoryFile;
@@ -24,3 +28,4 @@ pub use memory_names::MemoryNames;
 pub use names::FolderNames;
 pub use open_files::{CallFailed, OpenFile};
 pub use places::Place;
+pub use system_files::SystemFile;

@@ -26,7 +26,7 @@ struct Row {
     never: &'static [&'static [u8]],
 }
 
-fn rows() -> [Row; 9] {
+fn rows() -> [Row; 13] {
     [
         Row {
             calls: &[],
@@ -50,6 +50,30 @@ fn rows() -> [Row; 9] {
             calls: &[Call::Write(3, b"DE")],
             now: b"abcDE",
             may: &[b"abcd", b"abcDE", b"abc", b"abcD"],
+            never: &[b"ab", b"abcDEF"],
+        },
+        Row {
+            calls: &[Call::Write(2, b"XY")],
+            now: b"abXY",
+            may: &[b"abcd", b"abXY", b"abX?"],
+            never: &[b"ab", b"abX", b"abXYZ"],
+        },
+        Row {
+            calls: &[Call::Write(3, b"DE"), Call::Sync],
+            now: b"abcDE",
+            may: &[b"abcDE"],
+            never: &[b"abcd", b"abcD", b"abc"],
+        },
+        Row {
+            calls: &[Call::Write(3, b"DE"), Call::FailedSync, Call::Sync],
+            now: b"abcDE",
+            may: &[b"abcd", b"abcDE", b"abc"],
+            never: &[b"ab", b"abcDEF"],
+        },
+        Row {
+            calls: &[Call::FailedWrite(3, b"DE")],
+            now: b"abcd",
+            may: &[b"abcd", b"abcDE", b"abc"],
             never: &[b"ab", b"abcDEF"],
         },
         Row {

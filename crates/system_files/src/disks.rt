@@ -1,15 +1,17 @@
 //! A [`SystemDisk`] is a disk over a file of the system. It keeps the file's first error, and
 //! leaves the store's mark if a sync fails, and while a sync opens the gate of a slot.
 
-ghost use Rattle.std.specs.Prelude.{◌≡◌};
-ghost use Rattle.run_disk.specs.Files.{file_state, is_file_disk};
+ghost use Rattle.std.specs.Prelude.{◌≡◌, length};
+ghost use Rattle.file_disk.specs.FileDisks.{is_file_disk};
 
 use crate::error_cells::ErrorCell;
 use crate::marks::Mark;
-use run_disk::{DiskFailed, FileDisk, OPEN, RunDisk};
-use std::fs;
+use file_calls::OpenFile;
+use file_disk::FileDisk;
+use run_disk::{DiskFailed, OPEN, RunDisk};
 use std::fs::{File, Metadata};
 use std::os::unix::fs::MetadataExt;
+use std::{fs, io};
 
 /// The identity of a file, whatever its names.
 #[derive(Clone, Copy, PartialEq, Eq)]
@@ -30,13 +32,14 @@ impl Inode {
 /// A store's slots are the first two of three equal parts.
 const PARTS: u64 = 3;
 
-/// A disk over a file. It notes the error of the first call that fails, for whoever opened the
-/// file. If a sync fails, it leaves the store's mark before anything else is done. The mark also
-/// exists while a sync opens a slot: if the program is killed in the meantime, it never learns that
-/// the sync failed, and the system reports that to nobody else.
+/// A disk over an open file, and honest where the [`FileDisk`] is. It notes the error of the first
+/// call that fails, for whoever opened the file. If a sync fails, it leaves the store's mark before
+/// anything else is done. The mark also exists while a sync opens a slot: if the program is killed
+/// in the meantime, it never learns that the sync failed, and the system reports that to nobody
+/// else.
 #[derive(Drop)]
-pub struct SystemDisk<'a, S> {
-    disk: FileDisk,
+pub struct SystemDisk<'a, S, F: OpenFile> {
+    disk: FileDisk<F>,
     inode: Inode,
     mark: Mark<'a, S>,
     // the gate of a slot was written open, and not synced yet
@@ -44,13 +47,13 @@ pub struct SystemDisk<'a, S> {
     error_cell: &'a ErrorCell,
 }
 
-impl<'a, S: fs::Files<File = File>> SystemDisk<'a, S> {
+impl<'a, S: fs::Files<File = File>, F: OpenFile<Error = io::Error> + Drop> SystemDisk<'a, S, F> {
     pub fn new(
-        disk: FileDisk,
+        disk: FileDisk<F>,
         inode: Inode,
         mark: Mark<'a, S>,
         error_cell: &'a ErrorCell,
-    ) -> SystemDisk<'a, S>
+    ) -> SystemDisk<'a, S, F>
         ensures { result.disk ≡ disk }
     {
         SystemDisk {
@@ -91,11 +94,13 @@ impl<'a, S: fs::Files<File = File>> SystemDisk<'a, S> {
     }
 }
 
-impl<S: fs::Files<File = File>> RunDisk for SystemDisk<'_, S> {
-    ghost state = { λ d. file_state d.disk.size d.disk.tally.calls d.disk.tally.failures };
+impl<S: fs::Files<File = File>, F: OpenFile<Error = io::Error> + Drop> RunDisk
+    for SystemDisk<'_, S, F> {
+    ghost state = { λ d. ⟦<FileDisk<F> as RunDisk>⟧.state d.disk };
 
-    ghost is_disk = { λ d. is_file_disk d.disk.size d.disk.tally.calls d.disk.tally.failures
-        d.disk.kept };
+    ghost is_disk = { λ d. is_file_disk (F.keeps d.disk.file) (F.state d.disk.made.value)
+        (F.state d.disk.file) (length (F.past d.disk.made.value)) (F.past d.disk.file) d.disk.size
+        d.disk.counts.calls d.disk.counts.failures d.disk.kept };
 
     fn size(&self) -> u64 {
         self.disk.size()

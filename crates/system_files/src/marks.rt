@@ -7,10 +7,15 @@
 
 use std::alloc::{AllocError, Global};
 use std::fs::{File, OpenOptions};
+use std::os::unix::fs::OpenOptionsExt;
 use std::{fs, io};
 
 /// The name of a store's mark is the store's name and this.
 const FAILED: &str = ".failed";
+
+/// The rights of a mark. Nobody needs to open it, so only its owner may, whatever the umask or a
+/// default access control list of the directory would allow.
+const RIGHTS: u32 = 0o600;
 
 /// The place of the mark of a store. If the system lets no file be made there, no mark is left.
 #[derive(Drop)]
@@ -33,6 +38,7 @@ impl<'a, S: fs::Files<File = File>> Mark<'a, S> {
         let mut how = OpenOptions::new();
         how.write(true)
             .create_new(true)
+            .mode(RIGHTS)
             .open(self.system, self.name.as_str())
             .is_ok()
     }

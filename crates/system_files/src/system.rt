@@ -7,7 +7,9 @@ use crate::contents::{copy, fill};
 use crate::disks::{Inode, SystemDisk};
 use crate::error_cells::ErrorCell;
 use crate::marks::Mark;
-use run_disk::{DiskFailed, FileDisk, RunDisk};
+use file_calls::SystemFile;
+use file_disk::FileDisk;
+use run_disk::{DiskFailed, RunDisk};
 use std::alloc::{AllocError, Global};
 use std::fs::{File, Metadata, OpenOptions, TryLockError};
 use std::os::unix::fs::{MetadataExt, OpenOptionsExt, fchown};
@@ -182,10 +184,10 @@ impl<'a, S: fs::Files<File = File>> SystemFiles<'a, S> {
         file: File,
         mark: Mark<'a, S>,
         why: &'a ErrorCell,
-    ) -> Result<SystemDisk<'a, S>, FileError> {
+    ) -> Result<SystemDisk<'a, S, SystemFile>, FileError> {
         let inode = or_error(inode(&file))?;
         let is_left = mark.leave();
-        match FileDisk::settled(file) {
+        match FileDisk::settled(SystemFile::new(file)) {
             Ok(disk) => {
                 if is_left {
                     mark.remove();
@@ -204,10 +206,10 @@ impl<'a, S: fs::Files<File = File>> SystemFiles<'a, S> {
         &self,
         file: File,
         mark: Mark<'a, S>,
-    ) -> Result<Opened<SystemDisk<'a, S>, &'a ErrorCell>, FileError> {
+    ) -> Result<Opened<SystemDisk<'a, S, SystemFile>, &'a ErrorCell>, FileError> {
         let why = &self.error_cells.opened;
         let inode = or_error(inode(&file))?;
-        let disk = or_error(FileDisk::unsettled(file))?;
+        let disk = or_error(FileDisk::unsettled(SystemFile::new(file)))?;
         Ok(Opened {
             disk: SystemDisk::new(disk, inode, mark, why),
             why,
@@ -223,9 +225,9 @@ impl<'a, S: fs::Files<File = File>> SystemFiles<'a, S> {
         like: Option<&str>,
         size: u64,
         is_new: bool,
-    ) -> Result<Made<SystemDisk<'a, S>, &'a ErrorCell>, FileError>
+    ) -> Result<Made<SystemDisk<'a, S, SystemFile>, &'a ErrorCell>, FileError>
         ensures filled { IfOk result (λ made.
-            IsFilled size (⟦<SystemDisk<'a, S> as RunDisk>⟧.state made.disk)) }
+            IsFilled size (⟦<SystemDisk<'a, S, SystemFile> as RunDisk>⟧.state made.disk)) }
         ensures new { IfOk result (λ made. made.is_new ≡ is_new) }
     {
         self.lock(&file, name)?;
@@ -249,9 +251,9 @@ impl<'a, S: fs::Files<File = File>> SystemFiles<'a, S> {
         name: &str,
         like: Option<&str>,
         size: u64,
-    ) -> Result<SystemDisk<'a, S>, FileError>
+    ) -> Result<SystemDisk<'a, S, SystemFile>, FileError>
         ensures { IfOk result (λ made.
-            IsFilled size (⟦<SystemDisk<'a, S> as RunDisk>⟧.state made)) }
+            IsFilled size (⟦<SystemDisk<'a, S, SystemFile> as RunDisk>⟧.state made)) }
     {
         let mut file = file;
         let mark = self.mark_of(name)?;
@@ -385,7 +387,7 @@ impl<'a, S: fs::Files<File = File>> SystemFiles<'a, S> {
 }
 
 impl<'a, S: fs::Files<File = File> + Clock + Sync> Files for SystemFiles<'a, S> {
-    type Disk = SystemDisk<'a, S>;
+    type Disk = SystemDisk<'a, S, SystemFile>;
 
     type FirstError = &'a ErrorCell;
 
@@ -402,7 +404,10 @@ impl<'a, S: fs::Files<File = File> + Clock + Sync> Files for SystemFiles<'a, S> 
       notes = λ disk error. ⊤;
     } };
 
-    fn open(&mut self, name: &str) -> Result<Opened<SystemDisk<'a, S>, &'a ErrorCell>, FileError> {
+    fn open(
+        &mut self,
+        name: &str,
+    ) -> Result<Opened<SystemDisk<'a, S, SystemFile>, &'a ErrorCell>, FileError> {
         let mut how = OpenOptions::new();
         let file = self.with(how.read(true).write(true), name)?;
         self.lock(&file, name)?;
@@ -429,7 +434,7 @@ impl<'a, S: fs::Files<File = File> + Clock + Sync> Files for SystemFiles<'a, S> 
     fn open_to_read(
         &mut self,
         name: &str,
-    ) -> Result<Opened<SystemDisk<'a, S>, &'a ErrorCell>, FileError> {
+    ) -> Result<Opened<SystemDisk<'a, S, SystemFile>, &'a ErrorCell>, FileError> {
         let file = self.with_reading(name)?;
         lock_shared(&file)?;
         let path = self.path(name)?;
@@ -442,19 +447,26 @@ impl<'a, S: fs::Files<File = File> + Clock + Sync> Files for SystemFiles<'a, S> 
         self.shown(file, mark)
     }
 
-    fn look(&mut self, name: &str) -> Result<Opened<SystemDisk<'a, S>, &'a ErrorCell>, FileError> {
+    fn look(
+        &mut self,
+        name: &str,
+    ) -> Result<Opened<SystemDisk<'a, S, SystemFile>, &'a ErrorCell>, FileError> {
         let file = self.with_reading(name)?;
         let mark = self.mark_of(name)?;
         self.shown(file, mark)
     }
 
-    fn close(&mut self, _name: &str, _disk: SystemDisk<'a, S>) {}
+    fn close(&mut self, _name: &str, _disk: SystemDisk<'a, S, SystemFile>) {}
 
     fn pause(&self) {
         thread::sleep(self.system, Duration::from_millis(PAUSE));
     }
 
-    fn read_all(&self, disk: &mut SystemDisk<'a, S>, out: &mut [u8]) -> Result<(), DiskFailed> {
+    fn read_all(
+        &self,
+        disk: &mut SystemDisk<'a, S, SystemFile>,
+        out: &mut [u8],
+    ) -> Result<(), DiskFailed> {
         disk.read_at(0, out)
     }
 
@@ -462,7 +474,7 @@ impl<'a, S: fs::Files<File = File> + Clock + Sync> Files for SystemFiles<'a, S> 
         &mut self,
         name: &str,
         size: u64,
-    ) -> Result<Made<SystemDisk<'a, S>, &'a ErrorCell>, FileError> {
+    ) -> Result<Made<SystemDisk<'a, S, SystemFile>, &'a ErrorCell>, FileError> {
         let mut how = OpenOptions::new();
         how.read(true).write(true);
         match self.with(how.create_new(true), name) {
@@ -479,7 +491,7 @@ impl<'a, S: fs::Files<File = File> + Clock + Sync> Files for SystemFiles<'a, S> 
         name: &str,
         like: Option<&str>,
         size: u64,
-    ) -> Result<Made<SystemDisk<'a, S>, &'a ErrorCell>, FileError> {
+    ) -> Result<Made<SystemDisk<'a, S, SystemFile>, &'a ErrorCell>, FileError> {
         let mut how = OpenOptions::new();
         how.read(true).write(true).create_new(true);
         if like.is_some() {
@@ -491,8 +503,8 @@ impl<'a, S: fs::Files<File = File> + Clock + Sync> Files for SystemFiles<'a, S> 
 
     fn replace(
         &mut self,
-        disk: SystemDisk<'a, S>,
-        over: SystemDisk<'a, S>,
+        disk: SystemDisk<'a, S, SystemFile>,
+        over: SystemDisk<'a, S, SystemFile>,
         from: &str,
         to: &str,
     ) -> Result<(), FileError> {

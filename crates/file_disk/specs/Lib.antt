@@ -1,0 +1,2 @@
+pub mod FileDisks
+pub mod Left
