@@ -11,6 +11,7 @@ use Rattle.plan_lines.specs.declared.tokens.Token.TheVariants as token
 use Rattle.drive_lines.specs.declared.fields.Fields.{Fields}
 use Rattle.drive_lines.specs.declared.fields.Fields.TheVariants as fields
 use Rattle.drive_lines.specs.declared.fields.TryName.{TryName}
+use Rattle.drive_lines.specs.declared.words.Shape.{Shape}
 use Rattle.drive_lines.specs.declared.words.Shape.TheVariants as shape
 use Rattle.drive_lines.specs.Cuts.{HasNoSpace}
 use Rattle.drive_lines.specs.Fields.{FieldsRead, FitsFields, FitsOutcome, FitsTry, IsShort}
@@ -175,90 +176,70 @@ try_found bytes rest digits word key g k n is left at last group key_is number =
 
 -- ---- the fields of each shape
 
-pub record OfAlone (f : Fields) (left : Option (List ℕ)) : Type 0 where
-  pub text : None ≡ left
-  pub is : f ≡ fields.Alone
+record OfAlone (f : Fields) (left : Option (List ℕ)) : Type 0 where
+  text : None ≡ left
+  is : f ≡ fields.Alone
 
-pub of_alone : (f : Fields) (left : Option (List ℕ)) → FitsFields f
-    → fields_shape f ≡ shape.Alone → fields_text f ≡ left → OfAlone f left
-of_alone fields.Alone left fits s e = record { text = e; is = refl }
-of_alone (fields.Number n) left fits s e = absurd (let no : shape.Number ≡ shape.Alone = s in cc)
-of_alone (fields.Said n text) left fits s e = absurd (let no : shape.Said ≡ shape.Alone = s in cc)
-of_alone (fields.Ended n o) left fits s e = absurd (let no : shape.Ended ≡ shape.Alone = s in cc)
-of_alone (fields.Lives t) left fits s e = absurd (let no : shape.Lives ≡ shape.Alone = s in cc)
+record OfNumber (f : Fields) (left : Option (List ℕ)) : Type 0 where
+  n : ℕ
+  short : IsShort n
+  text : Some (decimal n) ≡ left
+  is : f ≡ fields.Number n
 
-pub record OfNumber (f : Fields) (left : Option (List ℕ)) : Type 0 where
-  pub n : ℕ
-  pub short : IsShort n
-  pub text : Some (decimal n) ≡ left
-  pub is : f ≡ fields.Number n
+record OfNumberText (f : Fields) (left : Option (List ℕ)) : Type 0 where
+  n : ℕ
+  words : List ℕ
+  short : IsShort n
+  fits : IsText words
+  text : Some (spaced (decimal n) words) ≡ left
+  is : f ≡ fields.NumberText n words
 
-pub of_number : (f : Fields) (left : Option (List ℕ)) → FitsFields f
-    → fields_shape f ≡ shape.Number → fields_text f ≡ left → OfNumber f left
-of_number fields.Alone left fits s e = absurd (let no : shape.Alone ≡ shape.Number = s in cc)
-of_number (fields.Number n) left fits s e = record { n = n; short = fits; text = e; is = refl }
-of_number (fields.Said n text) left fits s e = absurd (let no : shape.Said ≡ shape.Number = s in cc)
-of_number (fields.Ended n o) left fits s e = absurd (let no : shape.Ended ≡ shape.Number = s in cc)
-of_number (fields.Lives t) left fits s e = absurd (let no : shape.Lives ≡ shape.Number = s in cc)
+record OfEnded (f : Fields) (left : Option (List ℕ)) : Type 0 where
+  n : ℕ
+  outcome : Outcome
+  short : IsShort n
+  fits : FitsOutcome outcome
+  text : Some (spaced (decimal n) (outcome_text outcome)) ≡ left
+  is : f ≡ fields.Ended n outcome
 
-pub record OfSaid (f : Fields) (left : Option (List ℕ)) : Type 0 where
-  pub n : ℕ
-  pub words : List ℕ
-  pub short : IsShort n
-  pub fits : IsText words
-  pub text : Some (spaced (decimal n) words) ≡ left
-  pub is : f ≡ fields.Said n words
+record OfLives (f : Fields) (left : Option (List ℕ)) : Type 0 where
+  living : TryName
+  fits : FitsTry living
+  text : Some (try_text living) ≡ left
+  is : f ≡ fields.Lives living
 
-pub of_said : (f : Fields) (left : Option (List ℕ)) → FitsFields f
-    → fields_shape f ≡ shape.Said → fields_text f ≡ left → OfSaid f left
-of_said fields.Alone left fits s e = absurd (let no : shape.Alone ≡ shape.Said = s in cc)
-of_said (fields.Number n) left fits s e = absurd (let no : shape.Number ≡ shape.Said = s in cc)
-of_said (fields.Said n text) left fits s e =
+abbrev OfShape : Shape → Fields → Option (List ℕ) → Type 0
+OfShape shape.Alone f left = OfAlone f left
+OfShape shape.Number f left = OfNumber f left
+OfShape shape.NumberText f left = OfNumberText f left
+OfShape shape.Ended f left = OfEnded f left
+OfShape shape.Lives f left = OfLives f left
+
+of_own : (f : Fields) (left : Option (List ℕ)) → FitsFields f → fields_text f ≡ left
+    → OfShape (fields_shape f) f left
+of_own fields.Alone left fits e = record { text = e; is = refl }
+of_own (fields.Number n) left fits e = record { n = n; short = fits; text = e; is = refl }
+of_own (fields.NumberText n text) left fits e =
     record { n = n; words = text; short = fits.0; fits = fits.1; text = e; is = refl }
-of_said (fields.Ended n o) left fits s e = absurd (let no : shape.Ended ≡ shape.Said = s in cc)
-of_said (fields.Lives t) left fits s e = absurd (let no : shape.Lives ≡ shape.Said = s in cc)
-
-pub record OfEnded (f : Fields) (left : Option (List ℕ)) : Type 0 where
-  pub n : ℕ
-  pub outcome : Outcome
-  pub short : IsShort n
-  pub fits : FitsOutcome outcome
-  pub text : Some (spaced (decimal n) (outcome_text outcome)) ≡ left
-  pub is : f ≡ fields.Ended n outcome
-
-pub of_ended : (f : Fields) (left : Option (List ℕ)) → FitsFields f
-    → fields_shape f ≡ shape.Ended → fields_text f ≡ left → OfEnded f left
-of_ended fields.Alone left fits s e = absurd (let no : shape.Alone ≡ shape.Ended = s in cc)
-of_ended (fields.Number n) left fits s e = absurd (let no : shape.Number ≡ shape.Ended = s in cc)
-of_ended (fields.Said n text) left fits s e = absurd (let no : shape.Said ≡ shape.Ended = s in cc)
-of_ended (fields.Ended n o) left fits s e =
+of_own (fields.Ended n o) left fits e =
     record { n = n; outcome = o; short = fits.0; fits = fits.1; text = e; is = refl }
-of_ended (fields.Lives t) left fits s e = absurd (let no : shape.Lives ≡ shape.Ended = s in cc)
+of_own (fields.Lives t) left fits e = record { living = t; fits = fits; text = e; is = refl }
 
-pub record OfLives (f : Fields) (left : Option (List ℕ)) : Type 0 where
-  pub living : TryName
-  pub fits : FitsTry living
-  pub text : Some (try_text living) ≡ left
-  pub is : f ≡ fields.Lives living
-
-pub of_lives : (f : Fields) (left : Option (List ℕ)) → FitsFields f
-    → fields_shape f ≡ shape.Lives → fields_text f ≡ left → OfLives f left
-of_lives fields.Alone left fits s e = absurd (let no : shape.Alone ≡ shape.Lives = s in cc)
-of_lives (fields.Number n) left fits s e = absurd (let no : shape.Number ≡ shape.Lives = s in cc)
-of_lives (fields.Said n text) left fits s e = absurd (let no : shape.Said ≡ shape.Lives = s in cc)
-of_lives (fields.Ended n o) left fits s e = absurd (let no : shape.Ended ≡ shape.Lives = s in cc)
-of_lives (fields.Lives t) left fits s e = record { living = t; fits = fits; text = e; is = refl }
+of_shape : (s : Shape) (f : Fields) (left : Option (List ℕ)) → FitsFields f
+    → fields_shape f ≡ s → fields_text f ≡ left → OfShape s f left
+of_shape s f left fits same e =
+    subst (λ (t : Shape). OfShape t f left) same (of_own f left fits e)
 
 pub same_fields : (f g : Fields) → FitsFields f → FitsFields g → fields_shape f ≡ fields_shape g
     → fields_text f ≡ fields_text g → f ≡ g
-same_fields fields.Alone g h k s e = sym (of_alone g None k (sym s) (sym e)).is
+same_fields fields.Alone g h k s e = sym (of_shape shape.Alone g None k (sym s) (sym e)).is
 same_fields (fields.Number n) g h k s e =
-    let i = of_number g (Some (decimal n)) k (sym s) (sym e) in
+    let i = of_shape shape.Number g (Some (decimal n)) k (sym s) (sym e) in
     let digits : decimal i.n ≡ decimal n = (let both = i.text in cc) in
     let same : i.n ≡ n = same_number i.n n i.short h digits in
     sym (i.is ∙ ap fields.Number same)
-same_fields (fields.Said n text) g h k s e =
-    let i = of_said g (Some (spaced (decimal n) text)) k (sym s) (sym e) in
+same_fields (fields.NumberText n text) g h k s e =
+    let i = of_shape shape.NumberText g (Some (spaced (decimal n) text)) k (sym s) (sym e) in
     let both : spaced (decimal i.n) i.words ≡ spaced (decimal n) text = (let some = i.text in cc) in
     let a = digits_no_space i.n i.short in
     let b = digits_no_space n h.0 in
@@ -268,7 +249,7 @@ same_fields (fields.Said n text) g h k s e =
     let is = i.is in
     cc
 same_fields (fields.Ended n o) g h k s e =
-    let i = of_ended g (Some (spaced (decimal n) (outcome_text o))) k (sym s) (sym e) in
+    let i = of_shape shape.Ended g (Some (spaced (decimal n) (outcome_text o))) k (sym s) (sym e) in
     let x = outcome_text i.outcome in
     let y = outcome_text o in
     let both : spaced (decimal i.n) x ≡ spaced (decimal n) y = (let some = i.text in cc) in
@@ -281,17 +262,17 @@ same_fields (fields.Ended n o) g h k s e =
     let is = i.is in
     cc
 same_fields (fields.Lives t) g h k s e =
-    let i = of_lives g (Some (try_text t)) k (sym s) (sym e) in
+    let i = of_shape shape.Lives g (Some (try_text t)) k (sym s) (sym e) in
     let both : try_text i.living ≡ try_text t = (let some = i.text in cc) in
     let same : i.living ≡ t = same_try i.living t i.fits h both in
     sym (i.is ∙ ap fields.Lives same)
 
 -- Why there are no fields.
-pub said_unread : (left : Option (List ℕ)) (bytes rest : List ℕ) (n : ℕ) → left ≡ Some bytes
+pub number_text_unread : (left : Option (List ℕ)) (bytes rest : List ℕ) (n : ℕ) → left ≡ Some bytes
     → (n < 10 ^ 12) × (spaced (decimal n) rest ≡ bytes) → (IsText rest → ⊥)
-    → FieldsRead shape.Said left None
-said_unread left bytes rest n is number none = λ f fits s e.
-    let i = of_said f left fits s e in
+    → FieldsRead shape.NumberText left None
+number_text_unread left bytes rest n is number none = λ f fits s e.
+    let i = of_shape shape.NumberText f left fits s e in
     let some : Some (spaced (decimal i.n) i.words) ≡ Some bytes = i.text ∙ is in
     let both : spaced (decimal i.n) i.words ≡ bytes = cc in
     let words : i.words ≡ rest =
@@ -304,7 +285,7 @@ pub ended_unread : (left : Option (List ℕ)) (bytes rest : List ℕ) (n : ℕ) 
     → ((o : Outcome) → FitsOutcome o → outcome_text o ≡ rest → ⊥)
     → FieldsRead shape.Ended left None
 ended_unread left bytes rest n is number none = λ f fits s e.
-    let i = of_ended f left fits s e in
+    let i = of_shape shape.Ended f left fits s e in
     let some : Some (spaced (decimal i.n) (outcome_text i.outcome)) ≡ Some bytes = i.text ∙ is in
     let both : spaced (decimal i.n) (outcome_text i.outcome) ≡ bytes = cc in
     let text : outcome_text i.outcome ≡ rest =

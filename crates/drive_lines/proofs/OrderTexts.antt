@@ -141,6 +141,7 @@ fault_back fault.NumbersSpent = refl
 pub read_back : (o : Order) → FitsOrder o → order_of (order_text o) ≡ Some o
 read_back (order.Answer a) h = answer_back a h
 read_back (order.Night n) h = number_back order.Night n h
+read_back (order.Name g) h = number_back order.Name g h
 read_back (order.Twice c) h = number_back order.Twice c h
 read_back (order.Other task) h = number_back order.Other task h
 read_back (order.Begin c task t) h = started_back order.Begin c task t h.0 h.1 h.2

@@ -1,8 +1,7 @@
 -- No two lines of a plan that a night takes are spelled alike.
-use Rattle.std.specs.Prelude.{◌≡◌, ℕ, List}
-use Rattle.std.specs.Prelude.{false, true}
+use Rattle.std.specs.Prelude.{◌≡◌, ℕ, List, Option, Some, false, slice_get, true}
 use Rattle.std.proofs.lemmas.Bool.{false≢true}
-use Rattle.std.proofs.Common.{refl, ap, ◌∙◌}
+use Rattle.std.proofs.Common.{refl, ap, sym, ◌∙◌}
 use Rattle.night_plan.specs.declared.commands.Group.{Group}
 use Rattle.night_plan.specs.declared.commands.Need.{Need}
 use Rattle.night_plan.specs.declared.commands.Subject.{Subject}
@@ -15,66 +14,69 @@ use Rattle.night_plan.specs.declared.commands.When.TheVariants as when
 use Rattle.plan_lines.specs.declared.lines.Outline.{Outline}
 use Rattle.plan_lines.specs.declared.lines.PlanLine.{PlanLine}
 use Rattle.plan_lines.specs.declared.lines.PlanLine.TheVariants as line
-use Rattle.plan_lines.specs.Lines.{Means, line_tokens, subject_tokens, way_keyword, when_keyword}
+use Rattle.plan_lines.specs.declared.tokens.Keyword.{Keyword}
+use Rattle.plan_lines.specs.declared.tokens.Keyword.TheVariants as keyword
+use Rattle.plan_lines.specs.declared.tokens.Token.{Token}
+use Rattle.plan_lines.specs.declared.tokens.Token.TheVariants as token
+use Rattle.plan_lines.specs.Lines.{Means, line_tokens, way_keyword, when_keyword}
 use Rattle.plan_lines.proofs.Rows.{same_row}
 use Rattle.drive_lines.specs.Phrases.{has_name, is_kept, plan_text, takes_name}
 use Rattle.drive_lines.specs.Spaces.{first_of, spaced}
 use Rattle.drive_lines.proofs.WordTexts.{is_word, words}
 
-same_way : (a b : Way) → way_keyword a ≡ way_keyword b → a ≡ b
-same_way way.GoOn way.GoOn e = refl
-same_way way.GoOn way.Stop e = cc
-same_way way.GoOn way.Cancel e = cc
-same_way way.Stop way.GoOn e = cc
-same_way way.Stop way.Stop e = refl
-same_way way.Stop way.Cancel e = cc
-same_way way.Cancel way.GoOn e = cc
-same_way way.Cancel way.Stop e = cc
-same_way way.Cancel way.Cancel e = refl
+-- ---- a line by its tokens
 
-same_when : (a b : When) → when_keyword a ≡ when_keyword b → a ≡ b
-same_when when.Well when.Well e = refl
-same_when when.Well when.Failed e = cc
-same_when when.Well when.Ended e = cc
-same_when when.Failed when.Well e = cc
-same_when when.Failed when.Failed e = refl
-same_when when.Failed when.Ended e = cc
-same_when when.Ended when.Well e = cc
-same_when when.Ended when.Failed e = cc
-same_when when.Ended when.Ended e = refl
+-- A keyword that is none of a way, a need or a subject plays no part.
+abbrev way_of : Keyword → Way
+way_of keyword.GoOn = way.GoOn
+way_of keyword.Stop = way.Stop
+way_of _ = way.Cancel
 
-same_subject : (a b : Subject) → subject_tokens a ≡ subject_tokens b → a ≡ b
-same_subject (subject.Command c) (subject.Command d) e = cc
-same_subject (subject.Command c) (subject.Group d) e = cc
-same_subject (subject.Group c) (subject.Command d) e = cc
-same_subject (subject.Group c) (subject.Group d) e = cc
+way_again : (w : Way) → way_of (way_keyword w) ≡ w
+way_again way.GoOn = refl
+way_again way.Stop = refl
+way_again way.Cancel = refl
 
-same_group : (g h : Group) → g.priority ≡ h.priority → way_keyword g.way ≡ way_keyword h.way → g ≡ h
-same_group g h p w =
-    let ways = same_way g.way h.way w in
-    ap (λ (n : ℕ). record g { priority = n }) p ∙ ap (λ (x : Way). record h { way = x }) ways
+abbrev when_of : Keyword → When
+when_of keyword.Well = when.Well
+when_of keyword.Failed = when.Failed
+when_of _ = when.Ended
 
-same_need : (m n : Need) → when_keyword m.when ≡ when_keyword n.when
-    → subject_tokens m.of ≡ subject_tokens n.of → m ≡ n
-same_need m n w s =
-    let whens = same_when m.when n.when w in
-    let subjects = same_subject m.of n.of s in
-    ap (λ (x : When). record m { when = x }) whens
-    ∙ ap (λ (x : Subject). record n { of = x }) subjects
+when_again : (w : When) → when_of (when_keyword w) ≡ w
+when_again when.Well = refl
+when_again when.Failed = refl
+when_again when.Ended = refl
 
-same_take : (t u : Take) → t.pool ≡ u.pool → t.amount ≡ u.amount → t ≡ u
-same_take t u p a =
-    ap (λ (n : ℕ). record t { pool = n }) p ∙ ap (λ (n : ℕ). record u { amount = n }) a
+abbrev subject_of : Keyword → ℕ → Subject
+subject_of keyword.Group n = subject.Group n
+subject_of _ n = subject.Command n
 
-same_outline : (o q : Outline) → o.group ≡ q.group → o.priority ≡ q.priority
-    → o.retries ≡ q.retries → o.wait ≡ q.wait → o.factor ≡ q.factor → o.cap ≡ q.cap → o ≡ q
-same_outline o q a b d e f g =
-    ap (λ (n : ℕ). record o { group = n }) a
-    ∙ ap (λ (n : ℕ). record o { group = q.group; priority = n }) b
-    ∙ ap (λ (n : ℕ). record q { retries = n; wait = o.wait; factor = o.factor; cap = o.cap }) d
-    ∙ ap (λ (n : ℕ). record q { wait = n; factor = o.factor; cap = o.cap }) e
-    ∙ ap (λ (n : ℕ). record q { factor = n; cap = o.cap }) f
-    ∙ ap (λ (n : ℕ). record q { cap = n }) g
+-- The keyword or the number at a place of a line.
+abbrev keyword_in : Option Token → Keyword
+keyword_in (Some (token.Keyword k)) = k
+keyword_in _ = keyword.Standings
+
+abbrev number_in : Option Token → ℕ
+number_in (Some (token.Number n)) = n
+number_in _ = 0
+
+abbrev line_by : Keyword → (keyword_at : ℕ → Keyword) → (number_at : ℕ → ℕ) → PlanLine
+line_by keyword.Pool k n = line.Pool (n 1)
+line_by keyword.Group k n = line.Group (record { priority = n 1; way = way_of (k 2) })
+line_by keyword.Command k n =
+    line.Command
+    (record { group = n 1; priority = n 2; retries = n 3; wait = n 4; factor = n 5; cap = n 6 })
+line_by keyword.Need k n =
+    line.Need (record { when = when_of (k 1); of = subject_of (k 2) (n 3) })
+line_by keyword.Take k n = line.Take (record { pool = n 1; amount = n 2 })
+line_by keyword.Now k n = line.Now (n 1)
+line_by keyword.Size k n = line.Size (n 1) (n 2)
+line_by _ k n = line.Standings
+
+abbrev line_of : List Token → PlanLine
+line_of tokens =
+    line_by (keyword_in (slice_get tokens 0)) (λ i. keyword_in (slice_get tokens i))
+    (λ i. number_in (slice_get tokens i))
 
 -- The lines of a plan that a night takes, alone or with a name.
 abbrev pub IsTaken : PlanLine → Type 0
@@ -88,199 +90,93 @@ IsTaken (line.Group g) = Unit {0}
 IsTaken (line.Command o) = Unit {0}
 IsTaken _ = ⊥
 
+need_again : (w : When) (s : Subject)
+    → line_of (line_tokens (line.Need (record { when = w; of = s })))
+    ≡ line.Need (record { when = w; of = s })
+need_again w (subject.Command c) =
+    ap (λ (x : When). line.Need (record { when = x; of = subject.Command c })) (when_again w)
+need_again w (subject.Group g) =
+    ap (λ (x : When). line.Need (record { when = x; of = subject.Group g })) (when_again w)
+
+line_again : (l : PlanLine) → IsTaken l → line_of (line_tokens l) ≡ l
+line_again (line.Pool size) h = refl
+line_again (line.Need need) h = need_again need.when need.of
+line_again (line.Take t) h = refl
+line_again (line.Now moment) h = refl
+line_again (line.Size p size) h = refl
+line_again line.Standings h = refl
+line_again (line.Group g) h =
+    ap (λ (x : Way). line.Group (record { priority = g.priority; way = x })) (way_again g.way)
+line_again (line.Command o) h = refl
+line_again (line.Done g) h = absurd h
+line_again (line.Cancel c) h = absurd h
+line_again (line.Stands c p) h = absurd h
+line_again (line.Failed c moment failures) h = absurd h
+
 same_tokens : (a b : PlanLine) → IsTaken a → IsTaken b → line_tokens a ≡ line_tokens b → a ≡ b
-same_tokens (line.Pool size0) (line.Pool size1) h k e = cc
-same_tokens (line.Pool size0) (line.Need need1) h k e = cc
-same_tokens (line.Pool size0) (line.Take t1) h k e = cc
-same_tokens (line.Pool size0) (line.Now moment1) h k e = cc
-same_tokens (line.Pool size0) (line.Size p1 size1) h k e = cc
-same_tokens (line.Pool size0) line.Standings h k e = cc
-same_tokens (line.Pool size0) (line.Group g1) h k e = cc
-same_tokens (line.Pool size0) (line.Command o1) h k e = cc
-same_tokens (line.Pool size0) (line.Done g1) h k e = absurd k
-same_tokens (line.Pool size0) (line.Cancel c1) h k e = absurd k
-same_tokens (line.Pool size0) (line.Stands c1 p1) h k e = absurd k
-same_tokens (line.Pool size0) (line.Failed c1 moment1 failures1) h k e = absurd k
-same_tokens (line.Need need0) (line.Pool size1) h k e = cc
-same_tokens (line.Need need0) (line.Need need1) h k e =
-    let whens : when_keyword need0.when ≡ when_keyword need1.when = cc in
-    let subjects : subject_tokens need0.of ≡ subject_tokens need1.of = cc in
-    ap line.Need (same_need need0 need1 whens subjects)
-same_tokens (line.Need need0) (line.Take t1) h k e = cc
-same_tokens (line.Need need0) (line.Now moment1) h k e = cc
-same_tokens (line.Need need0) (line.Size p1 size1) h k e = cc
-same_tokens (line.Need need0) line.Standings h k e = cc
-same_tokens (line.Need need0) (line.Group g1) h k e = cc
-same_tokens (line.Need need0) (line.Command o1) h k e = cc
-same_tokens (line.Need need0) (line.Done g1) h k e = absurd k
-same_tokens (line.Need need0) (line.Cancel c1) h k e = absurd k
-same_tokens (line.Need need0) (line.Stands c1 p1) h k e = absurd k
-same_tokens (line.Need need0) (line.Failed c1 moment1 failures1) h k e = absurd k
-same_tokens (line.Take t0) (line.Pool size1) h k e = cc
-same_tokens (line.Take t0) (line.Need need1) h k e = cc
-same_tokens (line.Take t0) (line.Take t1) h k e =
-    let pools : t0.pool ≡ t1.pool = cc in
-    let amounts : t0.amount ≡ t1.amount = cc in
-    ap line.Take (same_take t0 t1 pools amounts)
-same_tokens (line.Take t0) (line.Now moment1) h k e = cc
-same_tokens (line.Take t0) (line.Size p1 size1) h k e = cc
-same_tokens (line.Take t0) line.Standings h k e = cc
-same_tokens (line.Take t0) (line.Group g1) h k e = cc
-same_tokens (line.Take t0) (line.Command o1) h k e = cc
-same_tokens (line.Take t0) (line.Done g1) h k e = absurd k
-same_tokens (line.Take t0) (line.Cancel c1) h k e = absurd k
-same_tokens (line.Take t0) (line.Stands c1 p1) h k e = absurd k
-same_tokens (line.Take t0) (line.Failed c1 moment1 failures1) h k e = absurd k
-same_tokens (line.Now moment0) (line.Pool size1) h k e = cc
-same_tokens (line.Now moment0) (line.Need need1) h k e = cc
-same_tokens (line.Now moment0) (line.Take t1) h k e = cc
-same_tokens (line.Now moment0) (line.Now moment1) h k e = cc
-same_tokens (line.Now moment0) (line.Size p1 size1) h k e = cc
-same_tokens (line.Now moment0) line.Standings h k e = cc
-same_tokens (line.Now moment0) (line.Group g1) h k e = cc
-same_tokens (line.Now moment0) (line.Command o1) h k e = cc
-same_tokens (line.Now moment0) (line.Done g1) h k e = absurd k
-same_tokens (line.Now moment0) (line.Cancel c1) h k e = absurd k
-same_tokens (line.Now moment0) (line.Stands c1 p1) h k e = absurd k
-same_tokens (line.Now moment0) (line.Failed c1 moment1 failures1) h k e = absurd k
-same_tokens (line.Size p0 size0) (line.Pool size1) h k e = cc
-same_tokens (line.Size p0 size0) (line.Need need1) h k e = cc
-same_tokens (line.Size p0 size0) (line.Take t1) h k e = cc
-same_tokens (line.Size p0 size0) (line.Now moment1) h k e = cc
-same_tokens (line.Size p0 size0) (line.Size p1 size1) h k e = cc
-same_tokens (line.Size p0 size0) line.Standings h k e = cc
-same_tokens (line.Size p0 size0) (line.Group g1) h k e = cc
-same_tokens (line.Size p0 size0) (line.Command o1) h k e = cc
-same_tokens (line.Size p0 size0) (line.Done g1) h k e = absurd k
-same_tokens (line.Size p0 size0) (line.Cancel c1) h k e = absurd k
-same_tokens (line.Size p0 size0) (line.Stands c1 p1) h k e = absurd k
-same_tokens (line.Size p0 size0) (line.Failed c1 moment1 failures1) h k e = absurd k
-same_tokens line.Standings (line.Pool size1) h k e = cc
-same_tokens line.Standings (line.Need need1) h k e = cc
-same_tokens line.Standings (line.Take t1) h k e = cc
-same_tokens line.Standings (line.Now moment1) h k e = cc
-same_tokens line.Standings (line.Size p1 size1) h k e = cc
-same_tokens line.Standings line.Standings h k e = refl
-same_tokens line.Standings (line.Group g1) h k e = cc
-same_tokens line.Standings (line.Command o1) h k e = cc
-same_tokens line.Standings (line.Done g1) h k e = absurd k
-same_tokens line.Standings (line.Cancel c1) h k e = absurd k
-same_tokens line.Standings (line.Stands c1 p1) h k e = absurd k
-same_tokens line.Standings (line.Failed c1 moment1 failures1) h k e = absurd k
-same_tokens (line.Group g0) (line.Pool size1) h k e = cc
-same_tokens (line.Group g0) (line.Need need1) h k e = cc
-same_tokens (line.Group g0) (line.Take t1) h k e = cc
-same_tokens (line.Group g0) (line.Now moment1) h k e = cc
-same_tokens (line.Group g0) (line.Size p1 size1) h k e = cc
-same_tokens (line.Group g0) line.Standings h k e = cc
-same_tokens (line.Group g0) (line.Group g1) h k e =
-    let priorities : g0.priority ≡ g1.priority = cc in
-    let ways : way_keyword g0.way ≡ way_keyword g1.way = cc in
-    ap line.Group (same_group g0 g1 priorities ways)
-same_tokens (line.Group g0) (line.Command o1) h k e = cc
-same_tokens (line.Group g0) (line.Done g1) h k e = absurd k
-same_tokens (line.Group g0) (line.Cancel c1) h k e = absurd k
-same_tokens (line.Group g0) (line.Stands c1 p1) h k e = absurd k
-same_tokens (line.Group g0) (line.Failed c1 moment1 failures1) h k e = absurd k
-same_tokens (line.Command o0) (line.Pool size1) h k e = cc
-same_tokens (line.Command o0) (line.Need need1) h k e = cc
-same_tokens (line.Command o0) (line.Take t1) h k e = cc
-same_tokens (line.Command o0) (line.Now moment1) h k e = cc
-same_tokens (line.Command o0) (line.Size p1 size1) h k e = cc
-same_tokens (line.Command o0) line.Standings h k e = cc
-same_tokens (line.Command o0) (line.Group g1) h k e = cc
-same_tokens (line.Command o0) (line.Command o1) h k e =
-    let groups : o0.group ≡ o1.group = cc in
-    let priorities : o0.priority ≡ o1.priority = cc in
-    let retries : o0.retries ≡ o1.retries = cc in
-    let waits : o0.wait ≡ o1.wait = cc in
-    let factors : o0.factor ≡ o1.factor = cc in
-    let caps : o0.cap ≡ o1.cap = cc in
-    ap line.Command (same_outline o0 o1 groups priorities retries waits factors caps)
-same_tokens (line.Command o0) (line.Done g1) h k e = absurd k
-same_tokens (line.Command o0) (line.Cancel c1) h k e = absurd k
-same_tokens (line.Command o0) (line.Stands c1 p1) h k e = absurd k
-same_tokens (line.Command o0) (line.Failed c1 moment1 failures1) h k e = absurd k
-same_tokens (line.Done g0) b h k e = absurd h
-same_tokens (line.Cancel c0) b h k e = absurd h
-same_tokens (line.Stands c0 p0) b h k e = absurd h
-same_tokens (line.Failed c0 moment0 failures0) b h k e = absurd h
+same_tokens a b h k e = sym (line_again a h) ∙ ap line_of e ∙ line_again b k
 
 pub same_plan : (a b : PlanLine) (bytes : List ℕ) → IsTaken a → IsTaken b → Means bytes a
     → Means bytes b → a ≡ b
 same_plan a b bytes h k one two =
     same_tokens a b h k (same_row (line_tokens a) (line_tokens b) bytes one.row two.row)
 
+-- ---- lines that are kept, and lines with a name
+
+each_kept : (P : PlanLine → Type 0) → ((size : ℕ) → P (line.Pool size))
+    → ((need : Need) → P (line.Need need)) → ((t : Take) → P (line.Take t))
+    → ((moment : ℕ) → P (line.Now moment)) → ((p size : ℕ) → P (line.Size p size))
+    → P line.Standings → (l : PlanLine) → is_kept l ≡ true → P l
+each_kept P pool need take now size standings (line.Pool n) h = pool n
+each_kept P pool need take now size standings (line.Need x) h = need x
+each_kept P pool need take now size standings (line.Take t) h = take t
+each_kept P pool need take now size standings (line.Now moment) h = now moment
+each_kept P pool need take now size standings (line.Size p n) h = size p n
+each_kept P pool need take now size standings line.Standings h = standings
+each_kept P pool need take now size standings (line.Group g) h = absurd (false≢true h)
+each_kept P pool need take now size standings (line.Command o) h = absurd (false≢true h)
+each_kept P pool need take now size standings (line.Done g) h = absurd (false≢true h)
+each_kept P pool need take now size standings (line.Cancel c) h = absurd (false≢true h)
+each_kept P pool need take now size standings (line.Stands c p) h = absurd (false≢true h)
+each_kept P pool need take now size standings (line.Failed c m n) h = absurd (false≢true h)
+
+each_named : (P : PlanLine → Type 0) → ((g : Group) → P (line.Group g))
+    → ((o : Outline) → P (line.Command o)) → (l : PlanLine) → has_name l ≡ true → P l
+each_named P group command (line.Group g) h = group g
+each_named P group command (line.Command o) h = command o
+each_named P group command (line.Pool size) h = absurd (false≢true h)
+each_named P group command (line.Need need) h = absurd (false≢true h)
+each_named P group command (line.Take t) h = absurd (false≢true h)
+each_named P group command (line.Now moment) h = absurd (false≢true h)
+each_named P group command (line.Size p size) h = absurd (false≢true h)
+each_named P group command line.Standings h = absurd (false≢true h)
+each_named P group command (line.Done g) h = absurd (false≢true h)
+each_named P group command (line.Cancel c) h = absurd (false≢true h)
+each_named P group command (line.Stands c p) h = absurd (false≢true h)
+each_named P group command (line.Failed c m n) h = absurd (false≢true h)
+
 pub kept_taken : (l : PlanLine) → is_kept l ≡ true → IsTaken l
-kept_taken (line.Pool size) h = tt
-kept_taken (line.Need need) h = tt
-kept_taken (line.Take t) h = tt
-kept_taken (line.Now moment) h = tt
-kept_taken (line.Size p size) h = tt
-kept_taken line.Standings h = tt
-kept_taken (line.Group g) h = absurd (false≢true h)
-kept_taken (line.Command o) h = absurd (false≢true h)
-kept_taken (line.Done g) h = absurd (false≢true h)
-kept_taken (line.Cancel c) h = absurd (false≢true h)
-kept_taken (line.Stands c p) h = absurd (false≢true h)
-kept_taken (line.Failed c moment failures) h = absurd (false≢true h)
+kept_taken =
+    each_kept IsTaken (λ size. tt) (λ need. tt) (λ t. tt) (λ moment. tt) (λ p size. tt) tt
 
 pub named_taken : (l : PlanLine) → has_name l ≡ true → IsTaken l
-named_taken (line.Pool size) h = absurd (false≢true h)
-named_taken (line.Need need) h = absurd (false≢true h)
-named_taken (line.Take t) h = absurd (false≢true h)
-named_taken (line.Now moment) h = absurd (false≢true h)
-named_taken (line.Size p size) h = absurd (false≢true h)
-named_taken line.Standings h = absurd (false≢true h)
-named_taken (line.Group g) h = tt
-named_taken (line.Command o) h = tt
-named_taken (line.Done g) h = absurd (false≢true h)
-named_taken (line.Cancel c) h = absurd (false≢true h)
-named_taken (line.Stands c p) h = absurd (false≢true h)
-named_taken (line.Failed c moment failures) h = absurd (false≢true h)
+named_taken = each_named IsTaken (λ g. tt) (λ o. tt)
 
 -- The first word of a line that stays as it is takes no name. That of a group or a command does.
 pub kept_no_name : (l : PlanLine) → is_kept l ≡ true → takes_name (first_of (plan_text l)) ≡ false
-kept_no_name (line.Pool size) h = refl
-kept_no_name (line.Need need) h = refl
-kept_no_name (line.Take t) h = refl
-kept_no_name (line.Now moment) h = refl
-kept_no_name (line.Size p size) h = refl
-kept_no_name line.Standings h = refl
-kept_no_name (line.Group g) h = absurd (false≢true h)
-kept_no_name (line.Command o) h = absurd (false≢true h)
-kept_no_name (line.Done g) h = absurd (false≢true h)
-kept_no_name (line.Cancel c) h = absurd (false≢true h)
-kept_no_name (line.Stands c p) h = absurd (false≢true h)
-kept_no_name (line.Failed c moment failures) h = absurd (false≢true h)
+kept_no_name =
+    each_kept (λ l. takes_name (first_of (plan_text l)) ≡ false) (λ size. refl) (λ need. refl)
+    (λ t. refl) (λ moment. refl) (λ p size. refl) refl
 
 pub named_takes_name : (l : PlanLine) (name : List ℕ) → has_name l ≡ true
     → takes_name (first_of (spaced (plan_text l) name)) ≡ true
-named_takes_name (line.Pool size) name h = absurd (false≢true h)
-named_takes_name (line.Need need) name h = absurd (false≢true h)
-named_takes_name (line.Take t) name h = absurd (false≢true h)
-named_takes_name (line.Now moment) name h = absurd (false≢true h)
-named_takes_name (line.Size p size) name h = absurd (false≢true h)
-named_takes_name line.Standings name h = absurd (false≢true h)
-named_takes_name (line.Group g) name h = refl
-named_takes_name (line.Command o) name h = refl
-named_takes_name (line.Done g) name h = absurd (false≢true h)
-named_takes_name (line.Cancel c) name h = absurd (false≢true h)
-named_takes_name (line.Stands c p) name h = absurd (false≢true h)
-named_takes_name (line.Failed c moment failures) name h = absurd (false≢true h)
+named_takes_name l name =
+    each_named (λ m. takes_name (first_of (spaced (plan_text m) name)) ≡ true) (λ g. refl)
+    (λ o. refl) l
 
 -- It is no word of another line.
 pub kept_no_word : (l : PlanLine) → is_kept l ≡ true → is_word (first_of (plan_text l)) ≡ false
 unfolding is_word words
-kept_no_word (line.Pool size) h = refl
-kept_no_word (line.Need need) h = refl
-kept_no_word (line.Take t) h = refl
-kept_no_word (line.Now moment) h = refl
-kept_no_word (line.Size p size) h = refl
-kept_no_word line.Standings h = refl
-kept_no_word (line.Group g) h = absurd (false≢true h)
-kept_no_word (line.Command o) h = absurd (false≢true h)
-kept_no_word (line.Done g) h = absurd (false≢true h)
-kept_no_word (line.Cancel c) h = absurd (false≢true h)
-kept_no_word (line.Stands c p) h = absurd (false≢true h)
-kept_no_word (line.Failed c moment failures) h = absurd (false≢true h)
+kept_no_word =
+    each_kept (λ l. is_word (first_of (plan_text l)) ≡ false) (λ size. refl) (λ need. refl)
+    (λ t. refl) (λ moment. refl) (λ p size. refl) refl

@@ -1,5 +1,6 @@
 -- Examples: the lines of the session on the page about driven nights.
 use Rattle.std.specs.Prelude.{◌++◌, ◌∷◌, ℕ, List, [], codes}
+use Rattle.std.specs.List.{flat_map}
 use Rattle.night_plan.specs.declared.commands.Way.TheVariants as way
 use Rattle.plan_lines.specs.declared.answers.AnswerLine.TheVariants as answer
 use Rattle.plan_lines.specs.declared.lines.PlanLine.TheVariants as line
@@ -9,19 +10,12 @@ use Rattle.drive_lines.specs.declared.orders.Order.{Order}
 use Rattle.drive_lines.specs.declared.orders.Order.TheVariants as order
 use Rattle.drive_lines.specs.declared.reports.Report.{Report}
 use Rattle.drive_lines.specs.declared.reports.Report.TheVariants as report
-use Rattle.drive_lines.specs.Orders.{order_line}
 use Rattle.drive_lines.specs.Phrases.{phrase_text}
 use Rattle.drive_lines.specs.Reports.{report_phrase}
 
--- Lines of the executor, each with its LF.
+-- Lines of the executor, one after the other, each with its LF.
 abbrev pub report_lines : List Report → List ℕ
-report_lines [] = []
-report_lines (r ∷ reports) = (phrase_text (report_phrase r) ++ 10 ∷ []) ++ report_lines reports
-
--- Lines of the program, each with its LF.
-abbrev pub order_lines : List Order → List ℕ
-order_lines [] = []
-order_lines (o ∷ orders) = order_line o ++ order_lines orders
+report_lines reports = flat_map (λ r. phrase_text (report_phrase r) ++ 10 ∷ []) reports
 
 -- A try of a command of the group `dumps`.
 abbrev pub try_of : (key : List ℕ) (number : ℕ) → TryName

@@ -24,7 +24,7 @@ try_text t = spaced t.group (spaced t.key (decimal t.number))
 abbrev pub fields_text : Fields → Option (List ℕ)
 fields_text fields.Alone = None
 fields_text (fields.Number n) = Some (decimal n)
-fields_text (fields.Said n text) = Some (spaced (decimal n) text)
+fields_text (fields.NumberText n text) = Some (spaced (decimal n) text)
 fields_text (fields.Ended n o) = Some (spaced (decimal n) (outcome_text o))
 fields_text (fields.Lives t) = Some (try_text t)
 
@@ -32,7 +32,7 @@ fields_text (fields.Lives t) = Some (try_text t)
 abbrev pub fields_shape : Fields → Shape
 fields_shape fields.Alone = shape.Alone
 fields_shape (fields.Number n) = shape.Number
-fields_shape (fields.Said n text) = shape.Said
+fields_shape (fields.NumberText n text) = shape.NumberText
 fields_shape (fields.Ended n o) = shape.Ended
 fields_shape (fields.Lives t) = shape.Lives
 
@@ -55,7 +55,7 @@ pub record FitsTry (t : TryName) : Type 0 where
 abbrev pub FitsFields : Fields → Type 0
 FitsFields fields.Alone = Unit {0}
 FitsFields (fields.Number n) = IsShort n
-FitsFields (fields.Said n text) = IsShort n × IsText text
+FitsFields (fields.NumberText n text) = IsShort n × IsText text
 FitsFields (fields.Ended n o) = IsShort n × FitsOutcome o
 FitsFields (fields.Lives t) = FitsTry t
 

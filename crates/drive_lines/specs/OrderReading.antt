@@ -43,6 +43,7 @@ FitsAnswer answer.End = Unit {0}
 abbrev pub FitsOrder : Order → Type 0
 FitsOrder (order.Answer a) = FitsAnswer a
 FitsOrder (order.Night n) = IsShort n
+FitsOrder (order.Name g) = IsShort g
 FitsOrder (order.Twice c) = IsShort c
 FitsOrder (order.Other task) = IsShort task
 FitsOrder (order.Begin c task t) = IsShort c × IsShort task × FitsTry t
@@ -129,6 +130,7 @@ order_by first rest =
     else if bytes_eq first (codes "stands") then option_and_then of_standing rest
     else if bytes_eq first (codes "bad") then of_number (λ n. order.Answer (answer.Bad n)) rest
     else if bytes_eq first (codes "night") then of_number order.Night rest
+    else if bytes_eq first (codes "name") then of_number order.Name rest
     else if bytes_eq first (codes "twice") then of_number order.Twice rest
     else if bytes_eq first (codes "other") then of_number order.Other rest
     else if bytes_eq first (codes "begin") then option_and_then (of_try order.Begin) rest

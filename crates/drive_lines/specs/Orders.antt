@@ -1,6 +1,7 @@
 -- How each line of the program is spelled.
 use Rattle.std.specs.Prelude.{◌++◌, ◌∷◌, ℕ, List, [], codes}
 use Rattle.std.specs.Fmt.{decimal}
+use Rattle.std.specs.List.{flat_map}
 use Rattle.run_model.specs.Faults.{fault_text}
 use Rattle.plan_lines.specs.Answers.{answer_text}
 use Rattle.drive_lines.specs.declared.fields.TryName.{TryName}
@@ -17,6 +18,7 @@ task_text command task t = spaced (decimal command) (spaced (decimal task) (try_
 abbrev pub order_text : Order → List ℕ
 order_text (order.Answer a) = answer_text a
 order_text (order.Night n) = codes "night " ++ decimal n
+order_text (order.Name g) = codes "name " ++ decimal g
 order_text (order.Twice c) = codes "twice " ++ decimal c
 order_text (order.Other task) = codes "other " ++ decimal task
 order_text (order.Begin c task t) = spaced (codes "begin") (task_text c task t)
@@ -30,3 +32,7 @@ order_text (order.Fault why) = fault_text why
 -- A line of the program, with its LF.
 abbrev pub order_line : Order → List ℕ
 order_line o = order_text o ++ 10 ∷ []
+
+-- Some lines, one after the other, each with its LF.
+abbrev pub order_lines : List Order → List ℕ
+order_lines lines = flat_map order_line lines

@@ -14,14 +14,14 @@ abbrev pub report_phrase : Report → Phrase
 report_phrase (report.Plan l) = phrase.Plan l
 report_phrase (report.Group g name) = phrase.Named (line.Group g) name
 report_phrase (report.Command o key) = phrase.Named (line.Command o) key
-report_phrase (report.Until moment words) = phrase.Own word.Until (fields.Said moment words)
-report_phrase (report.All moment words) = phrase.Own word.All (fields.Said moment words)
+report_phrase (report.Until moment words) = phrase.Own word.Until (fields.NumberText moment words)
+report_phrase (report.All moment words) = phrase.Own word.All (fields.NumberText moment words)
 report_phrase report.Next = phrase.Own word.Next fields.Alone
 report_phrase (report.Lives t) = phrase.Own word.Lives (fields.Lives t)
 report_phrase (report.Ended task o) = phrase.Own word.Ended (fields.Ended task o)
 report_phrase (report.Gone task) = phrase.Own word.Gone (fields.Number task)
-report_phrase (report.Cancel c why) = phrase.Own word.Cancel (fields.Said c why)
-report_phrase (report.Done g why) = phrase.Own word.Done (fields.Said g why)
+report_phrase (report.Cancel c why) = phrase.Own word.Cancel (fields.NumberText c why)
+report_phrase (report.Done g why) = phrase.Own word.Done (fields.NumberText g why)
 report_phrase report.Hurry = phrase.Own word.Hurry fields.Alone
 
 -- A line says this.

@@ -19,12 +19,12 @@ word_text word.Hurry = codes "hurry"
 
 -- Which fields follow each word.
 abbrev pub shape_of : LineWord → Shape
-shape_of word.Until = shape.Said
-shape_of word.All = shape.Said
+shape_of word.Until = shape.NumberText
+shape_of word.All = shape.NumberText
 shape_of word.Next = shape.Alone
 shape_of word.Lives = shape.Lives
 shape_of word.Ended = shape.Ended
 shape_of word.Gone = shape.Number
-shape_of word.Cancel = shape.Said
-shape_of word.Done = shape.Said
+shape_of word.Cancel = shape.NumberText
+shape_of word.Done = shape.NumberText
 shape_of word.Hurry = shape.Alone

@@ -6,7 +6,8 @@
 
 ghost use Rattle.std.specs.Prelude.{◌≡◌, ◌++◌, codes};
 ghost use Rattle.drive_lines.specs.Examples.{accepted, begun, begun_again, canceled, failed, gone};
-ghost use Rattle.drive_lines.specs.Examples.{order_lines, planned, report_lines, stopped};
+ghost use Rattle.drive_lines.specs.Examples.{planned, report_lines, stopped};
+ghost use Rattle.drive_lines.specs.Orders.{order_lines};
 
 /// A plan with names.
 pub fn a_plan_has_names()

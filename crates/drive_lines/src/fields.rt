@@ -27,7 +27,7 @@ pub struct TryName {
 pub(crate) enum Fields {
     Alone,
     Number(u64),
-    Said(u64, Text),
+    NumberText(u64, Text),
     Ended(u64, Outcome),
     Lives(TryName),
 }
@@ -40,7 +40,7 @@ pub(crate) fn read_fields(shape: Shape, left: Option<&[u8]>) -> Option<Fields>
     match shape {
         Shape::Alone => read_alone(left),
         Shape::Number => read_number(left),
-        Shape::Said => read_said(left),
+        Shape::NumberText => read_number_text(left),
         Shape::Ended => read_ended(left),
         Shape::Lives => read_lives(left),
     }
@@ -64,11 +64,11 @@ fn read_number(left: Option<&[u8]>) -> Option<Fields>
 }
 
 /// `NUMBER TEXT`
-fn read_said(left: Option<&[u8]>) -> Option<Fields>
-    ensures { FieldsRead Shape.Said (lent left.entry) result }
+fn read_number_text(left: Option<&[u8]>) -> Option<Fields>
+    ensures { FieldsRead Shape.NumberText (lent left.entry) result }
 {
     let (number, rest) = number_then(left?)?;
-    Some(Fields::Said(number, Text::read(rest)?))
+    Some(Fields::NumberText(number, Text::read(rest)?))
 }
 
 /// `NUMBER ok`, `NUMBER error TEXT`

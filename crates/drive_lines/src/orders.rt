@@ -30,6 +30,8 @@ pub enum Order {
     Answer(AnswerLine),
     /// `night NIGHT`: the number of the night that has begun or goes on.
     Night(u64),
+    /// `name GROUP`: no group can have the name of this one, or an earlier one has it.
+    Name(u64),
     /// `twice COMMAND`: the group and the key of this command stand before it.
     Twice(u64),
     /// `other TASK`: this task of the store is one of another job.
@@ -62,6 +64,7 @@ impl Order {
         match self {
             Order::Answer(line) => line.append(out),
             Order::Night(night) => append_number(out, b"night ", *night),
+            Order::Name(group) => append_number(out, b"name ", *group),
             Order::Twice(command) => append_number(out, b"twice ", *command),
             Order::Other(task) => append_number(out, b"other ", *task),
             Order::Begin(command, task, named) => append_try(out, b"begin", *command, *task, named),

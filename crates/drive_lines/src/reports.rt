@@ -70,14 +70,14 @@ fn own_report(word: LineWord, fields: Fields) -> Option<Report>
     ensures back { (r : ReportOf) → report_phrase r ≡ Phrase.Own word fields → result ≡ Some r }
 {
     match (word, fields) {
-        (LineWord::Until, Fields::Said(moment, words)) => Some(Report::Until(moment, words)),
-        (LineWord::All, Fields::Said(moment, words)) => Some(Report::All(moment, words)),
+        (LineWord::Until, Fields::NumberText(moment, words)) => Some(Report::Until(moment, words)),
+        (LineWord::All, Fields::NumberText(moment, words)) => Some(Report::All(moment, words)),
         (LineWord::Next, Fields::Alone) => Some(Report::Next),
         (LineWord::Lives, Fields::Lives(living)) => Some(Report::Lives(living)),
         (LineWord::Ended, Fields::Ended(task, outcome)) => Some(Report::Ended(task, outcome)),
         (LineWord::Gone, Fields::Number(task)) => Some(Report::Gone(task)),
-        (LineWord::Cancel, Fields::Said(command, why)) => Some(Report::Cancel(command, why)),
-        (LineWord::Done, Fields::Said(group, why)) => Some(Report::Done(group, why)),
+        (LineWord::Cancel, Fields::NumberText(command, why)) => Some(Report::Cancel(command, why)),
+        (LineWord::Done, Fields::NumberText(group, why)) => Some(Report::Done(group, why)),
         (LineWord::Hurry, Fields::Alone) => Some(Report::Hurry),
         _ => None,
     }

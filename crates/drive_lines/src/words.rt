@@ -26,7 +26,7 @@ pub(crate) enum Shape {
     /// A number.
     Number,
     /// A number and a text.
-    Said,
+    NumberText,
     /// A number, and how a try ended.
     Ended,
     /// A try.
@@ -59,7 +59,7 @@ pub(crate) fn shape_of(word: LineWord) -> Shape
     match word {
         LineWord::Next | LineWord::Hurry => Shape::Alone,
         LineWord::Gone => Shape::Number,
-        LineWord::Until | LineWord::All | LineWord::Cancel | LineWord::Done => Shape::Said,
+        LineWord::Until | LineWord::All | LineWord::Cancel | LineWord::Done => Shape::NumberText,
         LineWord::Ended => Shape::Ended,
         LineWord::Lives => Shape::Lives,
     }

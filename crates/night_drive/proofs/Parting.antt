@@ -112,7 +112,7 @@ longer_not g h name one other plain less = by_rest one.rest
     ]
 
 -- A name of the store belongs to one group.
-one_group : (g h name : List ℕ) → belongs g name ≡ true → belongs h name ≡ true → IsPlain g
+pub one_group : (g h name : List ℕ) → belongs g name ≡ true → belongs h name ≡ true → IsPlain g
     → IsPlain h → g ≡ h
 one_group g h name first second plain_g plain_h = elim (cases_eq (length g) (length h)) [
   | inl same ↦

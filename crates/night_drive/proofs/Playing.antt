@@ -101,7 +101,7 @@ same_below xs ys n one other same = same_rows xs ys at
 
 -- ---- what is known of all commands
 
-known_shown : (p : State) (ends : Ends) (names : Names) (commands : List Command)
+pub known_shown : (p : State) (ends : Ends) (names : Names) (commands : List Command)
     (keys : List (List ℕ)) (c : ℕ) (command : Command) (group key : List ℕ)
     → slice_get commands c ≡ Some command → slice_get keys c ≡ Some key
     → slice_get names.groups.items command.group ≡ Some group
@@ -187,7 +187,7 @@ map_none : {X : Type 0} (xs : List X) → map (λ x. x) xs ≡ xs
 map_none [] = refl
 map_none (x ∷ xs) = ap (λ ys. x ∷ ys) (map_none xs)
 
-known_same : (p q : State) (ends : Ends) (plan : Plan) (names : Names) → AreNames plan names
+pub known_same : (p q : State) (ends : Ends) (plan : Plan) (names : Names) → AreNames plan names
     → ((group key : List ℕ) → known_of q (moment_of ends) names.night group key
     ≡ known_of p (moment_of ends) names.night group key)
     → (night_in q ends plan names).known ≡ (night_in p ends plan names).known
@@ -198,7 +198,7 @@ known_same p q ends plan names are each =
 -- ---- which groups are done
 
 -- These groups are done, too.
-abbrev stopped_in : List ℕ → List Bool → List Bool
+abbrev pub stopped_in : List ℕ → List Bool → List Bool
 stopped_in [] done = done
 stopped_in (g ∷ stopped) done = stopped_in stopped (set done g true)
 
@@ -258,7 +258,7 @@ length-stopped [] done = refl
 length-stopped (g ∷ stopped) done =
     length-stopped stopped (set done g true) ∙ length-set done g true
 
-done_stopped : (p q : State) (names : Names) (stopped : List ℕ)
+pub done_stopped : (p q : State) (names : Names) (stopped : List ℕ)
     → ((g : ℕ) (group : List ℕ) → slice_get names.groups.items g ≡ Some group
     → is_over q names.night group ≡ (is_over p names.night group || is_among g stopped))
     → map (is_over q names.night) names.groups.items
@@ -294,7 +294,7 @@ done_same p q names each =
 -- ---- nights
 
 -- The night with these facts.
-abbrev with_facts : Plan → List Known → List Bool → Night
+abbrev pub with_facts : Plan → List Known → List Bool → Night
 with_facts plan known done = record {
   first = plan.first;
   groups = plan.groups.items;
@@ -303,7 +303,7 @@ with_facts plan known done = record {
   done = done;
 }
 
-facts_are : (plan : Plan) (old new : List Known) (before after : List Bool) → new ≡ old
+pub facts_are : (plan : Plan) (old new : List Known) (before after : List Bool) → new ≡ old
     → after ≡ before → with_facts plan new after ≡ with_facts plan old before
 facts_are plan old new before after first second =
     ap (λ x. with_facts plan x after) first ∙ ap (with_facts plan old) second
@@ -312,7 +312,7 @@ stops_know : (g i : ℕ) (known : List Known) → all_turned (Stop g) i known �
 stops_know g i [] = refl
 stops_know g i (k ∷ known) = ap (λ ks. k ∷ ks) (stops_know g (i + 1) known)
 
-after_stops : (plan : Plan) (known : List Known) (done : List Bool) (stopped : List ℕ)
+pub after_stops : (plan : Plan) (known : List Known) (done : List Bool) (stopped : List ℕ)
     → with_facts plan known (stopped_in stopped done)
     ≡ after_all (with_facts plan known done) (map Stop stopped)
 after_stops plan known done [] = refl

@@ -103,7 +103,7 @@ pub record IsNoTurn (p : State) (e : Event) : Type 0 where
   pub no_finish : is_finish e ≡ false
   pub no_restart : is_restart e ≡ false
 
--- Each event of the row begins the command that stands beside it. It is no turn if none does.
+-- Each event of the row begins the command that is paired with it. It is no turn if none does.
 abbrev pub AreBegins : State → Names → List Command → List (Event × Option ℕ) → Type 0
 AreBegins p names commands [] = Unit {0}
 AreBegins p names commands ((e, Some c) ∷ row) =

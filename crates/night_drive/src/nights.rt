@@ -41,7 +41,7 @@ pub fn is_over<A: Allocator>(state: &State<A>, night: &Option<Text>, group: &Nam
 }
 
 /// Returns the last scope of a group of the plan in this night.
-fn last_scope<A: Allocator>(state: &State<A>, night: &Option<Text>, group: &Name) -> Option<u16>
+pub fn last_scope<A: Allocator>(state: &State<A>, night: &Option<Text>, group: &Name) -> Option<u16>
     ensures last { result ≡ last_below (is_scope state.now night.now group.now)
         (length state.now.tree.scopes) }
     ensures within { IfSome result (λ scope. scope < length state.now.tree.scopes) }
@@ -75,7 +75,7 @@ fn has_cause(kind: &Kind) -> bool
 }
 
 /// Returns whether a scope is done.
-fn is_done<A: Allocator>(state: &State<A>, scope: u16) -> bool
+pub fn is_done<A: Allocator>(state: &State<A>, scope: u16) -> bool
     requires { scope < length state.now.tree.scopes }
     ensures { result ≡ is_done state.now.tree.scopes scope }
 {

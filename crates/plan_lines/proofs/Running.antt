@@ -7,6 +7,7 @@ use Rattle.std.proofs.Common.{add-zero, append-nil}
 use Rattle.std.proofs.lemmas.Bool.{cases_lt}
 use Rattle.std.proofs.lemmas.Bool.Decides.{nat_tests}
 use Rattle.std.proofs.lemmas.List.{length-append, length-take-le, take_all}
+use Rattle.std.proofs.lemmas.List.Concat.{flat_map-append}
 use Rattle.console_lines.specs.declared.faults.RunFault.{RunFault}
 use Rattle.console_lines.specs.declared.faults.RunFault.TheVariants as fault
 use Rattle.console_lines.specs.Lines.{whole_lines, open_line}
@@ -22,14 +23,13 @@ use Rattle.plan_lines.specs.declared.runs.RunEnd.{RunEnd}
 use Rattle.plan_lines.specs.declared.runs.RunEnd.TheVariants as end
 use Rattle.plan_lines.specs.declared.runs.InputPart.{InputPart}
 use Rattle.plan_lines.specs.declared.runs.InputPart.TheVariants as part
-use Rattle.plan_lines.specs.Answers.{answer_lines}
+use Rattle.plan_lines.specs.Answers.{answer_line, answer_lines}
 use Rattle.plan_lines.specs.Drafts.{IsNew}
 use Rattle.plan_lines.specs.Lines.{Means}
 use Rattle.plan_lines.specs.Reading.{IsOfInput, ReadsLine, ReadsNoLine}
 use Rattle.plan_lines.specs.Runs.{Answers, BreaksOff, IsAfterLines, RunEnds, RunStops, RunsOver}
 use Rattle.plan_lines.specs.Runs.{StopsOver, TakesLine}
 use Rattle.plan_lines.proofs.Reading.{open_of_none}
-use Rattle.plan_lines.proofs.Writing.{answer_lines-append}
 
 -- ---- lines that were cut are bad
 
@@ -167,7 +167,7 @@ stops_then why s n (x ∷ input) more t xs text all rest =
       stops_then why all.0 (n + 1) input more t all.2 text all.4
           (subst (λ (m : ℕ). StopsOver why t m more text) (sym (moved n (length input))) rest),
       ap (λ (l : List AnswerLine). answer_lines l ++ text) all.5
-          ∙ ap (λ (l : List ℕ). l ++ text) (answer_lines-append all.1 all.2)
+          ∙ ap (λ (l : List ℕ). l ++ text) (flat_map-append answer_line all.1 all.2)
           ∙ append_assoc (answer_lines all.1) (answer_lines all.2) text,
     )
 
@@ -281,7 +281,7 @@ module _ {held new line : List ℕ} {number : ℕ} {s : InputPart} {r0 r1 r2 w0 
               takes);
           count = omega (arith, run.count, ap length one, length-append lines (text ∷ []));
           written =
-              subst (Appends w0 w2) (sym (answer_lines-append run.lines answer.0))
+              subst (Appends w0 w2) (sym (flat_map-append answer_line run.lines answer.0))
               (appends_then w0 w1 w2 (answer_lines run.lines) (answer_lines answer.0) run.written
               answer.2);
         }
@@ -316,7 +316,7 @@ module _ {held new line : List ℕ} {number : ℕ} {s : InputPart} {r0 r1 r2 w0 
               absurd (not_ended s number line answer.0
               (subst (λ (e : RunEnd). TakesLine s number line (next.End e) answer.0) is answer.1));
           written =
-              subst (Appends w0 w2) (sym (answer_lines-append run.lines answer.0))
+              subst (Appends w0 w2) (sym (flat_map-append answer_line run.lines answer.0))
               (appends_then w0 w1 w2 (answer_lines run.lines) (answer_lines answer.0) run.written
               answer.2);
         }

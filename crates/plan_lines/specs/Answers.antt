@@ -1,6 +1,7 @@
 -- How each line of an answer is spelled.
 use Rattle.std.specs.Prelude.{◌++◌, ◌∷◌, ℕ, List, [], codes}
 use Rattle.std.specs.Fmt.{decimal}
+use Rattle.std.specs.List.{flat_map}
 use Rattle.night_plan.specs.declared.standings.Standing.{Standing}
 use Rattle.night_plan.specs.declared.standings.Standing.TheVariants as standing
 use Rattle.plan_lines.specs.declared.answers.AnswerLine.{AnswerLine}
@@ -31,7 +32,10 @@ answer_text (answer.Stands c s) = codes "stands " ++ decimal c ++ standing_text 
 answer_text (answer.Bad line) = codes "bad " ++ decimal line
 answer_text answer.End = []
 
+-- A line of an answer, with its LF.
+abbrev pub answer_line : AnswerLine → List ℕ
+answer_line it = answer_text it ++ 10 ∷ []
+
 -- Some lines, one after the other, each with its LF.
 abbrev pub answer_lines : List AnswerLine → List ℕ
-answer_lines [] = []
-answer_lines (it ∷ lines) = (answer_text it ++ 10 ∷ []) ++ answer_lines lines
+answer_lines lines = flat_map answer_line lines

@@ -1,9 +1,9 @@
 //! An [`AnswerLine`] is one line of an answer.
 
-ghost use Rattle.std.specs.Prelude.{◌+◌, ◌≤◌, ◌++◌, ◌∷◌, [], codes};
+ghost use Rattle.std.specs.Prelude.{◌+◌, ◌≤◌, ◌++◌, codes};
 ghost use Rattle.std.specs.Fmt.{decimal};
 ghost use Rattle.console_lines.specs.Appended.{Appended};
-ghost use Rattle.plan_lines.specs.Answers.{answer_text, standing_text};
+ghost use Rattle.plan_lines.specs.Answers.{answer_line, standing_text};
 ghost use Rattle.arrayvec.specs.ArrayVec.{array_vec_len};
 
 use arrayvec::ArrayVec;
@@ -45,8 +45,7 @@ impl AnswerLine {
     /// Appends the bytes of the line, with its LF.
     pub fn append<const N: usize>(&self, out: &mut ArrayVec<u8, N>)
         requires { array_vec_len out.old + LONGEST_ANSWER ≤ N }
-        ensures { Appended out.old.items out.new.items (answer_text self.now ++ 10 ∷ [])
-            LONGEST_ANSWER }
+        ensures { Appended out.old.items out.new.items (answer_line self.now) LONGEST_ANSWER }
     {
         match self {
             AnswerLine::Plan(count) => push_number(out, b"plan ", *count as u64),

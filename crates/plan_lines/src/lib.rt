@@ -3,6 +3,7 @@
 
 pub mod answers;
 pub mod drafts;
+pub mod flushes;
 pub mod hearing;
 pub mod lines;
 pub mod notes;

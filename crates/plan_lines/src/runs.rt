@@ -10,12 +10,13 @@ ghost use Rattle.plan_lines.specs.Writing.{WritesPrefix};
 
 use crate::answers::AnswerLine;
 use crate::drafts::Draft;
+use crate::flushes::flush_out;
 use crate::hearing::{Grown, Heard, Round};
 use crate::lines::{PlanLine, read_line};
 use crate::readers::{Line, LineReader};
 use crate::rounds::{bad_answer, refused_answer, round_answer, taken_answer};
 use crate::states::PlanState;
-use console_lines::{OutputBuffer, RunFault, make_room, write_out};
+use console_lines::{OutputBuffer, RunFault, make_room};
 use night_plan::commands::Plan;
 use night_plan::plans::PlanFault;
 use std::alloc::Global;
@@ -260,9 +261,6 @@ fn write_answer<W: Write>(lines: &[AnswerLine], output: &mut W) -> Result<(), Ru
         make_room(&mut buffer, output)?;
         line.append(&mut buffer);
     }
-    write_out(&mut buffer, output)?;
-    match output.flush() {
-        Ok(()) => Ok(()),
-        Err(_) => Err(RunFault::Output),
-    }
+    flush_out(&mut buffer, output)?;
+    Ok(())
 }
