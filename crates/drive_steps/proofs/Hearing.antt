@@ -1,7 +1,7 @@
 -- What is recorded of a round are turns.
 use Rattle.std.proofs.Common.{◌≡◌, ◌∙◌, ◌==◌, ◌&&◌, ◌||◌, ℕ, Bool, true, false, not, cond}
 use Rattle.std.proofs.Common.{List, [], ◌∷◌, ◌++◌, Option, Some, None, Ok, length, map, slice_get}
-use Rattle.std.proofs.Common.{ap, refl, sym, inl, inr}
+use Rattle.std.proofs.Common.{ap, refl, subst, sym, inl, inr}
 use Rattle.std.proofs.lemmas.Bool.{cases_eq, eq-eqb, eqb-true}
 use Rattle.std.proofs.Math.Bool.{or-true}
 use Rattle.std.proofs.lemmas.Option.{slice_get_within}
@@ -11,8 +11,7 @@ use Rattle.std.specs.Result.{result_unwrap_or}
 use Rattle.run_model.proofs.Common.{lt-ltb}
 use Rattle.run_model.proofs.RefusalLemmas.{unless_none}
 use Rattle.run_model.proofs.RowLemmas.{slice_get-at_row_other, slice_get-at_row_same}
-use Rattle.run_model.specs.Allowed.{has_row, refusals}
-use Rattle.run_model.specs.declared.commands.Command.TheVariants as call
+use Rattle.run_model.specs.Allowed.{allowed, has_row, refusals}
 use Rattle.run_model.specs.declared.commands.Step.{Step}
 use Rattle.run_model.specs.declared.commands.Step.TheVariants as step
 use Rattle.run_model.specs.declared.tasks.Outcome.{Outcome}
@@ -44,7 +43,7 @@ use Rattle.night_drive.specs.Turns.{end_of}
 use Rattle.night_drive.proofs.Playing.{advances_are_turns, finishes_are_turns}
 use Rattle.night_drive.proofs.Turning.{HasRowAt, row_at}
 use Rattle.drive_steps.specs.declared.heard.Ended.{Ended}
-use Rattle.drive_steps.specs.Heard.{AreEnds, EndsAreTurns, HeardAreTurns}
+use Rattle.drive_steps.specs.Heard.{AreEnds, AreNoted, ClocksAreTurns, EndsAreTurns}
 use Rattle.drive_steps.specs.Heard.{finishes_of, has_ended, turns_of}
 
 -- ---- when a try that runs will end plays no part
@@ -170,17 +169,52 @@ unheard p names commands row are n still = by_ended (has_ended (map (λ part. pa
 
 -- ---- one end after another
 
+pub finish_allowed : (p : State) (n : ℕ) (o : Outcome) → has_stage is_running p.work n ≡ true
+    → allowed p (event.Finish n o) ≡ true
+finish_allowed p n o runs =
+    let at : HasRowAt p n is_running = row_at p n is_running runs in
+    let there : has_row p.work.tasks n ≡ true =
+    lt-ltb n (length p.work.tasks) (slice_get_within p.work.tasks n at.row at.found) in
+    ap (λ b. not (not b) && (not (not (has_stage is_running p.work n)) && true)) there
+    ∙ ap (λ b. not (not b) && true) runs
+
 pub finish_made : (s : Session) (n : ℕ) (o : Outcome) → has_stage is_running s.state.work n ≡ true
     → event_of_step s (step.Finish n o) ≡ Some (event.Finish n o)
 finish_made s n o runs =
-    let at : HasRowAt s.state n is_running = row_at s.state n is_running runs in
-    let there : has_row s.state.work.tasks n ≡ true =
-    lt-ltb n (length s.state.work.tasks)
-    (slice_get_within s.state.work.tasks n at.row at.found) in
     ap (λ r. result_unwrap_or r None)
     (unless_none (refusals s.state (event.Finish n o)) (Ok (Some (event.Finish n o)))
-    (ap (λ b. not (not b) && (not (not (has_stage is_running s.state.work n)) && true)) there
-    ∙ ap (λ b. not (not b) && true) runs))
+    (finish_allowed s.state n o runs))
+
+-- The first of some ends is a turn, and after it come the others.
+pub record IsFirstEnd (end : Ended) (c : ℕ) (row : List (Ended × ℕ)) (s : Session) (new : Ends)
+    (plan : Plan) (names : Names) (now : ℕ) : Type 0 where
+  pub turn : night_in (after_step s (step.Finish end.task end.outcome)).state new plan names
+      ≡ after_turn (night_in s.state new plan names) (end_of c now end.outcome)
+  pub are : AreEnds (after_step s (step.Finish end.task end.outcome)).state names
+      plan.commands.items row
+  pub own : (n : ℕ) → has_ended (map (λ part. part.0) row) n ≡ true → moment_of new n ≡ now
+
+pub first_end : (end : Ended) (c : ℕ) (row : List (Ended × ℕ)) (s : Session) (new : Ends)
+    (plan : Plan) (names : Names) (now : ℕ) → AreNames plan names
+    → AreEnds s.state names plan.commands.items ((end, c) ∷ row)
+    → ((n : ℕ) → has_ended (end ∷ map (λ part. part.0) row) n ≡ true → moment_of new n ≡ now)
+    → IsFirstEnd end c row s new plan names now
+first_end end c row s new plan names now are ends own =
+    let n : ℕ = end.task in
+    let o : Outcome = end.outcome in
+    let made : with_event s (Some (event.Finish n o)) ≡ after_step s (step.Finish n o) =
+    sym (ap (with_event s) (finish_made s n o ends.0.runs)) in
+    let moment : moment_of new n ≡ now =
+    own n (ap (λ b. b || has_ended (map (λ part. part.0) row) n) (eq-eqb n n refl)) in
+    record {
+      turn =
+          ap (λ (x : Session). night_in x.state new plan names) (sym made)
+          ∙ finishes_are_turns s.state new new plan names n c o are ends.0.runs ends.0.counted
+          ends.0.bare (λ m other. refl) ends.0.of
+          ∙ ap (λ (m : ℕ). after_turn (night_in s.state new plan names) (end_of c m o)) moment;
+      are = subst (λ (x : Session). AreEnds x.state names plan.commands.items row) made ends.1;
+      own = λ m is. own m (ap (λ b. (n == m) || b) is ∙ or-true (n == m));
+    }
 
 one_by_one : (row : List (Ended × ℕ)) (s : Session) (new : Ends) (plan : Plan) (names : Names)
     (now : ℕ) → AreNames plan names → AreEnds s.state names plan.commands.items row
@@ -189,30 +223,26 @@ one_by_one : (row : List (Ended × ℕ)) (s : Session) (new : Ends) (plan : Plan
     ≡ after_all (night_in s.state new plan names) (turns_of now row)
 one_by_one [] s new plan names now are ends own = refl
 one_by_one ((end, c) ∷ row) s new plan names now are ends own =
-    let n : ℕ = end.task in
-    let o : Outcome = end.outcome in
-    let rest : List Step = finishes_of (map (λ part. part.0) row) in
-    let s1 : Session = with_event s (Some (event.Finish n o)) in
-    let made : after_step s (step.Finish n o) ≡ s1 =
-    ap (with_event s) (finish_made s n o ends.0.runs) in
-    let later = λ (m : ℕ) (is : has_ended (map (λ part. part.0) row) m ≡ true).
-    own m (ap (λ b. (n == m) || b) is ∙ or-true (n == m)) in
-    let moment : moment_of new n ≡ now =
-    own n (ap (λ b. b || has_ended (map (λ part. part.0) row) n) (eq-eqb n n refl)) in
-    ap (λ (x : Session). night_in (session_after x rest).state new plan names) made
-    ∙ one_by_one row s1 new plan names now are ends.1 later
-    ∙ ap (λ x. after_all x (turns_of now row))
-    (finishes_are_turns s.state new new plan names n c o are ends.0.runs ends.0.counted
-    ends.0.bare (λ m other. refl) ends.0.of
-    ∙ ap (λ (m : ℕ). after_turn (night_in s.state new plan names) (end_of c m o)) moment)
+    let first = first_end end c row s new plan names now are ends own in
+    one_by_one row (after_step s (step.Finish end.task end.outcome)) new plan names now are
+    first.are first.own
+    ∙ ap (λ x. after_all x (turns_of now row)) first.turn
+
+-- Before the ends it plays no part when those tries will have ended.
+pub heard_night : (s : Session) (old new : Ends) (plan : Plan) (names : Names)
+    (row : List (Ended × ℕ)) (now : ℕ) → AreEnds s.state names plan.commands.items row
+    → AreNoted old new (map (λ part. part.0) row) now
+    → night_in s.state new plan names ≡ night_in s.state old plan names
+heard_night s old new plan names row now ends noted =
+    night_alike s.state old new plan names
+    (λ n still. noted.others n
+    (unheard s.state names plan.commands.items row ends n still))
 
 pub ends_turn : EndsAreTurns
 ends_turn s old new plan names row now are ends noted =
     one_by_one row s new plan names now are ends noted.own
     ∙ ap (λ x. after_all x (turns_of now row))
-    (night_alike s.state old new plan names
-    (λ n still. noted.others n
-    (unheard s.state names plan.commands.items row ends n still)))
+    (heard_night s old new plan names row now ends noted)
 
 -- ---- and then the clock
 
@@ -221,19 +251,19 @@ pub steps_join : (s : Session) (first second : List Step)
 steps_join s [] second = refl
 steps_join s (x ∷ first) second = steps_join (after_step s x) first second
 
-turns_join : (n : Night) (first second : List Turn)
+pub turns_join : (n : Night) (first second : List Turn)
     → after_all n (first ++ second) ≡ after_all (after_all n first) second
 turns_join n [] second = refl
 turns_join n (t ∷ first) second = turns_join (after_turn n t) first second
 
-pub heard_turn : HeardAreTurns
-heard_turn s old new plan names row now stopped are ends noted comes =
-    let heard : List Ended = map (λ part. part.0) row in
-    let t : Session = session_after s (finishes_of heard) in
-    ap (λ (x : Session). night_in x.state new plan names)
-    (steps_join s (finishes_of heard) (step.Command (call.Advance now) ∷ []))
-    ∙ ap (λ (x : Session). night_in x.state new plan names) (ap (with_event t) comes.moves)
-    ∙ advances_are_turns t.state new plan names now stopped are comes.numbered comes.those
-    ∙ ap (λ x. after_all x (map Stop stopped))
-    (ends_turn s old new plan names row now are ends noted)
-    ∙ sym (turns_join (night_in s.state old plan names) (turns_of now row) (map Stop stopped))
+-- A clock that moves stops the groups whose deadline has come, and one that stays stops none.
+pub clocks_are_turns : ClocksAreTurns
+clocks_are_turns s ends plan names now stopped are comes = elim comes [
+  | inl moves ↦
+      ap (λ (x : Session). night_in x.state ends plan names) (ap (with_event s) moves.moves)
+      ∙ advances_are_turns s.state ends plan names now stopped are moves.numbered moves.those
+  | inr stays ↦
+      ap (λ (x : Session). night_in x.state ends plan names) (ap (with_event s) stays.stays)
+      ∙ ap (λ (xs : List ℕ). after_all (night_in s.state ends plan names) (map Stop xs))
+      (sym stays.none)
+]

@@ -1,9 +1,9 @@
--- How a command of the plan is called, and where it gets its next task.
+-- How a command of the plan is called, and in which group of the store it gets its next task.
 use Rattle.std.proofs.Common.{◌≡◌, ◌<◌, ◌∙◌, ℕ, zero, suc, Bool, true, List, [], ◌∷◌, Option}
 use Rattle.std.proofs.Common.{Some, None, IsSome, length, slice_get, get_or}
 use Rattle.std.proofs.Common.{ap, sym, subst, arith}
 use Rattle.std.proofs.lemmas.Option.{none-some, same_Some}
-use Rattle.std.specs.List.{list_all}
+use Rattle.std.specs.List.{Contains, list_all}
 use Rattle.std.specs.Option.{option_map_or}
 use Rattle.std.specs.Prelude.{is_some, unwrap_or}
 use Rattle.run_model.proofs.Common.{and_parts, false≢true}
@@ -16,7 +16,7 @@ use Rattle.night_drive.specs.declared.names.Names.{Names}
 use Rattle.night_drive.specs.Searches.{last_below}
 use Rattle.night_drive.specs.Seen.{AreNames, is_try}
 use Rattle.drive_steps.specs.Rooms.{are_housed, last_group}
-use Rattle.drive_steps.specs.Starts.{group_of, key_of, next_of, next_task, next_try}
+use Rattle.drive_steps.specs.Starts.{group_of, key_of, last_of, next_task, next_try}
 
 -- What all elements pass, each one passes.
 each_passes : {X : Type 0} (test : X → Bool) (xs : List X) → list_all test xs ≡ true
@@ -34,58 +34,76 @@ housed_at p names g group all at =
     each_passes (λ (name : List ℕ). is_some (last_group p names.night name)) names.groups.items all
     g group at
 
--- A command was read from the plan, with its group and its key.
-pub record IsRead (plan : Plan) (names : Names) (c : ℕ) (command : Command) (group key : List ℕ)
+-- A command was read from the plan, with the name of its group.
+pub record IsRead (plan : Plan) (names : Names) (c : ℕ) (command : Command) (group : List ℕ)
     : Type 0 where
   pub named : AreNames plan names
   pub less : c < length plan.commands.items
   pub command_is : command ≡ get_or plan.commands.items c command
   pub group_is : group ≡ get_or names.groups.items command.group group
-  pub key_is : key ≡ get_or names.keys.items c key
 
-there : (plan : Plan) (names : Names) (c : ℕ) (command : Command) (group key : List ℕ)
-    → IsRead plan names c command group key → slice_get plan.commands.items c ≡ Some command
-there plan names c command group key it = read plan.commands.items c command it.less it.command_is
+there : (plan : Plan) (names : Names) (c : ℕ) (command : Command) (group : List ℕ)
+    → IsRead plan names c command group → slice_get plan.commands.items c ≡ Some command
+there plan names c command group it = read plan.commands.items c command it.less it.command_is
 
-group_there : (plan : Plan) (names : Names) (c : ℕ) (command : Command) (group key : List ℕ)
-    → IsRead plan names c command group key
-    → slice_get names.groups.items command.group ≡ Some group
-group_there plan names c command group key it =
+group_within : (plan : Plan) (names : Names) (c : ℕ) (command : Command) (group : List ℕ)
+    → IsRead plan names c command group → command.group < length names.groups.items
+group_within plan names c command group it =
     let own : command.group < length plan.groups.items =
-    plan.sound.own c command (there plan names c command group key it) in
-    read names.groups.items command.group group (omega (arith, own, it.named.groups)) it.group_is
+    plan.sound.own c command (there plan names c command group it) in
+    omega (arith, own, it.named.groups)
 
--- Its group has a group of the store.
-pub has_room : (p : State) (plan : Plan) (names : Names) (c : ℕ) (command : Command)
-    (group key : List ℕ) → IsRead plan names c command group key → are_housed p names ≡ true
-    → last_group p names.night group ≡ None → ⊥
-has_room p plan names c command group key it housed none =
+-- The name is one of those of groups.
+pub group_listed : (plan : Plan) (names : Names) (c : ℕ) (command : Command) (group : List ℕ)
+    → IsRead plan names c command group → Contains names.groups.items group
+group_listed plan names c command group it =
+    (command.group, group_within plan names c command group it, sym it.group_is)
+
+-- So it is that of the command's group.
+pub group_called : (plan : Plan) (names : Names) (c : ℕ) (command : Command) (group : List ℕ)
+    → IsRead plan names c command group → group ≡ group_of names plan.commands.items c
+group_called plan names c command group it =
+    sym (ap (λ (o : Option Command). option_map_or (λ (x : Command).
+    unwrap_or (slice_get names.groups.items x.group) []) o [])
+    (there plan names c command group it)
+    ∙ ap (λ (o : Option (List ℕ)). unwrap_or o [])
+    (read names.groups.items command.group group (group_within plan names c command group it)
+    it.group_is))
+
+-- The key was read.
+pub key_called : (plan : Plan) (names : Names) (c : ℕ) (key : List ℕ) → AreNames plan names
+    → c < length plan.commands.items → key ≡ get_or names.keys.items c key → key ≡ key_of names c
+key_called plan names c key are less is =
+    sym (ap (λ (o : Option (List ℕ)). unwrap_or o [])
+    (read names.keys.items c key (omega (arith, less, are.keys)) is))
+
+-- So this is the command's last try.
+pub last_is : (p : State) (names : Names) (commands : List Command) (c : ℕ) (group key : List ℕ)
+    (last : Option ℕ) → group ≡ group_of names commands c → key ≡ key_of names c
+    → last ≡ last_below (is_try p names.night group key) (length p.work.tasks)
+    → last ≡ last_of p names commands c
+last_is p names commands c group key last grouped keyed is =
+    is ∙ ap (λ (x : List ℕ). last_below (is_try p names.night x key) (length p.work.tasks)) grouped
+    ∙ ap (λ (x : List ℕ). last_below (is_try p names.night (group_of names commands c) x)
+    (length p.work.tasks)) keyed
+
+-- A group of the plan has a group of the store.
+pub has_room : (p : State) (names : Names) (group : List ℕ) → Contains names.groups.items group
+    → are_housed p names ≡ true → last_group p names.night group ≡ None → ⊥
+has_room p names group (g, less, is) housed none =
     let some : IsSome (last_group p names.night group) =
-    housed_at p names command.group group housed
-    (group_there plan names c command group key it) in
+    housed_at p names g group housed (read names.groups.items g group less (sym is)) in
     let off : IsSome {T = ℕ} None = subst (λ (o : Option ℕ). IsSome o) none some in
     false≢true off
 
--- So this is the step that submits its next task.
-pub next_is : (p : State) (plan : Plan) (names : Names) (c : ℕ) (command : Command)
-    (group key : List ℕ) (g : ℕ) (last : Option ℕ) (next : Call)
-    → IsRead plan names c command group key
-    → last_group p names.night group ≡ Some g
-    → last ≡ last_below (is_try p names.night group key) (length p.work.tasks)
-    → next ≡ next_task p g key last → next ≡ next_try p names plan.commands.items c
-next_is p plan names c command group key g last next it room tried is =
-    let commands = plan.commands.items in
-    let in_group : group_of names commands c ≡ group =
-    ap (λ (o : Option Command). option_map_or (λ (x : Command).
-    unwrap_or (slice_get names.groups.items x.group) []) o [])
-    (there plan names c command group key it)
-    ∙ ap (λ (o : Option (List ℕ)). unwrap_or o [])
-    (group_there plan names c command group key it) in
-    let keyed : key_of names c ≡ key =
-    ap (λ (o : Option (List ℕ)). unwrap_or o [])
-    (read names.keys.items c key (omega (arith, it.less, it.named.keys)) it.key_is) in
+-- So this is the step that submits the command's next task.
+pub next_is : (p : State) (names : Names) (commands : List Command) (c : ℕ) (group key : List ℕ)
+    (g : ℕ) (last : Option ℕ) (next : Call) → group ≡ group_of names commands c
+    → key ≡ key_of names c → last_group p names.night group ≡ Some g
+    → last ≡ last_of p names commands c → next ≡ next_task p g key last
+    → next ≡ next_try p names commands c
+next_is p names commands c group key g last next grouped keyed room tried is =
     is ∙ ap (next_task p g key) tried
-    ∙ ap (λ (o : Option ℕ). next_task p (unwrap_or o 0) key
-    (last_below (is_try p names.night group key) (length p.work.tasks))) (sym room)
-    ∙ ap (λ (x : List ℕ). next_of p names.night x key) (sym in_group)
-    ∙ ap (λ (x : List ℕ). next_of p names.night (group_of names commands c) x) (sym keyed)
+    ∙ ap (λ (x : List ℕ). next_task p g x (last_of p names commands c)) keyed
+    ∙ ap (λ (o : Option ℕ). next_task p (unwrap_or o 0) (key_of names c)
+    (last_of p names commands c)) (sym room ∙ ap (last_group p names.night) grouped)

@@ -47,13 +47,15 @@ use Rattle.night_drive.specs.Turns.{is_task}
 use Rattle.night_drive.proofs.Parting.{tasks_part}
 use Rattle.night_drive.proofs.Playing.{begins_join, others_are_no_turns, rows_are_one_turn}
 use Rattle.night_drive.proofs.Playing.{starts_are_turns}
-use Rattle.drive_steps.specs.declared.told.Begun.{Begun}
+use Rattle.drive_steps.specs.declared.reported.Begun.{Begun}
 use Rattle.drive_steps.specs.Rooms.{last_group}
-use Rattle.drive_steps.specs.Rows.{IsRight, RowsBeginAll, TasksAreToldOnce, Tells}
-use Rattle.drive_steps.specs.Rows.{TellsAcknowledged, TellsLastTries}
+use Rattle.drive_steps.specs.Rows.{IsRight, RowsBeginAll, TasksAreReportedOnce, Reports}
+use Rattle.drive_steps.specs.Rows.{ReportsAcknowledged, ReportsLastTries}
 use Rattle.drive_steps.specs.Starts.{group_of, key_of, next_try, row_of}
-use Rattle.drive_steps.specs.Told.{begins_told, is_answer, task_in}
-use Rattle.drive_steps.proofs.Going.{Goes, goes_nowhere, goes_on, housed_goes, owned_goes, row_is}
+use Rattle.drive_steps.specs.Reported.{begins_reported, is_answer, task_in}
+use Rattle.drive_steps.proofs.Going.{Came, Goes, came_nowhere, came_on, goes_by, goes_nowhere}
+use Rattle.drive_steps.proofs.Going.{groups_same, scopes_same}
+use Rattle.drive_steps.proofs.Going.{goes_on, housed_goes, owned_goes, row_is}
 use Rattle.drive_steps.proofs.Going.{stage_goes}
 use Rattle.drive_steps.proofs.Going.{task_goes}
 use Rattle.drive_steps.proofs.Starting.{Adds, Starts, added_last, added_length, added_old}
@@ -66,12 +68,12 @@ use Rattle.drive_steps.proofs.Submitting.{Submission, Submits, next_submits}
 -- ---- one command
 
 -- Command c of the plan has a group and a key.
-record Called (plan : Plan) (names : Names) (c : ℕ) : Type 0 where
-  command : Command
-  called : IsCalled names plan.commands.items c command (group_of names plan.commands.items c)
+pub record Called (plan : Plan) (names : Names) (c : ℕ) : Type 0 where
+  pub command : Command
+  pub called : IsCalled names plan.commands.items c command (group_of names plan.commands.items c)
       (key_of names c)
 
-call_of : (plan : Plan) (names : Names) → AreNames plan names → (c : ℕ)
+pub call_of : (plan : Plan) (names : Names) → AreNames plan names → (c : ℕ)
     → c < length plan.commands.items → Called plan names c
 call_of plan names are c less =
     let command = row_at plan.commands.items c less in
@@ -94,35 +96,36 @@ call_of plan names are c less =
     }
 
 -- The plan and its names fit the state at which the row was made.
-record Fits (p : State) (plan : Plan) (names : Names) : Type 0 where
-  named : AreNames plan names
-  distinct : AreDistinct plan names
-  housed : (g : ℕ) (group : List ℕ) → slice_get names.groups.items g ≡ Some group
+pub record Fits (p : State) (plan : Plan) (names : Names) : Type 0 where
+  pub named : AreNames plan names
+  pub distinct : AreDistinct plan names
+  pub housed : (g : ℕ) (group : List ℕ) → slice_get names.groups.items g ≡ Some group
       → IsSome (last_group p names.night group)
 
 -- The session has come from that state, and no task waits to be started.
-record Ready (p : State) (s : Session) : Type 0 where
-  goes : Goes p s.state
-  consistent : IsConsistent s.state
-  none : (n : ℕ) → has_stage is_fresh s.state.work n ≡ false
+pub record Ready (p : State) (s : Session) : Type 0 where
+  pub came : Came p s.state
+  pub consistent : IsConsistent s.state
+  pub none : (n : ℕ) → has_stage is_fresh s.state.work n ≡ false
 
 -- From the first session to the second one command c has begun, with task n.
-record One (p : State) (plan : Plan) (names : Names) (s t : Session) (c n : ℕ) : Type 0 where
-  ready : Ready p t
-  goes : Goes s.state t.state
-  turn : (ends : Ends) (now : ℕ) (sizes : List ℕ)
+pub record One (p : State) (plan : Plan) (names : Names) (s t : Session) (c n : ℕ) : Type 0 where
+  pub ready : Ready p t
+  pub goes : Goes s.state t.state
+  pub turn : (ends : Ends) (now : ℕ) (sizes : List ℕ)
       → night_in t.state ends plan names
       ≡ after_turn (night_in s.state ends plan names) (Begin now sizes (c ∷ []))
-  runs : has_stage is_running t.state.work n ≡ true
-  own : is_task t.state names.night (group_of names plan.commands.items c) (key_of names c) n
+  pub runs : has_stage is_running t.state.work n ≡ true
+  pub own : is_task t.state names.night (group_of names plan.commands.items c) (key_of names c) n
       ≡ true
-  number : n ≡ length s.state.work.tasks
-  more : length t.state.work.tasks ≡ length s.state.work.tasks + 1
+  pub number : n ≡ length s.state.work.tasks
+  pub more : length t.state.work.tasks ≡ length s.state.work.tasks + 1
 
-led : (p : State) (made : Event) → allowed p made ≡ true → after p made ≡ Some (change.step p made)
+pub led : (p : State) (made : Event) → allowed p made ≡ true
+    → after p made ≡ Some (change.step p made)
 led p made may = ap (λ (b : Bool). cond b (Some (change.step p made)) None) may
 
-past_is_no_try : (r : State) (night : Option (List ℕ)) (group key : List ℕ) (n : ℕ)
+pub past_is_no_try : (r : State) (night : Option (List ℕ)) (group key : List ℕ) (n : ℕ)
     → length r.work.tasks ≡ n → (m : ℕ) → n ≤ m → is_try r night group key m ≡ false
 past_is_no_try r night group key n sized m more =
     ap (λ (o : Option Task). option_map_or (λ (task : Task). bytes_eq task.argument key
@@ -154,19 +157,17 @@ one_of p plan names fits s ready c less made submits may starting =
     record { tasks = submits.tasks; fresh = submits.fresh; others = ready.none } in
     let last : slice_get r.work.tasks n ≡ Some row = added_last q r row adds in
     let along : Goes q t = started_goes q r row adds submits.tree submits.groups in
-    let at_once : Goes q r = record {
-      tree = submits.tree;
-      groups = submits.groups;
-      tasks = λ m below. added_old q r row adds m below;
-      grown = omega (arith, added_length q r row adds);
-    } in
+    let at_once : Goes q r =
+    goes_by q r (scopes_same q r submits.tree) (groups_same q r submits.groups)
+    (ap length submits.groups) (λ m below. added_old q r row adds m below)
+    (omega (arith, added_length q r row adds)) in
     let consistent : IsConsistent r = event_keeps q r made ready.consistent (led q made may) in
     let fresh : has_stage is_fresh r.work n ≡ true =
     ap (λ (o : Option Task). option_map_or (λ (task : Task). is_fresh task.stage) o false) last
     ∙ ap is_fresh submits.fresh in
     let own : is_task r night group key n ≡ true =
     ap (λ (o : Option Task). option_map_or (row_is r night group key) o false) last
-    ∙ ap (λ b. bytes_eq row.argument key && b) (owned_goes q r at_once night group row.group)
+    ∙ ap (λ b. bytes_eq row.argument key && b) (owned_goes q r at_once.came night group row.group)
     ∙ submits.own in
     let of : IsOfCommand r names commands n c = record {
       only = λ d other g k called.
@@ -177,7 +178,7 @@ one_of p plan names fits s ready c less made submits may starting =
     } in
     record {
       ready = record {
-        goes = goes_on p q t ready.goes along;
+        came = came_on p q t ready.came along.came;
         consistent = event_keeps r t (event.Start n) consistent (led r (event.Start n) starting);
         none = none_fresh q r row adds;
       };
@@ -192,37 +193,38 @@ one_of p plan names fits s ready c less made submits may starting =
           (started_row q r row adds);
       own = ap (λ (o : Option Task). option_map_or (row_is t night group key) o false)
           (started_row q r row adds)
-          ∙ ap (λ b. bytes_eq row.argument key && b) (owned_goes q t along night group row.group)
+          ∙ ap (λ b. bytes_eq row.argument key && b)
+          (owned_goes q t along.came night group row.group)
           ∙ submits.own;
       number = refl;
       more = started_length q r row adds;
     }
 
 -- By the replies to its two steps a command has begun.
-record Begins (p : State) (plan : Plan) (names : Names) (s : Session) (c n : ℕ) : Type 0 where
-  one : One p plan names s
+pub record Begins (p : State) (plan : Plan) (names : Names) (s : Session) (c n : ℕ) : Type 0 where
+  pub one : One p plan names s
       (after_step (after_step s (step.Command (next_try p names plan.commands.items c))) step.Start)
       c n
-  made : Event
-  first : event_of_step s (step.Command (next_try p names plan.commands.items c)) ≡ Some made
-  second : event_of_step
+  pub made : Event
+  pub first : event_of_step s (step.Command (next_try p names plan.commands.items c)) ≡ Some made
+  pub second : event_of_step
       (after_step s (step.Command (next_try p names plan.commands.items c))) step.Start
       ≡ Some (event.Start n)
 
-begins : (p : State) (plan : Plan) (names : Names) → Fits p plan names → (s : Session)
+pub begins : (p : State) (plan : Plan) (names : Names) → Fits p plan names → (s : Session)
     → Ready p s → (c : ℕ) → c < length plan.commands.items → (n : ℕ)
     → is_answer (reply_of_step s (step.Command (next_try p names plan.commands.items c))) ≡ true
     → task_in (reply_of_step
     (after_step s (step.Command (next_try p names plan.commands.items c))) step.Start) ≡ Some n
     → Begins p plan names s c n
-begins p plan names fits s ready c less n accepted told =
+begins p plan names fits s ready c less n accepted reported =
     let q : State = s.state in
     let asked = next_try p names plan.commands.items c in
     let it = call_of plan names fits.named c less in
     let group : List ℕ = group_of names plan.commands.items c in
     let key : List ℕ = key_of names c in
     let sub : Submission q names.night group key asked =
-    next_submits p q ready.goes ready.consistent.numbered names.night group key
+    next_submits p q ready.came ready.consistent.numbered names.night group key
     (fits.housed it.command.group group it.called.group_is) in
     let made : Event = sub.made in
     let decided = submitted s names.night group key asked made sub.submits accepted in
@@ -232,7 +234,8 @@ begins p plan names fits s ready c less n accepted told =
     let r : State = change.step q made in
     let to_s1 : after_step s (step.Command asked) ≡ s1 = ap (with_event s) first in
     let begun : Starts s1 n =
-    starts s1 n (sym (ap (λ (x : Session). task_in (reply_of_step x step.Start)) to_s1) ∙ told) in
+    starts s1 n
+    (sym (ap (λ (x : Session). task_in (reply_of_step x step.Start)) to_s1) ∙ reported) in
     let adds : Adds q r sub.submits.row =
     record { tasks = sub.submits.tasks; fresh = sub.submits.fresh; others = ready.none } in
     let number : n ≡ length q.work.tasks =
@@ -261,41 +264,41 @@ begins p plan names fits s ready c less n accepted told =
 
 -- ---- a row
 
--- The first two replies tell of one command, and the others of the rest.
-record OneTold (first second : Reply) (rest : Option (List Begun)) (c : ℕ) (begun : List Begun)
+-- The first two replies report one begin, and the others those of the rest.
+record OneReported (first second : Reply) (rest : Option (List Begun)) (c : ℕ) (begun : List Begun)
     : Type 0 where
   answer : is_answer first ≡ true
   task : ℕ
   named : task_in second ≡ Some task
   others : List Begun
-  told : rest ≡ Some others
+  reported : rest ≡ Some others
   all : begun ≡ record { command = c; task = task } ∷ others
 
-one_told : (first second : Reply) (rest : Option (List Begun)) (c : ℕ) (begun : List Begun)
+one_reported : (first second : Reply) (rest : Option (List Begun)) (c : ℕ) (begun : List Begun)
     → option_and_then (λ task. option_map (λ others. record { command = c; task = task } ∷ others)
     rest) (cond (is_answer first) (task_in second) None) ≡ Some begun
-    → OneTold first second rest c begun
-one_told first second rest c begun e =
+    → OneReported first second rest c begun
+one_reported first second rest c begun e =
     by_answer (is_answer first) (task_in second) rest refl refl refl e
   where
     by_answer : (b : Bool) (o : Option ℕ) (more : Option (List Begun)) → is_answer first ≡ b
         → task_in second ≡ o → rest ≡ more
         → option_and_then (λ task. option_map (λ others. record { command = c; task = task }
         ∷ others) more) (cond b o None) ≡ Some begun
-        → OneTold first second rest c begun
-    by_answer false o more is named told e = cc
-    by_answer true None more is named told e = cc
-    by_answer true (Some task) None is named told e = cc
-    by_answer true (Some task) (Some others) is named told e = record {
+        → OneReported first second rest c begun
+    by_answer false o more is named reported e = cc
+    by_answer true None more is named reported e = cc
+    by_answer true (Some task) None is named reported e = cc
+    by_answer true (Some task) (Some others) is named reported e = record {
       answer = is;
       task = task;
       named = named;
       others = others;
-      told = told;
+      reported = reported;
       all = sym (same_Some (record { command = c; task = task } ∷ others) begun e);
     }
 
--- This is told of a row, and so each of its commands has begun.
+-- These begins are reported of a row, and so each of its commands has begun.
 pub record Played (plan : Plan) (names : Names) (s : Session) (row : List Step) (chosen : List ℕ)
     (begun : List Begun) : Type 0 where
   pub commands : map (λ (begin : Begun). begin.command) begun ≡ chosen
@@ -402,10 +405,10 @@ join p plan names fits s c less chosen row n others here rest =
 played : (p : State) (plan : Plan) (names : Names) → Fits p plan names → (chosen : List ℕ)
     → AllByRecursion (λ c. c < length plan.commands.items) chosen → (s : Session) → Ready p s
     → (begun : List Begun)
-    → begins_told chosen (replies s (row_of p names plan.commands.items chosen)) ≡ Some begun
+    → begins_reported chosen (replies s (row_of p names plan.commands.items chosen)) ≡ Some begun
     → Played plan names s (row_of p names plan.commands.items chosen) chosen begun
-played p plan names fits [] all s ready (begin ∷ begun) told = cc
-played p plan names fits [] all s ready [] told = record {
+played p plan names fits [] all s ready (begin ∷ begun) reported = cc
+played p plan names fits [] all s ready [] reported = record {
   commands = refl;
   goes = goes_nowhere s.state;
   consistent = ready.consistent;
@@ -419,24 +422,24 @@ played p plan names fits [] all s ready [] told = record {
   any = refl;
   whole = refl;
 }
-played p plan names fits (c ∷ chosen) all s ready begun told =
+played p plan names fits (c ∷ chosen) all s ready begun reported =
     let commands = plan.commands.items in
     let asked = next_try p names commands c in
     let s1 : Session = after_step s (step.Command asked) in
     let s2 : Session = after_step s1 step.Start in
     let row : List Step = row_of p names commands chosen in
-    let one = one_told (reply_of_step s (step.Command asked)) (reply_of_step s1 step.Start)
-    (begins_told chosen (replies s2 row)) c begun told in
+    let one = one_reported (reply_of_step s (step.Command asked)) (reply_of_step s1 step.Start)
+    (begins_reported chosen (replies s2 row)) c begun reported in
     let begin : Begun = record { command = c; task = one.task } in
     let here = begins p plan names fits s ready c all.0 one.task one.answer one.named in
-    let rest = played p plan names fits chosen all.1 s2 here.one.ready one.others one.told in
+    let rest = played p plan names fits chosen all.1 s2 here.one.ready one.others one.reported in
     subst (λ (xs : List Begun). Played plan names s
     (step.Command asked ∷ step.Start ∷ row) (c ∷ chosen) xs) (sym one.all)
     (join p plan names fits s c all.0 chosen row one.task one.others here rest)
 
 -- ---- the laws
 
-all_of : {X : Type 0} (P : X → Type 0) (xs : List X)
+pub all_of : {X : Type 0} (P : X → Type 0) (xs : List X)
     → ((i : ℕ) (x : X) → slice_get xs i ≡ Some x → P x) → All P xs
 all_of {X = X} P xs each = All-from_recursion P xs (by_rows xs each)
   where
@@ -445,35 +448,36 @@ all_of {X = X} P xs each = All-from_recursion P xs (by_rows xs each)
     by_rows [] each = tt
     by_rows (x ∷ xs) each = (each zero x refl, by_rows xs (λ i y at. each (suc i) y at))
 
-pub told_so : (s : Session) (plan : Plan) (names : Names) (chosen : List ℕ) (begun : List Begun)
-    → Tells s plan names chosen begun
+pub reported_so : (s : Session) (plan : Plan) (names : Names) (chosen : List ℕ) (begun : List Begun)
+    → Reports s plan names chosen begun
     → Played plan names s (row_of s.state names plan.commands.items chosen) chosen begun
-told_so s plan names chosen begun tells =
+reported_so s plan names chosen begun reports =
     played s.state plan names
     (record {
-      named = tells.rest.named;
-      distinct = tells.rest.distinct;
-      housed = λ g group at. housed_at s.state names g group tells.rest.housed at;
+      named = reports.rest.named;
+      distinct = reports.rest.distinct;
+      housed = λ g group at. housed_at s.state names g group reports.rest.housed at;
     })
-    chosen (recursion_from_All (λ c. c < length plan.commands.items) chosen tells.within) s
+    chosen (recursion_from_All (λ c. c < length plan.commands.items) chosen reports.within) s
     (record {
-      goes = goes_nowhere s.state;
-      consistent = tells.rest.consistent;
-      none = tells.rest.none_fresh;
-    }) begun tells.told
+      came = came_nowhere s.state;
+      consistent = reports.rest.consistent;
+      none = reports.rest.none_fresh;
+    }) begun reports.reported
 
 pub rows_begin_all : RowsBeginAll
-rows_begin_all s plan names chosen begun tells =
-    let it = told_so s plan names chosen begun tells in
+rows_begin_all s plan names chosen begun reports =
+    let it = reported_so s plan names chosen begun reports in
     record {
       commands = it.commands;
       turn = it.turn;
       rest = record {
-        named = tells.rest.named;
-        distinct = tells.rest.distinct;
+        named = reports.rest.named;
+        distinct = reports.rest.distinct;
         housed = housed_goes s.state
-            (session_after s (row_of s.state names plan.commands.items chosen)).state it.goes names
-            ∙ tells.rest.housed;
+            (session_after s (row_of s.state names plan.commands.items chosen)).state it.goes.came
+            names
+            ∙ reports.rest.housed;
         consistent = it.consistent;
         none_fresh = it.none;
       };
@@ -482,23 +486,23 @@ rows_begin_all s plan names chosen begun tells =
           plan.commands.items) begun it.right;
     }
 
-pub tells_acknowledged : TellsAcknowledged
-tells_acknowledged s plan names chosen begun tells =
-    let it = told_so s plan names chosen begun tells in
+pub reports_acknowledged : ReportsAcknowledged
+reports_acknowledged s plan names chosen begun reports =
+    let it = reported_so s plan names chosen begun reports in
     let row : List Step = row_of s.state names plan.commands.items chosen in
     all_of (λ (begin : Begun). Contains (acknowledged s row (replies s row))
     (event.Start begin.task)) begun
     (λ i begin at. subst (λ (steps : List Step). Contains (accepted s steps)
     (event.Start begin.task)) (sym it.whole) (it.listed i begin at))
 
-pub tasks_are_told_once : TasksAreToldOnce
-tasks_are_told_once s plan names chosen begun tells =
-    (told_so s plan names chosen begun tells).numbers
+pub tasks_are_reported_once : TasksAreReportedOnce
+tasks_are_reported_once s plan names chosen begun reports =
+    (reported_so s plan names chosen begun reports).numbers
 
 -- ---- the last try
 
-pub tells_last_tries : TellsLastTries
-tells_last_tries s plan names chosen begun tells different =
+pub reports_last_tries : ReportsLastTries
+reports_last_tries s plan names chosen begun reports different =
     all_of (λ (begin : Begun). IsOfCommand end names plan.commands.items begin.task begin.command)
     begun of
   where
@@ -509,7 +513,7 @@ tells_last_tries s plan names chosen begun tells different =
     end = (session_after s row).state
 
     it : Played plan names s row chosen begun
-    it = told_so s plan names chosen begun tells
+    it = reported_so s plan names chosen begun reports
 
     chosen_at : (i : ℕ) (begin : Begun) → slice_get begun i ≡ Some begin
         → slice_get chosen i ≡ Some begin.command

@@ -1,12 +1,12 @@
 -- The steps in which two of four commands begin.
 use Rattle.std.proofs.Common.{◌≡◌, ◌∙◌, ℕ, List, [], ◌∷◌, Option, Some, None, codes, slice_get}
 use Rattle.std.proofs.Common.{ap, refl, sym}
-use Rattle.std.proofs.Common.{◌<◌, length, arith}
+use Rattle.std.proofs.Common.{◌<◌, ◌++◌, true, zero, suc, length, subst, arith}
 use Rattle.std.proofs.lemmas.List.{length-map}
 use Rattle.std.proofs.lemmas.List.Elements.{All-from_recursion}
 use Rattle.std.specs.List.{list_all}
 use Rattle.std.specs.Prelude.{is_some}
-use Rattle.std.proofs.lemmas.Option.{same_Some, slice_get-map}
+use Rattle.std.proofs.lemmas.Option.{none-some, same_Some, slice_get-map}
 use Rattle.std.specs.Option.{option_map, option_map_or}
 use Rattle.std.specs.Prelude.{unwrap_or}
 use Rattle.run_model.specs.declared.commands.Command.{Command as Call}
@@ -23,10 +23,19 @@ use Rattle.night_plan.specs.declared.commands.Plan.{Plan}
 use Rattle.night_drive.specs.declared.names.Names.{Names}
 use Rattle.night_drive.specs.Examples.{AreFour, second}
 use Rattle.night_drive.proofs.Distinguishing.{four_are_distinct}
+use Rattle.run_model.specs.declared.tasks.Outcome.TheVariants as outcome
+use Rattle.std.specs.List.{cons_option}
+use Rattle.drive_steps.specs.Cancels.{cuts_of, open_scope, scope_name, stops_of}
+use Rattle.drive_steps.specs.declared.cancels.CommandCancel.{CommandCancel}
+use Rattle.drive_steps.specs.Cancels.{are_started, can_cancel}
+use Rattle.drive_steps.specs.Rounds.{AreCanceled}
+use Rattle.drive_steps.specs.Examples.{cancel_command, cancel_group, canceled_round, cut_of_d}
+use Rattle.drive_steps.specs.Examples.{stop_of_disks}
 use Rattle.drive_steps.specs.Examples.{at_rest, begin, first_events, new_night, row_of_d_and_e}
+use Rattle.drive_steps.specs.Living.{AreBareRooms, IsBetween, IsLiving}
 use Rattle.drive_steps.specs.Rooms.{last_group}
-use Rattle.drive_steps.specs.Rows.{IsAtRest, Tells}
-use Rattle.drive_steps.specs.Told.{begins_told}
+use Rattle.drive_steps.specs.Rows.{IsAtRest, Reports}
+use Rattle.drive_steps.specs.Reported.{begins_reported}
 use Rattle.drive_steps.specs.Starts.{group_of, key_of, next_of, next_try, row_of}
 
 -- The commands 1 and 2 belong to the disks.
@@ -62,20 +71,25 @@ next_at p plan names four c key at keyed =
     (ap (λ (xs : List (List ℕ)). unwrap_or (slice_get xs c) []) four.keys
     ∙ ap (λ (o : Option (List ℕ)). unwrap_or o []) keyed)
 
+-- Two commands begin.
+row_of_two : (p : State) (names : Names) (commands : List Command) (a b : ℕ) (one two : Call)
+    → next_try p names commands a ≡ one → next_try p names commands b ≡ two
+    → row_of p names commands (a ∷ b ∷ [])
+    ≡ step.Command one ∷ step.Start ∷ step.Command two ∷ step.Start ∷ step.Flush ∷ []
+row_of_two p names commands a b one two first next =
+    ap (λ (x : Call). step.Command x ∷ step.Start
+    ∷ step.Command (next_try p names commands b) ∷ step.Start ∷ step.Flush ∷ []) first
+    ∙ ap (λ (x : Call). step.Command one ∷ step.Start ∷ step.Command x ∷ step.Start
+    ∷ step.Flush ∷ []) next
+
 pub two_begin : (plan : Plan) (names : Names) → AreFour plan names
     → row_of at_rest names plan.commands.items (1 ∷ 2 ∷ []) ≡ row_of_d_and_e
 two_begin plan names four =
-    let one : next_try at_rest names plan.commands.items 1
-    ≡ call.Go (codes "disks--2-2") (codes "sh") (codes "d") =
-    next_at at_rest plan names four 1 (codes "d") refl refl in
-    let two : next_try at_rest names plan.commands.items 2
-    ≡ call.Go (codes "disks--2-2") (codes "sh") (codes "e") =
-    next_at at_rest plan names four 2 (codes "e") refl refl in
-    ap (λ (x : Call). step.Command x ∷ step.Start
-    ∷ step.Command (next_try at_rest names plan.commands.items 2) ∷ step.Start ∷ step.Flush ∷ [])
-    one
-    ∙ ap (λ (x : Call). step.Command (call.Go (codes "disks--2-2") (codes "sh") (codes "d"))
-    ∷ step.Start ∷ step.Command x ∷ step.Start ∷ step.Flush ∷ []) two
+    row_of_two at_rest names plan.commands.items 1 2
+    (call.Go (codes "disks--2-2") (codes "sh") (codes "d"))
+    (call.Go (codes "disks--2-2") (codes "sh") (codes "e"))
+    (next_at at_rest plan names four 1 (codes "d") refl refl)
+    (next_at at_rest plan names four 2 (codes "e") refl refl)
 
 -- ---- a new store
 
@@ -85,17 +99,11 @@ new_row : (plan : Plan) (names : Names) → AreFour plan names
     ∷ step.Command (call.Go (codes "disks--2") (codes "sh") (codes "e")) ∷ step.Start
     ∷ step.Flush ∷ []
 new_row plan names four =
-    let one : next_try new_night names plan.commands.items 1
-    ≡ call.Go (codes "disks--2") (codes "sh") (codes "d") =
-    next_at new_night plan names four 1 (codes "d") refl refl in
-    let two : next_try new_night names plan.commands.items 2
-    ≡ call.Go (codes "disks--2") (codes "sh") (codes "e") =
-    next_at new_night plan names four 2 (codes "e") refl refl in
-    ap (λ (x : Call). step.Command x ∷ step.Start
-    ∷ step.Command (next_try new_night names plan.commands.items 2) ∷ step.Start ∷ step.Flush ∷ [])
-    one
-    ∙ ap (λ (x : Call). step.Command (call.Go (codes "disks--2") (codes "sh") (codes "d"))
-    ∷ step.Start ∷ step.Command x ∷ step.Start ∷ step.Flush ∷ []) two
+    row_of_two new_night names plan.commands.items 1 2
+    (call.Go (codes "disks--2") (codes "sh") (codes "d"))
+    (call.Go (codes "disks--2") (codes "sh") (codes "e"))
+    (next_at new_night plan names four 1 (codes "d") refl refl)
+    (next_at new_night plan names four 2 (codes "e") refl refl)
 
 new_rest : (plan : Plan) (names : Names) → AreFour plan names → IsAtRest new_night plan names
 new_rest plan names four = record {
@@ -114,14 +122,82 @@ four_long plan names four =
     sym (length-map plan.commands.items (λ (command : Command). command.group))
     ∙ ap length four.groups_of
 
-pub new_told : (plan : Plan) (names : Names) → AreFour plan names
-    → Tells (begun_at new_night) plan names (1 ∷ 2 ∷ []) (begin 1 0 ∷ begin 2 1 ∷ [])
-new_told plan names four =
+pub new_reported : (plan : Plan) (names : Names) → AreFour plan names
+    → Reports (begun_at new_night) plan names (1 ∷ 2 ∷ []) (begin 1 0 ∷ begin 2 1 ∷ [])
+new_reported plan names four =
     let long = four_long plan names four in
     record {
       rest = new_rest plan names four;
       within = All-from_recursion (λ c. c < length plan.commands.items) (1 ∷ 2 ∷ [])
           (omega (arith, long), (omega (arith, long), tt));
-      told = ap (λ (steps : List Step). begins_told (1 ∷ 2 ∷ [])
+      reported = ap (λ (steps : List Step). begins_reported (1 ∷ 2 ∷ [])
           (replies (begun_at new_night) steps)) (new_row plan names four);
+    }
+
+-- ---- no try lives in it
+
+new_bare : (names : Names) → AreBareRooms new_night names
+new_bare names g zero group at owned = refl
+new_bare names g (suc zero) group at owned = refl
+new_bare names g (suc (suc h)) group at owned = refl
+
+pub new_between : (plan : Plan) (names : Names) → AreFour plan names
+    → IsBetween new_night plan names []
+new_between plan names four = record {
+  rest = new_rest plan names four;
+  bare = new_bare names;
+  lives = record {
+    each = All-from_recursion (IsLiving new_night names plan.commands.items) [] tt;
+    every = λ c n command group key called its runs. cc;
+  };
+}
+
+-- ---- cancels
+
+pub cut_d : (plan : Plan) (names : Names) → AreFour plan names
+    → cuts_of at_rest names plan.commands.items 9 (cancel_command 1 ∷ []) ≡ cut_of_d 9
+cut_d plan names four =
+    ap (λ (x : Call). step.Command x ∷ step.Start
+    ∷ step.Finish 9 (outcome.Failure (codes "canceled: by hand")) ∷ [])
+    (next_at at_rest plan names four 1 (codes "d") refl refl)
+
+abbrev stop_at : (night : Option (List ℕ)) → (group : List ℕ) → Option Step
+stop_at night group =
+    option_map (λ s. step.Command (call.Cancel (scope_name at_rest s) (Some (codes "by hand"))))
+    (open_scope at_rest night group)
+
+abbrev stops_at : (night : Option (List ℕ)) → (groups : List (List ℕ)) → List Step
+stops_at night groups =
+    cons_option (stop_at night (unwrap_or (slice_get groups 0) []))
+    (cons_option (stop_at night (unwrap_or (slice_get groups 1) [])) [])
+
+pub stop_disks : (plan : Plan) (names : Names) → AreFour plan names
+    → stops_of at_rest names (cancel_group 0 ∷ cancel_group 1 ∷ []) ≡ stop_of_disks
+stop_disks plan names four =
+    ap (λ (night : Option (List ℕ)). stops_at night names.groups.items) four.night
+    ∙ ap (stops_at second) four.groups
+
+-- ---- a round with cancels in the new store
+
+one_cancel : (i : ℕ) (cancel : CommandCancel)
+    → slice_get (cancel_command 1 ∷ []) i ≡ Some cancel → (i ≡ 0) × (cancel_command 1 ≡ cancel)
+one_cancel zero cancel at = (refl, same_Some (cancel_command 1) cancel at)
+one_cancel (suc i) cancel at = absurd (none-some cancel at)
+
+pub new_canceled : (plan : Plan) (names : Names) → AreFour plan names
+    → AreCanceled (begun_at new_night) plan names canceled_round
+new_canceled plan names four =
+    let long = four_long plan names four in
+    record {
+      each = λ i cancel at.
+          subst (λ (x : CommandCancel). (x.command < length plan.commands.items)
+          × (can_cancel new_night names plan.commands.items [] x.command ≡ true))
+          (one_cancel i cancel at).1 (omega (arith, long), refl);
+      once = λ i j a b at there same. (one_cancel i a at).0 ∙ sym (one_cancel j b there).0;
+      started = ap (λ (x : Call). are_started (cancel_command 1 ∷ [])
+          (replies (begun_at new_night) (step.Command x ∷ step.Start
+          ∷ step.Finish 0 (outcome.Failure (codes "canceled: by hand"))
+          ∷ (stops_of new_night names (cancel_group 0 ∷ [])
+          ++ step.Command (call.Advance 7) ∷ []))))
+          (next_at new_night plan names four 1 (codes "d") refl refl);
     }

@@ -33,8 +33,8 @@ use Rattle.run_model.specs.WorkChanges.{with_stage}
 use Rattle.model_laws.proofs.Passing.{and_then_Ok, new_decide}
 use Rattle.model_laws.proofs.StartingReplies.{ok_or_Ok, start_first}
 use Rattle.night_plan.proofs.Rows.{get_push_last, get_push_old}
-use Rattle.drive_steps.specs.Told.{is_answer, task_in}
-use Rattle.drive_steps.proofs.Going.{Goes}
+use Rattle.drive_steps.specs.Reported.{is_answer, task_in}
+use Rattle.drive_steps.proofs.Going.{Goes, goes_by, groups_same, scopes_same}
 use Rattle.drive_steps.proofs.Submitting.{Submits}
 
 -- ---- what the replies say
@@ -99,11 +99,11 @@ starts s task e =
     let first = start_first s.state s.log parts.0 parts.1 in
     let made = room_makes (is_full s.state s.log (event.Start first.0)) (event.Start first.0)
     parts.0 first.2 in
-    let told = ok_or_Ok (option_and_then (started_of s.state) (first_ready s.state.work))
+    let reported = ok_or_Ok (option_and_then (started_of s.state) (first_ready s.state.work))
     refusal.NothingReady started.0 parts.2 in
     let same : first.0 ≡ task =
     sym (task_of s.state first.0 started.0
-    (sym (ap (option_and_then (started_of s.state)) first.1) ∙ told)) ∙ started.2 in
+    (sym (ap (option_and_then (started_of s.state)) first.1) ∙ reported)) ∙ started.2 in
     record {
       decided = parts.1 ∙ ap Ok made ∙ ap (λ (n : ℕ). Ok (Some (event.Start n))) same;
       first = first.1 ∙ ap (λ (n : ℕ). Some n) same;
@@ -177,19 +177,18 @@ started_row q r row adds =
 pub started_goes : (q r : State) (row : Task) → Adds q r row → r.tree ≡ q.tree
     → r.work.groups ≡ q.work.groups
     → Goes q (change.step r (event.Start (length q.work.tasks)))
-started_goes q r row adds tree groups = record {
-  tree = tree;
-  groups = groups;
-  tasks = λ n below.
-      slice_get-at_row_other (with_stage stage.Running) (length q.work.tasks) n r.work.tasks
-      (λ same. omega (arith, below, same))
-      ∙ added_old q r row adds n below;
-  grown = omega (
-    arith,
-    added_length q r row adds,
-    length-at_row (with_stage stage.Running) (length q.work.tasks) r.work.tasks,
-  );
-}
+started_goes q r row adds tree groups =
+    let t : State = change.step r (event.Start (length q.work.tasks)) in
+    goes_by q t (scopes_same q t tree) (groups_same q t groups) (ap length groups)
+    (λ n below.
+    slice_get-at_row_other (with_stage stage.Running) (length q.work.tasks) n r.work.tasks
+    (λ same. omega (arith, below, same))
+    ∙ added_old q r row adds n below)
+    (omega (
+      arith,
+      added_length q r row adds,
+      length-at_row (with_stage stage.Running) (length q.work.tasks) r.work.tasks,
+    ))
 
 pub started_length : (q r : State) (row : Task) → Adds q r row
     → length (change.step r (event.Start (length q.work.tasks))).work.tasks

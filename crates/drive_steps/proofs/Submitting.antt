@@ -1,11 +1,11 @@
 -- What is submitted is a task of its command, as the last row.
 use Rattle.std.proofs.Common.{◌≡◌, ◌∙◌, ◌==◌, ◌&&◌, ℕ, Bool, true, false, cond, List, [], ◌∷◌}
 use Rattle.std.proofs.Common.{◌++◌, Option, Some, None, codes, length, slice_get, IsSome}
-use Rattle.std.proofs.Common.{ap, refl}
+use Rattle.std.proofs.Common.{ap, refl, sym}
 use Rattle.std.proofs.lemmas.Bool.{eqb-true}
-use Rattle.std.proofs.lemmas.Option.{slice_get_within}
+use Rattle.std.proofs.lemmas.Option.{none-some, same_Some, slice_get_within}
 use Rattle.std.specs.Prelude.{unwrap_or}
-use Rattle.std.specs.Option.{option_map_or}
+use Rattle.std.specs.Option.{option_map, option_map_or}
 use Rattle.std.specs.Str.{bytes_eq}
 use Rattle.run_model.proofs.Common.{and_parts, bytes_eq-Decides}
 use Rattle.run_model.specs.declared.commands.Command.{Command as Call}
@@ -28,9 +28,10 @@ use Rattle.night_drive.specs.Searches.{last_below}
 use Rattle.night_drive.specs.Seen.{is_owned, is_try}
 use Rattle.night_drive.specs.Tries.{counts}
 use Rattle.night_drive.proofs.Searching.{last_passes}
+use Rattle.night_drive.proofs.Staying.{unmarked}
 use Rattle.drive_steps.specs.Rooms.{last_group, name_of}
 use Rattle.drive_steps.specs.Starts.{can_retry, is_in, new_task, next_of, next_task}
-use Rattle.drive_steps.proofs.Going.{Goes, owned_goes, row_is}
+use Rattle.drive_steps.proofs.Going.{Came, owned_goes, row_is, unstaged}
 
 -- The call submits a task of this command, which becomes the last row. This is the event.
 pub record Submits (q : State) (night : Option (List ℕ)) (group key : List ℕ) (asked : Call)
@@ -88,20 +89,30 @@ found_task p n test holds = by_row (slice_get p.work.tasks n) refl holds
 -- ---- a new task
 
 -- A name is found at the group that has it.
-named_so : (p q : State) → Goes p q → AreNumbered q → (night : Option (List ℕ)) (group : List ℕ)
+named_so : (p q : State) → Came p q → AreNumbered q → (night : Option (List ℕ)) (group : List ℕ)
     (g : ℕ) → is_owned p night group g ≡ true → group_of q (name_of p g) ≡ g
-named_so p q goes numbered night group g owned =
-    let at = found_group p night group g owned in
-    let there : slice_get q.work.groups g ≡ Some at.row =
-    ap (λ (groups : List Group). slice_get groups g) goes.groups ∙ at.found in
-    let named : name_of p g ≡ at.row.name =
-    ap (λ (o : Option Group). option_map_or (λ (row : Group). row.name) o []) at.found in
-    ap (group_of q) named
-    ∙ ap (λ (o : Option ℕ). unwrap_or o (length q.work.groups))
-    (place_of_name (λ (row : Group). row.name) q.work.groups g at.row
-    (λ m n a b one other same. numbered.group_names m n a b one other same) there)
+named_so p q came numbered night group g owned =
+    by_row (slice_get q.work.groups g) refl
+    (came.groups g ∙ ap (option_map unmarked) at.found)
+  where
+    at : FoundGroup p g
+    at = found_group p night group g owned
 
-go_submits : (p q : State) → Goes p q → AreNumbered q → (night : Option (List ℕ))
+    by_row : (o : Option Group) → slice_get q.work.groups g ≡ o
+        → option_map unmarked o ≡ Some (unmarked at.row) → group_of q (name_of p g) ≡ g
+    by_row None found same = absurd (none-some (unmarked at.row) same)
+    by_row (Some row) found same =
+        let one : unmarked row ≡ unmarked at.row =
+        same_Some (unmarked row) (unmarked at.row) same in
+        let named : name_of p g ≡ row.name =
+        ap (λ (o : Option Group). option_map_or (λ (x : Group). x.name) o []) at.found
+        ∙ sym (ap (λ (x : Group). x.name) one) in
+        ap (group_of q) named
+        ∙ ap (λ (o : Option ℕ). unwrap_or o (length q.work.groups))
+        (place_of_name (λ (x : Group). x.name) q.work.groups g row
+        (λ m n a b one other same. numbered.group_names m n a b one other same) found)
+
+go_submits : (p q : State) → Came p q → AreNumbered q → (night : Option (List ℕ))
     (group key : List ℕ) (g : ℕ) → is_owned p night group g ≡ true
     → Submission q night group key (new_task p g key)
 go_submits p q goes numbered night group key g owned =
@@ -128,49 +139,69 @@ go_submits p q goes numbered night group key g owned =
 
 -- ---- a retry
 
-retry_submits : (p q : State) → Goes p q → (night : Option (List ℕ)) (group key : List ℕ)
+retry_submits : (p q : State) → Came p q → (night : Option (List ℕ)) (group key : List ℕ)
     (g n : ℕ) → is_owned p night group g ≡ true → is_in p g n ≡ true
     → is_try p night group key n ≡ true → Submission q night group key (call.Retry n)
-retry_submits p q goes night group key g n owned within tried =
-    let at = found_task p n (λ task. task.group == g) within in
-    let own = found_task p n (λ task. bytes_eq task.argument key
-    && (counts task.stage && is_owned p night group task.group)) tried in
-    let same : at.row ≡ own.row = cc (at.found, own.found) in
-    let keyed : bytes_eq own.row.argument key ≡ true =
-    (and_parts (bytes_eq own.row.argument key)
-    (counts own.row.stage && is_owned p night group own.row.group) own.passes).0 in
-    let key_is : bytes_eq at.row.argument key ≡ true =
-    ap (λ (task : Task). bytes_eq task.argument key) same ∙ keyed in
-    let there : slice_get q.work.tasks n ≡ Some at.row =
-    goes.tasks n (slice_get_within p.work.tasks n at.row at.found) ∙ at.found in
-    let grouped : at.row.group ≡ g = eqb-true at.row.group g at.passes in
-    let here : is_owned q night group at.row.group ≡ true =
-    owned_goes p q goes night group at.row.group
-    ∙ ap (is_owned p night group) grouped ∙ owned in
-    record {
-      made = event.Retry n;
-      submits = record {
-        new = refl;
-        asks = refl;
-        row = retried_row n at.row;
-        fresh = refl;
-        own = ap (λ b. b && is_owned q night group at.row.group) key_is ∙ here;
-        tasks = ap (λ (o : Option Task). (retried q.work n o).tasks) there;
-        groups = ap (λ (o : Option Task). (retried q.work n o).groups) there;
-        tree = refl;
-        no_start = refl;
-        no_finish = refl;
-        no_restart = refl;
-      };
-    }
+retry_submits p q came night group key g n owned within tried =
+    by_row (slice_get q.work.tasks n) refl
+    (came.rows n (slice_get_within p.work.tasks n at.row at.found)
+    ∙ ap (option_map unstaged) at.found)
   where
-    retried : WorkState → ℕ → Option Task → WorkState
-    retried w n o = option_map_or
+    at : FoundTask p n (λ task. task.group == g)
+    at = found_task p n (λ task. task.group == g) within
+
+    own : FoundTask p n (λ task. bytes_eq task.argument key
+        && (counts task.stage && is_owned p night group task.group))
+    own = found_task p n (λ task. bytes_eq task.argument key
+        && (counts task.stage && is_owned p night group task.group)) tried
+
+    same : at.row ≡ own.row
+    same = cc (at.found, own.found)
+
+    key_is : bytes_eq at.row.argument key ≡ true
+    key_is =
+        ap (λ (task : Task). bytes_eq task.argument key) same
+        ∙ (and_parts (bytes_eq own.row.argument key)
+        (counts own.row.stage && is_owned p night group own.row.group) own.passes).0
+
+    here : is_owned q night group at.row.group ≡ true
+    here =
+        owned_goes p q came night group at.row.group
+        ∙ ap (is_owned p night group) (eqb-true at.row.group g at.passes) ∙ owned
+
+    retried : WorkState → Option Task → WorkState
+    retried w o = option_map_or
         (λ (row : Task). record w { tasks = w.tasks ++ retried_row n row ∷ [] }) o w
+
+    by_row : (o : Option Task) → slice_get q.work.tasks n ≡ o
+        → option_map unstaged o ≡ Some (unstaged at.row)
+        → Submission q night group key (call.Retry n)
+    by_row None found alike = absurd (none-some (unstaged at.row) alike)
+    by_row (Some row) found alike =
+        let one : unstaged row ≡ unstaged at.row =
+        same_Some (unstaged row) (unstaged at.row) alike in
+        let new : retried_row n row ≡ retried_row n at.row = ap (retried_row n) one in
+        record {
+          made = event.Retry n;
+          submits = record {
+            new = refl;
+            asks = refl;
+            row = retried_row n at.row;
+            fresh = refl;
+            own = ap (λ b. b && is_owned q night group at.row.group) key_is ∙ here;
+            tasks = ap (λ (o : Option Task). (retried q.work o).tasks) found
+                ∙ ap (λ (x : Task). q.work.tasks ++ x ∷ []) new;
+            groups = ap (λ (o : Option Task). (retried q.work o).groups) found;
+            tree = refl;
+            no_start = refl;
+            no_finish = refl;
+            no_restart = refl;
+          };
+        }
 
 -- ---- the next task of a command
 
-pub next_submits : (p q : State) → Goes p q → AreNumbered q → (night : Option (List ℕ))
+pub next_submits : (p q : State) → Came p q → AreNumbered q → (night : Option (List ℕ))
     (group key : List ℕ) → IsSome (last_group p night group)
     → Submission q night group key (next_of p night group key)
 next_submits p q goes numbered night group key housed =

@@ -1,5 +1,5 @@
 -- Replies to the steps in which two commands begin, in a store with the rows of two nights.
-use Rattle.std.specs.Prelude.{ℕ, false, List, [], ◌∷◌, codes, fold}
+use Rattle.std.specs.Prelude.{ℕ, false, List, [], ◌∷◌, Some, codes, fold}
 use Rattle.run_model.specs.declared.answers.Answer.TheVariants as answer
 use Rattle.run_model.specs.declared.answers.Reply.{Reply}
 use Rattle.run_model.specs.declared.answers.Reply.TheVariants as reply
@@ -7,6 +7,7 @@ use Rattle.run_model.specs.declared.commands.Command.TheVariants as call
 use Rattle.run_model.specs.declared.commands.Step.{Step}
 use Rattle.run_model.specs.declared.commands.Step.TheVariants as step
 use Rattle.run_model.specs.declared.tasks.Phase.TheVariants.{Ready}
+use Rattle.run_model.specs.declared.tasks.Outcome.TheVariants as outcome
 use Rattle.run_model.specs.declared.layouts.Layout.TheVariants.{Small}
 use Rattle.run_model.specs.declared.scopes.Kind.TheVariants as kind
 use Rattle.run_model.specs.Event.{Event}
@@ -14,7 +15,11 @@ use Rattle.run_model.specs.Event as event
 use Rattle.run_model.specs.State.{State, formatted}
 use Rattle.run_model.specs.Step as change
 use Rattle.night_drive.specs.Examples.{after_all, withdrawal}
-use Rattle.drive_steps.specs.declared.told.Begun.{Begun}
+use Rattle.drive_steps.specs.declared.cancels.CommandCancel.{CommandCancel}
+use Rattle.drive_steps.specs.declared.cancels.GroupCancel.{GroupCancel}
+use Rattle.drive_steps.specs.declared.heard.Ended.{Ended}
+use Rattle.drive_steps.specs.declared.reported.Begun.{Begun}
+use Rattle.drive_steps.specs.Rounds.{Heard}
 
 -- The task of `d` was withdrawn, so that no task waits to be started.
 abbrev pub at_rest : State
@@ -62,3 +67,37 @@ new_night = fold change.step (formatted Small) first_events
 -- Command c has begun, with task n.
 abbrev pub begin : (c n : ℕ) → Begun
 begin c n = record { command = c; task = n }
+
+-- The try with task n has ended well.
+abbrev pub ended_ok : (n : ℕ) → Ended
+ended_ok n = record { task = n; outcome = outcome.Success }
+
+-- The try with task n has failed.
+abbrev pub ended_badly : (n : ℕ) → Ended
+ended_badly n = record { task = n; outcome = outcome.Failure (codes "exit 1") }
+
+-- Command c, or group g, is canceled by hand.
+abbrev pub cancel_command : (c : ℕ) → CommandCancel
+cancel_command c = record { command = c; why = codes "by hand" }
+
+abbrev pub cancel_group : (g : ℕ) → GroupCancel
+cancel_group g = record { group = g; why = codes "by hand" }
+
+-- `d` of the disks is canceled, with task n.
+abbrev pub cut_of_d : (n : ℕ) → List Step
+cut_of_d n =
+    step.Command (call.Go (codes "disks--2-2") (codes "sh") (codes "d")) ∷ step.Start
+    ∷ step.Finish n (outcome.Failure (codes "canceled: by hand")) ∷ []
+
+-- The last scope of the disks is canceled.
+abbrev pub stop_of_disks : List Step
+stop_of_disks = step.Command (call.Cancel (codes "disks--2") (Some (codes "by hand"))) ∷ []
+
+-- In a round nothing has ended. Command 1 and group 0 are canceled, at 7.
+abbrev pub canceled_round : Heard
+canceled_round = record {
+  ends = [];
+  cancels = cancel_command 1 ∷ [];
+  groups = cancel_group 0 ∷ [];
+  now = 7;
+}

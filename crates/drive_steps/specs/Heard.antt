@@ -1,5 +1,6 @@
 -- The steps that record what was heard in a round, and what they do to a night.
-use Rattle.std.specs.Prelude.{◌≡◌, ◌≢◌, ℕ, ◌==◌, Bool, true, false, List, [], ◌∷◌, ◌++◌, Some, None}
+use Rattle.std.specs.Prelude.{◌≡◌, ◌≢◌, ◌⊎◌, ℕ, ◌==◌, Bool, true, false, List, [], ◌∷◌}
+use Rattle.std.specs.Prelude.{Some, None}
 use Rattle.std.specs.Prelude.{map}
 use Rattle.std.specs.List.{list_any}
 use Rattle.run_model.specs.declared.commands.Command.TheVariants as call
@@ -7,7 +8,7 @@ use Rattle.run_model.specs.declared.commands.Step.{Step}
 use Rattle.run_model.specs.declared.commands.Step.TheVariants as step
 use Rattle.run_model.specs.Event as event
 use Rattle.run_model.specs.Rules.{AreNumbered}
-use Rattle.run_model.specs.Session.{Session, event_of_step, session_after}
+use Rattle.run_model.specs.Session.{Session, after_step, event_of_step, session_after}
 use Rattle.run_model.specs.State.{State}
 use Rattle.run_model.specs.Step as change
 use Rattle.run_model.specs.Step.{own_scope}
@@ -30,10 +31,6 @@ abbrev pub finishes_of : List Ended → List Step
 finishes_of [] = []
 finishes_of (end ∷ heard) = step.Finish end.task end.outcome ∷ finishes_of heard
 
--- A finish for each end, and then the clock moves.
-abbrev pub record_of : List Ended → (now : ℕ) → List Step
-record_of heard now = finishes_of heard ++ step.Command (call.Advance now) ∷ []
-
 -- The end is that of a try of command c, which runs and is the last one. Its group is bare.
 pub record IsEnd (p : State) (names : Names) (commands : List Command) (end : Ended) (c : ℕ)
     : Type 0 where
@@ -42,7 +39,7 @@ pub record IsEnd (p : State) (names : Names) (commands : List Command) (end : En
   pub bare : own_scope p.work (group_of_task p.work end.task) ≡ None
   pub of : IsOfCommand p names commands end.task c
 
--- Each end is that of a try of the command which stands beside it.
+-- Each end is that of a try of the command that is paired with it.
 abbrev pub AreEnds : State → Names → List Command → List (Ended × ℕ) → Type 0
 AreEnds p names commands [] = Unit {0}
 AreEnds p names commands ((end, c) ∷ row) =
@@ -82,24 +79,25 @@ EndsAreTurns =
     → night_in (session_after s (finishes_of (map (λ part. part.0) row))).state new plan names
     ≡ after_all (night_in s.state old plan names) (turns_of now row)
 
--- The ends of a round have been recorded, and the clock can move. These groups have a deadline that
--- has come then.
-pub record Comes (s : Session) (names : Names) (heard : List Ended) (now : ℕ) (stopped : List ℕ)
-    : Type 0 where
-  pub moves : event_of_step (session_after s (finishes_of heard)) (step.Command (call.Advance now))
-      ≡ Some (event.Advance now)
-  pub numbered : AreNumbered (session_after s (finishes_of heard)).state
-  pub those : AreThose (session_after s (finishes_of heard)).state names
-      (has_come (session_after s (finishes_of heard)).state now) stopped
+-- The clock moves. These groups have a deadline that has come then.
+pub record Moves (s : Session) (names : Names) (now : ℕ) (stopped : List ℕ) : Type 0 where
+  pub moves : event_of_step s (step.Command (call.Advance now)) ≡ Some (event.Advance now)
+  pub numbered : AreNumbered s.state
+  pub those : AreThose s.state names (has_come s.state now) stopped
 
--- What is recorded of a round are the turns of the ends, and then a turn for each group whose
--- deadline has come.
-abbrev pub HeardAreTurns : Type 0
-HeardAreTurns =
-    (s : Session) (old new : Ends) (plan : Plan) (names : Names) (row : List (Ended × ℕ)) (now : ℕ)
-    (stopped : List ℕ)
-    → AreNames plan names → AreEnds s.state names plan.commands.items row
-    → AreNoted old new (map (λ part. part.0) row) now
-    → Comes s names (map (λ part. part.0) row) now stopped
-    → night_in (session_after s (record_of (map (λ part. part.0) row) now)).state new plan names
-    ≡ after_all (night_in s.state old plan names) (turns_of now row ++ map Stop stopped)
+-- The clock stays where it is, as in a second round within a second. No deadline comes.
+pub record Stays (s : Session) (now : ℕ) (stopped : List ℕ) : Type 0 where
+  pub stays : event_of_step s (step.Command (call.Advance now)) ≡ None
+  pub none : stopped ≡ []
+
+-- The clock moves or stays. The deadlines of these groups come then.
+abbrev pub Comes : Session → Names → (now : ℕ) → (stopped : List ℕ) → Type 0
+Comes s names now stopped = Moves s names now stopped ⊎ Stays s now stopped
+
+-- The clock is a turn for each group whose deadline comes.
+abbrev pub ClocksAreTurns : Type 0
+ClocksAreTurns =
+    (s : Session) (ends : Ends) (plan : Plan) (names : Names) (now : ℕ) (stopped : List ℕ)
+    → AreNames plan names → Comes s names now stopped
+    → night_in (after_step s (step.Command (call.Advance now))).state ends plan names
+    ≡ after_all (night_in s.state ends plan names) (map Stop stopped)

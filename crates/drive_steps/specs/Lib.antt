@@ -1,8 +1,13 @@
 pub mod Rooms
 pub mod Starts
-pub mod Told
+pub mod Reported
 pub mod Rows
 pub mod Heard
+pub mod Living
+pub mod Cancels
 pub mod Rounds
+pub mod Stops
+pub mod Fits
+pub mod ManyRounds
 pub mod Deadlines
 pub mod Examples

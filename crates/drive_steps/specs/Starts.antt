@@ -43,6 +43,12 @@ group_of names commands c =
 abbrev pub key_of : Names → ℕ → List ℕ
 key_of names c = unwrap_or (slice_get names.keys.items c) []
 
+-- The last try of command c.
+abbrev pub last_of : State → Names → List Command → ℕ → Option ℕ
+last_of p names commands c =
+    last_below (is_try p names.night (group_of names commands c) (key_of names c))
+    (length p.work.tasks)
+
 -- What submits the next task of the command with this key, in a group of this name.
 abbrev pub next_of : State → (night : Option (List ℕ)) → (group key : List ℕ) → Call
 next_of p night group key =

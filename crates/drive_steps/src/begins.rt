@@ -2,7 +2,6 @@
 
 ghost use Rattle.std.specs.Prelude.{◌≡◌, IfOk, length, true};
 ghost use Rattle.night_plan.specs.Choices.{GoesOn, HasCapacity, IsChoice, IsQuiet};
-ghost use Rattle.night_plan.specs.Nights.{AreFacts, night};
 ghost use Rattle.night_drive.specs.PlanTurns.{night_in};
 ghost use Rattle.night_drive.specs.Seen.{AreNames};
 ghost use Rattle.drive_steps.specs.Rooms.{are_housed};
@@ -14,7 +13,6 @@ use night_drive::names::Names;
 use night_drive::seen::seen;
 use night_plan::choices::{Choice, choose};
 use night_plan::commands::Plan;
-use night_plan::facts::Facts;
 use run_model::Step;
 use run_session::State;
 use std::alloc::{AllocError, Allocator, Global};
@@ -51,32 +49,10 @@ pub fn begins<A: Allocator>(
         → IsQuiet (night_in state.now ends.now plan.now names.now)
         → GoesOn (night_in state.now ends.now plan.now names.now) state.now.tree.clock row.choice) }
 {
-    let facts = facts_now(alloc, state, ends, plan, names, sizes)?;
+    let mut facts = seen(alloc, state, ends, plan, names)?;
+    let own = Vec::from_slice(alloc, sizes)?;
+    facts.sizes = own;
     let choice = choose(alloc, plan, &facts, state.clock().get())?;
     let steps = row_of(alloc, state, plan, names, choice.commands.as_slice())?;
     Ok(Row { choice, steps })
-}
-
-/// Reads the facts about a plan from a state, with these sizes of the pools.
-fn facts_now<A: Allocator>(
-    alloc: Global,
-    state: &State<A>,
-    ends: &Ends,
-    plan: &Plan,
-    names: &Names,
-    sizes: &[u32],
-) -> Result<Facts, AllocError>
-    requires named { AreNames plan.now names.now }
-    requires sized { length sizes.now ≡ length plan.now.pools.items }
-    ensures facts { IfOk result (AreFacts plan.now) }
-    ensures night { IfOk result (λ facts. night plan.now facts
-        ≡ night_in state.now ends.now plan.now names.now) }
-    ensures sizes { IfOk result (λ facts. facts.sizes.items ≡ sizes.now) }
-{
-    let facts = seen(alloc, state, ends, plan, names)?;
-    Ok(Facts {
-        known: facts.known,
-        done: facts.done,
-        sizes: Vec::from_slice(alloc, sizes)?,
-    })
 }

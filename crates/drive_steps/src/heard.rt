@@ -1,12 +1,20 @@
-//! The steps that record what was heard in a round: which tries have ended, and what time it is.
+//! The steps that record what was heard in a round: which tries have ended, what was canceled, and
+//! what time it is.
 
-ghost use Rattle.std.specs.Prelude.{◌≡◌, ◌<◌, IfOk, length};
-ghost use Rattle.drive_steps.specs.Heard.{AreNoted, AreSame, EndsAreTurns, HeardAreTurns, IsNoted};
-ghost use Rattle.drive_steps.specs.Heard.{record_of};
+ghost use Rattle.std.specs.Prelude.{◌≡◌, ◌<◌, ◌≤◌, ◌+◌, ◌++◌, All, IfOk, OnOk, length, true};
+ghost use Rattle.night_drive.specs.Seen.{AreNames};
+ghost use Rattle.drive_steps.specs.Heard.{AreNoted, AreSame, ClocksAreTurns, EndsAreTurns};
+ghost use Rattle.drive_steps.specs.Heard.{IsNoted, finishes_of, has_ended};
+ghost use Rattle.drive_steps.specs.Rooms.{are_housed};
+ghost use Rattle.drive_steps.specs.Rounds.{record_of};
 
+use crate::cancels::{CommandCancel, GroupCancel, push_cuts, push_stops};
 use night_drive::ends::Ends;
+use night_drive::names::Names;
+use night_plan::commands::Plan;
 use run_model::{Command, Moment, Outcome, Step};
-use std::alloc::{AllocError, Global};
+use run_session::State;
+use std::alloc::{AllocError, Allocator, Global};
 
 /// The end of a try.
 #[derive(Drop)]
@@ -16,16 +24,52 @@ pub struct Ended {
     pub outcome: Outcome,
 }
 
-/// Returns the steps that record these ends, in this order, and then the time.
-pub fn record_of(alloc: Global, heard: &[Ended], now: Moment) -> Result<Vec<Step>, AllocError>
-    ensures { IfOk result (λ steps. steps.items ≡ record_of heard.now now) }
+/// Returns the steps that record what was heard in a round: the ends of tries, the cancels of
+/// commands that don't run, those of groups, and then the time. The cancels of commands are those
+/// that [`taken_cancels`](crate::cancels::taken_cancels) returned.
+pub fn record_of<A: Allocator>(
+    alloc: Global,
+    state: &State<A>,
+    plan: &Plan,
+    names: &Names,
+    heard: &[Ended],
+    taken: &[CommandCancel],
+    groups: &[GroupCancel],
+    now: Moment,
+) -> Result<Vec<Step>, AllocError>
+    requires named { AreNames plan.now names.now }
+    requires housed { are_housed state.now names.now ≡ true }
+    requires within { All (λ (cancel : CommandCancel).
+        cancel.command < length plan.now.commands.items) taken.now }
+    requires of_plan { All (λ (cancel : GroupCancel).
+        cancel.group < length names.now.groups.items) groups.now }
+    requires room { length state.now.work.tasks + length taken.now ≤ 65535 }
+    ensures { IfOk result (λ steps. steps.items ≡ record_of state.now names.now
+        plan.now.commands.items heard.now taken.now groups.now now) }
 {
     let mut steps = Vec::new(alloc);
+    push_finishes(&mut steps, heard)?;
+    push_cuts(&mut steps, state, plan, names, taken)?;
+    push_stops(&mut steps, state, names, groups)?;
+    steps.push(Step::Command(Command::Advance { moment: now }))?;
+    Ok(steps)
+}
+
+/// Appends the steps that record these ends, in this order.
+fn push_finishes(steps: &mut Vec<Step>, heard: &[Ended]) -> Result<(), AllocError>
+    ensures { OnOk result (steps.new.items ≡ steps.old.items ++ finishes_of heard.now) }
+{
     for end in heard {
         steps.push(Step::Finish(end.task, end.outcome.copy()))?;
     }
-    steps.push(Step::Command(Command::Advance { moment: now }))?;
-    Ok(steps)
+    Ok(())
+}
+
+/// Returns whether one of these ends is that of this task.
+pub fn has_ended(heard: &[Ended], task: u16) -> bool
+    ensures { result ≡ has_ended heard.now task }
+{
+    heard.iter().any(|end| end.task == task)
 }
 
 /// Notes that these tries ended at this moment. If memory is refused, some of them may be noted and
@@ -65,8 +109,8 @@ pub fn ends_are_turns()
     ensures { EndsAreTurns }
 {}
 
-/// The steps that record a round are the turns of its ends, and then a turn for each group whose
-/// deadline has come.
-pub fn what_is_heard_is_turns()
-    ensures { HeardAreTurns }
+/// The clock is a turn for each group whose deadline comes. If it stays where it is, no deadline
+/// comes.
+pub fn a_clock_stops_what_is_due()
+    ensures { ClocksAreTurns }
 {}

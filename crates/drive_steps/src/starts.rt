@@ -5,9 +5,9 @@ ghost use Rattle.night_drive.specs.Seen.{AreNames};
 ghost use Rattle.drive_steps.specs.Rooms.{are_housed};
 ghost use Rattle.drive_steps.specs.Starts.{can_retry, is_in, next_task, next_try, row_of};
 
+use crate::called::{group_of, last_of};
 use crate::rooms::{last_group, name_of};
 use night_drive::names::Names;
-use night_drive::seen::last_try;
 use night_plan::commands::Plan;
 use record_view::EventView;
 use row_view::copies::name_copy;
@@ -41,18 +41,22 @@ pub fn row_of<A: Allocator>(
 }
 
 /// Returns the step that submits the next task of a command.
-fn next_try<A: Allocator>(state: &State<A>, plan: &Plan, names: &Names, c: usize) -> Command
+pub(crate) fn next_try<A: Allocator>(
+    state: &State<A>,
+    plan: &Plan,
+    names: &Names,
+    c: usize,
+) -> Command
     requires named { AreNames plan.now names.now }
     requires housed { are_housed state.now names.now ≡ true }
     requires within { c < length plan.now.commands.items }
     ensures { result ≡ next_try state.now names.now plan.now.commands.items c }
 {
-    let group = &names.groups[plan.commands[c].group];
-    let key = &names.keys[c];
+    let group = group_of(plan, names, c);
     let Some(g) = last_group(state, &names.night, group) else {
         unreachable!();
     };
-    next_task(state, g, key, last_try(state, &names.night, group, key))
+    next_task(state, g, &names.keys[c], last_of(state, plan, names, c))
 }
 
 /// Returns the step that submits a task with this key in a group of the store. It is a retry of the

@@ -1,0 +1,68 @@
+-- Nights that are opened in a store with the rows of two nights.
+use Rattle.std.specs.Prelude.{ℕ, List, [], ◌∷◌, Option, Some, None, codes}
+use Rattle.run_model.specs.declared.commands.Command.TheVariants as call
+use Rattle.run_model.specs.declared.commands.Step.{Step}
+use Rattle.run_model.specs.declared.commands.Step.TheVariants as step
+use Rattle.run_model.specs.declared.commands.Wish.TheVariants as wish
+use Rattle.run_model.specs.declared.layouts.Layout.TheVariants.{Small}
+use Rattle.run_model.specs.declared.tasks.Outcome.TheVariants as outcome
+use Rattle.run_model.specs.Session.{Session, opened}
+use Rattle.drive_nights.specs.declared.untils.Until.{Until}
+use Rattle.drive_nights.specs.Rooms.{derive}
+
+-- A plan has two groups.
+abbrev pub two_groups : List (List ℕ)
+two_groups = codes "disks" ∷ codes "tapes" ∷ []
+
+-- A deadline with these words.
+abbrev pub until_of : (moment : ℕ) → (words : List ℕ) → Option Until
+until_of moment words = Some (record { moment = moment; words = words })
+
+abbrev pub none_of_two : List (Option Until)
+none_of_two = None ∷ None ∷ []
+
+-- In the second night both groups keep their scopes, so nothing is made.
+abbrev pub going_on : List Step
+going_on = step.Start ∷ step.Finish 8 (outcome.Failure (codes "withdrawn")) ∷ step.Flush ∷ []
+
+-- The disks have another deadline in the same night. They get a new scope and a new group of the
+-- store, below the base of the night. The tapes were canceled, and get nothing.
+abbrev pub later_disks : List Step
+later_disks =
+    step.Start ∷ step.Finish 8 (outcome.Failure (codes "withdrawn"))
+    ∷ derive (codes "disks--2-3--until") (codes "night--2--round")
+    (wish.Deadline 9500 (Some (codes "within 4h")))
+    ∷ derive (codes "disks--2-3") (codes "disks--2-3--until") wish.Cause
+    ∷ derive (codes "disks--2-3--said") (codes "disks--2-3")
+    (wish.Value (codes "deadline") (codes "within 4h"))
+    ∷ step.Command (call.Bare (codes "disks--2-3") (codes "disks--2-3"))
+    ∷ step.Flush ∷ []
+
+-- The third night gets a top with its number below it, and for each group a scope and a group of
+-- the store.
+abbrev pub third_night : List Step
+third_night =
+    step.Start ∷ step.Finish 8 (outcome.Failure (codes "withdrawn"))
+    ∷ derive (codes "night--3") (codes "root") wish.Cause
+    ∷ derive (codes "night--3--round") (codes "night--3") (wish.Value (codes "night") (codes "3"))
+    ∷ derive (codes "disks--3") (codes "night--3--round") wish.Cause
+    ∷ step.Command (call.Bare (codes "disks--3") (codes "disks--3"))
+    ∷ derive (codes "tapes--3") (codes "night--3--round") wish.Cause
+    ∷ step.Command (call.Bare (codes "tapes--3") (codes "tapes--3"))
+    ∷ step.Flush ∷ []
+
+-- The first night of a new store, with a deadline for all groups together.
+abbrev pub first_night : List Step
+first_night =
+    derive (codes "night--until") (codes "root") (wish.Deadline 600 (Some (codes "06:00")))
+    ∷ derive (codes "night") (codes "night--until") wish.Cause
+    ∷ derive (codes "night--said") (codes "night") (wish.Value (codes "deadline") (codes "06:00"))
+    ∷ derive (codes "disks") (codes "night") wish.Cause
+    ∷ step.Command (call.Bare (codes "disks") (codes "disks"))
+    ∷ derive (codes "tapes") (codes "night") wish.Cause
+    ∷ step.Command (call.Bare (codes "tapes") (codes "tapes"))
+    ∷ step.Flush ∷ []
+
+-- A store that was just formatted and opened.
+abbrev pub new_store : Session
+new_store = opened Small

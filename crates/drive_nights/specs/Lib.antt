@@ -1,0 +1,10 @@
+pub mod Searches
+pub mod Names
+pub mod Nights
+pub mod Rooms
+pub mod Openings
+pub mod Marks
+pub mod Effects
+pub mod Examples
+pub mod Resting
+pub mod Owners

@@ -1,0 +1,84 @@
+//! The effect of an opening on a night, and that of the mark of its end.
+
+ghost use Rattle.drive_nights.specs.Effects.{CanceledGroupsStay, GrowthsHouse, MarksEnd};
+ghost use Rattle.drive_nights.specs.Effects.{NewNightsAreEmpty};
+ghost use Rattle.drive_nights.specs.Effects.{NightsGoOn, NothingIsLacking, OpeningsAreNoTurns};
+ghost use Rattle.drive_nights.specs.Effects.{OpenedNightsGoOn, OpeningsOpen};
+ghost use Rattle.drive_nights.specs.Effects.{SameDeadlinesStay};
+ghost use Rattle.drive_nights.specs.Names.{NamesBelong};
+ghost use Rattle.drive_nights.specs.Nights.{NoneIsLater};
+ghost use Rattle.drive_nights.specs.Resting.{OpeningsRest};
+
+/// After an opening no task waits to be started, and each group of the plan has a group of the
+/// store for its tasks. Nothing that was known of a command has changed. A group that keeps its
+/// scope is done if it was, and a new scope is done if the base of the night is, or if its deadline
+/// has come. The night has a base, so it has begun, and its end can be marked. The last night of
+/// the store is this one, unless it was a later one. No step of the opening was refused.
+pub fn an_opening_opens_a_night()
+    ensures { OpeningsOpen }
+{}
+
+/// After an opening the state is one between two rounds, if no task ran before it. So commands can
+/// begin, and no try lives.
+pub fn an_opening_leaves_the_state_at_rest()
+    ensures { OpeningsRest }
+{}
+
+/// If each group of the plan keeps its scope, an opening is no turn: it changes nothing about the
+/// night.
+pub fn an_opening_is_no_turn()
+    ensures { OpeningsAreNoTurns }
+{}
+
+/// A group that was canceled stays done for its night, whatever deadline the plan gives it. So does
+/// a group whose deadline has the same words as before, if that of all groups is the same, too.
+pub fn what_is_done_stays_done()
+    ensures canceled { CanceledGroupsStay }
+    ensures same { SameDeadlinesStay }
+{}
+
+/// The name of a group in any night and round belongs to the group, and to no other group of the
+/// plan.
+pub fn a_name_belongs_to_its_group()
+    ensures { NamesBelong }
+{}
+
+/// No scope of a store is of a later night than the last one.
+pub fn no_scope_is_of_a_later_night()
+    ensures { NoneIsLater }
+{}
+
+/// The night that goes on or begins with an opening is the last one after it. So it goes on with
+/// the next opening, too, unless it has ended then or another one is wanted.
+pub fn an_opened_night_goes_on()
+    ensures { OpenedNightsGoOn }
+{}
+
+/// A group for which an opening makes nothing takes tasks as it is: its last group of the store
+/// stands in its last scope, wasn't waited for, and has no limit.
+pub fn a_group_that_lacks_nothing_takes_tasks()
+    ensures { NothingIsLacking }
+{}
+
+/// In a night with a greater number than the last one of a store no command has begun, and no group
+/// has a scope yet.
+pub fn a_new_night_is_empty()
+    ensures { NewNightsAreEmpty }
+{}
+
+/// After its mark a night has ended. If it was the last one of the store, the next opening begins
+/// another one.
+pub fn a_mark_ends_a_night()
+    ensures { MarksEnd }
+{}
+
+/// A night that hasn't ended goes on, unless another one is wanted.
+pub fn a_night_goes_on_until_its_mark()
+    ensures { NightsGoOn }
+{}
+
+/// After the steps in which a group is added to a night, it has a group of the store for its tasks.
+/// No task, no command and no other group has changed. No step was refused.
+pub fn a_group_is_added()
+    ensures { GrowthsHouse }
+{}

@@ -1,0 +1,12 @@
+pub mod Additions
+pub mod Names
+pub mod Groups
+pub mod Commands
+pub mod Plans
+pub mod Lives
+pub mod Laws
+pub mod Examples
+pub mod Pendings
+pub mod Growth
+pub mod Heard
+pub mod Rounds

@@ -1,0 +1,12 @@
+pub mod Faultless
+pub mod Starting
+pub mod Moving
+pub mod Ordering
+pub mod Answering
+pub mod Driving
+pub mod Lasting
+pub mod Going
+pub mod Recording
+pub mod Finishing
+pub mod Every
+pub mod Stopping

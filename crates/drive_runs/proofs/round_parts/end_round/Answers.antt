@@ -1,0 +1,24 @@
+use Rattle.std.proofs.lemmas.Result.{IfOk-weaker}
+use Rattle.drive_runs.specs.declared.answers.Answer.{Answer}
+use Rattle.drive_runs.specs.Answers.{MayAnswer}
+use Rattle.drive_runs.specs.Parts.{AnswersDraft}
+use Rattle.drive_runs.proofs.Answering.{answers_draft}
+use Rattle.drive_runs.proofs.Moving.{moves_then}
+use Rattle.drive_runs.proofs.round_parts.end_round.Goals as goal
+
+pub returns-clause-moves : goal.returns-clause-moves
+returns-clause-moves g c =
+    moves_then g.D.RunDisk.state _ _ _ c.missing_groups.ensures c.play_round.ensures.moves
+
+pub returns-clause-answered : goal.returns-clause-answered
+returns-clause-answered g c =
+    let round = c.in_ok-plan.field-0 in
+    IfOk-weaker c.play_round.result (λ (answer : Answer).
+    MayAnswer g.D.RunDisk.state round.heard c.missing_groups.new.book answer.lines.items
+    c.play_round.new.book)
+    (λ (answer : Answer).
+    AnswersDraft g.D.RunDisk.state c.args.heard c.args.book.now answer.lines.items
+    c.play_round.new.book)
+    (λ answer allowed. answers_draft g.D.RunDisk.state c.args.book.now
+    c.missing_groups.new.book c.play_round.new.book c.args.heard round answer.lines.items
+    c.in_ok-plan.ensures c.missing_groups.ensures allowed) c.play_round.ensures.answered

@@ -1,0 +1,12 @@
+pub mod Moving
+pub mod Tries
+pub mod Faults
+pub mod Begins
+pub mod Living
+pub mod Stops
+pub mod Rounds
+pub mod Records
+pub mod Answers
+pub mod Parts
+pub mod Runs
+pub mod Laws

@@ -1,0 +1,120 @@
+//! A night of a store: what it has from earlier sessions, the groups that it lacks, and its end.
+
+ghost use Rattle.drive_runs.specs.Moving.{Moves};
+
+use crate::faults::first_fault;
+use crate::living::Living;
+use crate::openings::{Hindrance, hindered_by};
+use crate::plays::play;
+use crate::sittings::Sitting;
+use crate::tries::task_named;
+use drive_lines::fields::TryName;
+use drive_nights::marks::mark_of;
+use drive_nights::names::is_short;
+use drive_nights::nights::night_text;
+use drive_nights::openings::growth_of;
+use drive_parts::plans::NightPlan;
+use drive_steps::rooms::last_group;
+use night_drive::seen::last_try;
+use run_book::Book;
+use run_disk::RunDisk;
+use run_model::{Reply, Stage, Step, is_spelled};
+use run_session::State;
+use std::alloc::{AllocError, Allocator, Global};
+
+/// Returns the first task of a store that isn't one of a driven night.
+pub fn other_task<A: Allocator>(state: &State<A>) -> Option<u16> {
+    for n in 0..state.task_count() as u16 {
+        if let Some(task) = state.groups().task_row(n)
+            && !is_spelled(task.job.as_bytes(), b"sh")
+        {
+            return Some(n);
+        }
+    }
+    None
+}
+
+/// Returns the try of this name as one that lives, if it was interrupted and is the last one of a
+/// command of the plan.
+pub fn living_of<A: Allocator>(
+    state: &State<A>,
+    plan: &NightPlan,
+    night: u64,
+    named: &TryName,
+) -> Option<Living> {
+    let n = task_named(state, named)?;
+    let task = state.groups().task_row(n)?;
+    if !matches!(task.stage, Stage::Interrupted) {
+        return None;
+    }
+    let night = night_text(night);
+    for c in 0..plan.plan.commands.len() {
+        let group = plan.plan.commands[c].group;
+        let last = last_try(state, &night, &plan.groups[group], &plan.keys[c]);
+        if last == Some(n) {
+            return Some(Living {
+                command: c,
+                task: n,
+                stop: None,
+                asked: false,
+            });
+        }
+    }
+    None
+}
+
+/// Makes in the store what groups need by which the plan has grown. Returns what hinders the night,
+/// if anything does.
+#[tactic(auto, using(crate::proofs::Moving::moves_none, crate::proofs::Moving::moves_then))]
+pub fn missing_groups<D: RunDisk, A: Allocator>(
+    alloc: Global,
+    book: &mut Book<D, A>,
+    sitting: &Sitting,
+) -> Result<Option<Hindrance>, AllocError>
+    ensures { Moves D.state book.old book.new }
+{
+    for g in 0..sitting.names.groups.len() {
+        let group = &sitting.names.groups[g];
+        let night = sitting.kept.night;
+        let has_one = last_group(book.state(), &sitting.names.night, group).is_some();
+        if has_one || !is_short(group, night) {
+            continue;
+        }
+        let steps = growth_of(alloc, book.state(), night, group, &sitting.untils[g])?;
+        let replies = play(alloc, book, steps.as_slice())?;
+        let fault = first_fault(replies.as_slice());
+        if fault.is_some() {
+            return Ok(hindered_by(fault, book.state(), sitting));
+        }
+    }
+    Ok(hindered_by(None, book.state(), sitting))
+}
+
+/// Marks a night as ended. Returns what hinders that, if anything does.
+#[tactic(auto, using(crate::proofs::Moving::moves_none, crate::proofs::Moving::moves_then))]
+pub fn close_night<D: RunDisk, A: Allocator>(
+    alloc: Global,
+    book: &mut Book<D, A>,
+    night: u64,
+) -> Result<Option<Hindrance>, AllocError>
+    ensures { Moves D.state book.old book.new }
+{
+    let Some(mark) = mark_of(book.state(), night) else {
+        return Ok(Some(Hindrance::Full));
+    };
+    let mut steps = Vec::new(alloc);
+    steps.push(mark)?;
+    steps.push(Step::Flush)?;
+    let replies = play(alloc, book, steps.as_slice())?;
+    Ok(
+        match (
+            first_fault(replies.as_slice()),
+            replies.get(0),
+            replies.get(1),
+        ) {
+            (Some(fault), _, _) => Some(Hindrance::Fault(fault)),
+            (None, Some(Reply::Answer(_)), Some(Reply::Acked(_))) => None,
+            _ => Some(Hindrance::Full),
+        },
+    )
+}

@@ -1,0 +1,5 @@
+use Rattle.drive_steps.proofs.Ceasing.{groups_are_canceled}
+use Rattle.drive_steps.proofs.cancels.canceled_groups_are_done.Goals as goal
+
+pub returns : goal.returns
+returns c = groups_are_canceled

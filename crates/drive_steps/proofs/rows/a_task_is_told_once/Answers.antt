@@ -1,5 +1,0 @@
-use Rattle.drive_steps.proofs.Playing.{tasks_are_told_once}
-use Rattle.drive_steps.proofs.rows.a_task_is_told_once.Goals as goal
-
-pub returns : goal.returns
-returns c = tasks_are_told_once
