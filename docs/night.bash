@@ -3,7 +3,7 @@
 
 _night() {
     local current=${COMP_WORDS[COMP_CWORD]} before=${COMP_WORDS[COMP_CWORD - 1]} flags=""
-    local words="demo format script inspect crew migrate renew plan help"
+    local words="demo format script inspect crew migrate renew plan drive help"
     COMPREPLY=()
     if ((COMP_CWORD == 1)); then
         mapfile -t COMPREPLY < <(compgen -W "$words --help --version" -- "$current")
@@ -17,7 +17,7 @@ _night() {
         inspect) flags="--tasks --phase --group --json --tree --no-tasks --summary --help" ;;
         migrate) flags="--new --help" ;;
         renew) flags="--new --in-place --help" ;;
-        plan) flags="--help" ;;
+        plan | drive) flags="--help" ;;
         help) mapfile -t COMPREPLY < <(compgen -W "$words" -- "$current") && return ;;
         *) return ;;
     esac

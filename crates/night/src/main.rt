@@ -13,12 +13,11 @@
 mod clock;
 
 use crate::clock::SystemClock;
-use night_program::{CopyJob, FailJob, SpinJob, Streams, night};
+use night_program::{CopyJob, FailJob, ProcessEnd, SpinJob, Streams, night};
 use night_words::own_words;
 use run_crew::Job;
 use std::env;
 use std::io::IsTerminal;
-use std::process::ExitCode;
 use std::thread::Builder;
 use system_files::{ErrorCell, ErrorCells, Errors, SystemFiles, WatchedStream};
 
@@ -30,8 +29,8 @@ const MOST_WORKERS: usize = 8;
 const STACK: usize = 4 << 20;
 
 /// Runs in a thread with a stack of its own, since the one that the system gives may be too small.
-fn main(rt: HostRuntime) -> ExitCode {
-    let all = move || -> u8 {
+fn main(rt: HostRuntime) -> ProcessEnd {
+    let all = move || -> ProcessEnd {
         let alloc = rt.alloc();
         let words = own_words(alloc, env::args(&rt));
         // A list for each worker, as far as there is memory: a crew of more is told that it is
@@ -67,7 +66,7 @@ fn main(rt: HostRuntime) -> ExitCode {
             is_terminal: rt.stdin().is_terminal(),
         };
         let mut errors = Errors::new(rt.stderr());
-        let ended = night(
+        night(
             &rt,
             alloc,
             words,
@@ -78,12 +77,11 @@ fn main(rt: HostRuntime) -> ExitCode {
             &mut output,
             &streams,
             &mut errors,
-        );
-        ended.status
+        )
     };
     let builder = Builder::new().stack_size(STACK);
-    ExitCode::from(match builder.spawn(&rt, all) {
+    match builder.spawn(&rt, all) {
         Ok(thread) => thread.join(&rt),
         Err(_) => all(),
-    })
+    }
 }

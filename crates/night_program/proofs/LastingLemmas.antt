@@ -13,7 +13,7 @@ use Rattle.book_model.proofs.BookLemmas.{stores_fewer}
 use Rattle.console_lines.specs.declared.faults.RunFault.{RunFault}
 use Rattle.run_crew.specs.Crews.{CrewEnds, StoresNight}
 use Rattle.run_crew.proofs.PrintedNights.{opened_night}
-use Rattle.night_program.specs.Crews.{IsOpen}
+use Rattle.night_program.specs.Crews.{AreOpenShifts}
 use Rattle.night_program.specs.Lasting.{StoresWork}
 use Rattle.store_words.specs.Lasting.{FindsLeft}
 use Rattle.store_words.proofs.FoundLemmas.{safe_then, start_is}
@@ -38,7 +38,7 @@ module _ {D : Type 0} (state : D → DiskState) where
 
   pub crew_is_found : (given left next : D) (p : State) (workers : ℕ)
       (answer : Result Bool RunFault) (w0 w1 : Option (List ℕ)) → LiesWith state given p
-      → CrewEnds state IsOpen given workers answer left w0 w1
+      → CrewEnds state (AreOpenShifts state) given workers answer left w0 w1
       → FindsLeft state given left next → StoresWork p (state next).now
   crew_is_found given left next p workers answer w0 w1 lies
       (inl (why, reported, opens, same, promises)) finds = record {

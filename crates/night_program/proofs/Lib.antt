@@ -1,4 +1,5 @@
 mod Begins
+mod DriveLemmas
 mod KnownTasks
 mod LastingLemmas
 mod LineLemmas

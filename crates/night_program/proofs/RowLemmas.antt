@@ -1,23 +1,26 @@
 -- Runs of the program, one after another: what they leave of a store.
-use Rattle.std.proofs.Common.{◌≡◌, ◌⊎◌, ◌≤◌, ◌∙◌, ◌∷◌, [], ℕ, List, ap, arith, inl, inr}
+use Rattle.std.proofs.Common.{◌≡◌, ◌⊎◌, ◌≤◌, ◌+◌, ◌∙◌, ◌∷◌, [], ℕ, List, ap, arith, inl, inr}
 use Rattle.std.proofs.Common.{refl, subst, sym, Option, None, Ok, Err, true, length}
 use Rattle.std.specs.List.{list_all}
 use Rattle.std.proofs.lemmas.List.{take_all}
 use Rattle.std.specs.Prelude.{Bool, Result, unwrap_or}
-use Rattle.run_model.specs.Allowed.{run}
+use Rattle.run_model.specs.Allowed.{IsPrefix, run}
 use Rattle.run_model.specs.Event.{Event}
 use Rattle.run_model.specs.State.{State, formatted}
 use Rattle.run_disk.specs.Disk.{DiskState, IsDisk}
 use Rattle.state_renewal.specs.Renewed.{renewed_in}
+use Rattle.book_model.specs.Books.{acked}
 use Rattle.book_model.specs.Migrations.{widened}
 use Rattle.book_model.specs.Plays.{last_acked}
-use Rattle.book_model.specs.Standing.{Finds, LiesWith}
+use Rattle.book_model.specs.Standing.{CutsOpening, Finds, LiesWith}
 use Rattle.book_model.specs.Stores.{Stores, restarted}
 use Rattle.run_crew.specs.Openings.{is_work}
 use Rattle.console_lines.specs.declared.faults.RunFault.{RunFault}
 use Rattle.run_crew.specs.Crews.{AcksNight, CrewEnds, StoresNight}
-use Rattle.night_program.specs.Crews.{IsOpen}
-use Rattle.night_program.specs.Lasting.{CutsCrew, Formatting, Leads, Migrating, Reading, Renewing}
+use Rattle.night_program.specs.Crews.{AreOpenShifts}
+use Rattle.drive_runs.proofs.Lasting.{crash_finds, opening_finds}
+use Rattle.night_program.specs.Lasting.{CutsAnswers, CutsCrew, Driving, Formatting, Leads}
+use Rattle.night_program.specs.Lasting.{Migrating, Reading, Renewing}
 use Rattle.night_program.specs.Lasting.{Run, RunLeaves, RunsLeave, Scripting, StoresAfterRuns}
 use Rattle.night_program.specs.Lasting.{Working, flushed_by}
 use Rattle.night_program.proofs.LastingLemmas.{crew_is_found}
@@ -69,7 +72,8 @@ module _ {D : Type 0} (state : D → DiskState) (disk : (d : D) → IsDisk (stat
 
   crew_led : (given left next : D) (p : State) (workers : ℕ) (answer : Result Bool RunFault)
       (w0 w1 : Option (List ℕ)) → LiesWith state given p
-      → CrewEnds state IsOpen given workers answer left w0 w1 → FindsLeft state given left next
+      → CrewEnds state (AreOpenShifts state) given workers answer left w0 w1
+      → FindsLeft state given left next
       → IsWorkLed p 0 (state next).now
   crew_led given left next p workers answer w0 w1 lies ends finds =
       let found = crew_is_found state given left next p workers answer w0 w1 lies ends finds in
@@ -81,7 +85,7 @@ module _ {D : Type 0} (state : D → DiskState) (disk : (d : D) → IsDisk (stat
 
   crew_later : (given left : D) (p : State) (workers : ℕ) (answer : Result Bool RunFault)
       (w0 w1 : Option (List ℕ)) → LiesWith state given p
-      → CrewEnds state IsOpen given workers answer left w0 w1
+      → CrewEnds state (AreOpenShifts state) given workers answer left w0 w1
       → (state given).clock ≤ (state left).clock
   crew_later given left p workers answer w0 w1 lies (inl (why, reported, opens, same, promises)) =
       (promises lies.honest lies.rest p lies.stores).later
@@ -104,7 +108,7 @@ module _ {D : Type 0} (state : D → DiskState) (disk : (d : D) → IsDisk (stat
 
   night_acked : (given left next : D) (p : State) (workers : ℕ) (answer : Result Bool RunFault)
       (w0 w1 : Option (List ℕ)) → LiesWith state given p
-      → (ends : CrewEnds state IsOpen given workers answer left w0 w1)
+      → (ends : CrewEnds state (AreOpenShifts state) given workers answer left w0 w1)
       → FindsLeft state left left next
       → IsWorkLed p (unwrap_or (flushed_by state given workers answer left w0 w1 ends) 0)
       (state next).now
@@ -142,7 +146,8 @@ module _ {D : Type 0} (state : D → DiskState) (disk : (d : D) → IsDisk (stat
       → CutsCrew state given reported next → IsWorkLed p (unwrap_or reported 0) (state next).now
   cut_crew_led given next p reported lies cut = by cut.cut
     where
-      ends : CrewEnds state IsOpen given cut.workers cut.answer cut.left cut.w0 cut.w1
+      ends : CrewEnds state (AreOpenShifts state) given cut.workers cut.answer cut.left cut.w0
+          cut.w1
       ends = cut.ends
 
       by : ((reported ≡ None) × FindsLeft state given cut.left next)
@@ -236,6 +241,39 @@ module _ {D : Type 0} (state : D → DiskState) (disk : (d : D) → IsDisk (stat
             (renew_leaves state disk ends.1 cuts.made ends.4 cuts.left p layout ends.3 looked
             cuts.honest cuts.zeros ends.0 ends.5);
       }
+  run_led given next p (Driving openings events reported) lies cuts = by cuts.cut
+    where
+      by : ((reported ≡ 0) × CutsOpening state cuts.middle next)
+          ⊎ CutsAnswers state cuts.middle events reported next
+          → IsLed p (Driving openings events reported) next
+      by (inl (none, cut)) =
+          let found = opening_finds state disk openings given cuts.middle next p cuts.text lies
+          cuts.sittings cut in
+          let led = opened_led found.0 events (state next).now found.2 in
+          found_by p (Driving openings events reported) _ next cut.finds led.state (
+            found.0,
+            found.1,
+            subst (λ n. LeadsBy found.0 events n led.state) (sym none) led.leads,
+          )
+          led.stores
+      by (inr cut) =
+          let m = cut.middle in
+          let found = crash_finds state disk openings cut.count given cuts.middle next p cuts.text
+          cut.text cut.before m cut.after lies cuts.sittings cut.opened cut.answers cut.goes_on
+          cut.finds in
+          let q = found.0 in
+          let left = found.2.1 in
+          let least : reported ≤ (restarted q).count + acked m =
+          omega (arith, cut.acked, ap (λ (s : State). s.count) found.2.0) in
+          found_by p (Driving openings events reported) _ next cut.finds left.state (
+            q,
+            found.1,
+            prefix_led q left.state events (acked m) reported
+                (subst (λ es. IsPrefix (restarted q) es (acked m) left.state) cut.history
+                left.prefix)
+                least,
+          )
+          left.stores
 
   -- ---- any runs
 

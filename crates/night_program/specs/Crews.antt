@@ -1,11 +1,14 @@
 -- What a crew's night over a store comes to, and the look before it at the jobs of its tasks.
 use Rattle.std.specs.Prelude.{◌≡◌, ◌⊎◌, Bool, true, false, Some, None, Result, Ok}
-use Rattle.std.specs.Prelude.{Err, ⊤}
+use Rattle.std.specs.Prelude.{All, Err, List, ⊤}
 use Rattle.run_model.specs.declared.faults.Fault.{Fault}
 use Rattle.run_disk.specs.Disk.{DiskState}
 use Rattle.console_lines.specs.declared.faults.RunFault.{RunFault}
 use Rattle.console_lines.specs.Faults.{stopped}
-use Rattle.run_crew.specs.Courses.{Call, IsGates}
+use Rattle.run_crew.specs.declared.notes.Note.{Note}
+use Rattle.run_crew.specs.Courses.{IsSomeShift}
+use Rattle.run_crew.specs.Nights.{OfDesk}
+use Rattle.run_crew.specs.Openings.{Known}
 use Rattle.store_words.specs.declared.endings.Done.{Done}
 use Rattle.store_words.specs.declared.endings.Done.TheVariants.{Strayed, Unknown, Well}
 use Rattle.store_words.specs.declared.failures.Failure.{Failure}
@@ -13,9 +16,11 @@ use Rattle.store_words.specs.declared.endings.UnknownJob.{UnknownJob}
 use Rattle.store_words.specs.Failures.{FailsBy}
 use Rattle.night_program.specs.Known.{FindsUnknown}
 
--- The gate of a night lets each turn pass.
-abbrev pub IsOpen : Call → Type 0
-IsOpen call = IsGates (λ task turn answer. answer ≡ true) (λ task. ⊤) call
+-- Each of these lists of notes is that of a worker's shift. Some desk whose book carries on from
+-- what is known gave each answer under the lock, and the gate let each turn pass.
+abbrev pub AreOpenShifts : {D : Type 0} → (D → DiskState) → Known → List (List Note) → Type 0
+AreOpenShifts state known lists =
+    All (IsSomeShift (OfDesk state known (λ task turn answer. answer ≡ true) (λ task. ⊤))) lists
 
 -- The result of the program after a night: all is well, the audit found a difference, or the same
 -- fault ended it.

@@ -11,15 +11,20 @@ use Rattle.run_model.specs.Layouts.{store_len}
 use Rattle.run_model.specs.State.{State, formatted}
 use Rattle.run_disk.specs.Disk.{DiskState}
 use Rattle.state_renewal.specs.Renewed.{renewed_in}
+use Rattle.book_model.specs.Books.{BookView}
 use Rattle.book_model.specs.Migrations.{widened}
+use Rattle.book_model.specs.Openings.{Opens}
 use Rattle.book_model.specs.Plays.{last_acked}
 use Rattle.book_model.specs.Standing.{CutsOpening}
 use Rattle.book_model.specs.Stores.{Stores}
 use Rattle.run_crew.specs.Openings.{is_work}
 use Rattle.book_model.specs.declared.migrations.MigrateFault.{MigrateFault}
 use Rattle.console_lines.specs.declared.faults.RunFault.{RunFault}
+use Rattle.drive_runs.specs.Laws.{Reaches}
+use Rattle.drive_runs.specs.Moving.{Moves}
+use Rattle.drive_runs.specs.Runs.{Answers, Sittings}
 use Rattle.run_crew.specs.Crews.{CrewEnds, StoresNight}
-use Rattle.night_program.specs.Crews.{IsOpen}
+use Rattle.night_program.specs.Crews.{AreOpenShifts}
 use Rattle.store_words.specs.declared.renewals.Kept.{Kept}
 use Rattle.night_program.specs.CutScripts.{CutsLines}
 use Rattle.store_words.specs.Lasting.{CutsMaking, FindsLeft, IsReadAlone, LeadsBy}
@@ -48,6 +53,10 @@ pub data Run : Type 0 where
   Migrating : Run
   -- one of this layout was made of what isn't finished in it
   Renewing : Layout → Run
+  -- a night was driven over it: the store was opened this many times, and then once more, when
+  -- these events came; and what the last whole answer reported was acknowledged, up to the event of
+  -- this number
+  Driving : ℕ → List Event → ℕ → Run
 
 -- The run leads from state p to state q.
 abbrev pub Leads : State → Run → State → Type 0
@@ -58,6 +67,8 @@ Leads p (Working reported) q =
 Leads p (Formatting layout) q = q ≡ formatted layout
 Leads p Migrating q = q ≡ widened p
 Leads p (Renewing layout) q = q ≡ renewed_in layout p
+Leads p (Driving openings events reported) q =
+    Reaches openings p (λ between. LeadsBy between events reported q)
 
 -- The runs, one after another, lead from state p to state q.
 abbrev pub LeadOn : State → List Run → State → Type 0
@@ -73,7 +84,8 @@ flushed_of (Err why) = None
 
 module _ {D : Type 0} (state : D → DiskState) where
   abbrev pub flushed_by : (given : D) (workers : ℕ) (answer : Result Bool RunFault) (left : D)
-      (w0 w1 : Option (List ℕ)) → CrewEnds state IsOpen given workers answer left w0 w1 → Option ℕ
+      (w0 w1 : Option (List ℕ))
+      → CrewEnds state (AreOpenShifts state) given workers answer left w0 w1 → Option ℕ
   flushed_by given workers answer left w0 w1 (inl none) = None
   flushed_by given workers answer left w0 w1 (inr (b, opened, begun, inl none)) = None
   flushed_by given workers answer left w0 w1
@@ -88,10 +100,36 @@ module _ {D : Type 0} (state : D → DiskState) where
     pub left : D
     pub w0 : Option (List ℕ)
     pub w1 : Option (List ℕ)
-    pub ends : CrewEnds state IsOpen given workers answer left w0 w1
+    pub ends : CrewEnds state (AreOpenShifts state) given workers answer left w0 w1
     pub cut : ((reported ≡ None) × FindsLeft state given left next)
         ⊎ ((reported ≡ flushed_by given workers answer left w0 w1 ends)
         × FindsLeft state left left next)
+
+  -- A night was driven over the store on a disk. A crash or the end came after these answers over
+  -- its last opening.
+  pub record CutsAnswers (given : D) (events : List Event) (reported : ℕ) (next : D)
+      : Type 0 where
+    pub before : BookView D
+    pub opened : Opens state given (Ok before)
+    pub count : ℕ
+    pub text : List ℕ
+    pub middle : BookView D
+    pub answers : Answers state count before text middle
+    pub after : BookView D
+    pub goes_on : Moves state middle after
+    pub history : after.session.history ≡ events
+    pub acked : reported ≡ middle.durable
+    pub finds : FindsLeft state middle.journal.disk after.journal.disk next
+
+  -- A night was driven over the store on a disk, which was opened this many times. A crash or the
+  -- end came in the opening after these, or over it.
+  pub record CutsDrive (given : D) (openings : ℕ) (events : List Event) (reported : ℕ) (next : D)
+      : Type 0 where
+    pub middle : D
+    pub text : List ℕ
+    pub sittings : Sittings state openings given text middle
+    pub cut : ((reported ≡ 0) × CutsOpening state middle next)
+        ⊎ CutsAnswers middle events reported next
 
   -- The program made this run over the store on the disk, and the next opening finds the other one.
   abbrev pub RunLeaves : (given : D) → Run → (next : D) → Type 0
@@ -113,6 +151,8 @@ module _ {D : Type 0} (state : D → DiskState) where
       × (looked : D) × IsReadAlone (state given) (state looked)
       × (done : Result Kept MigrateFault) × (read : D)
       × Remakes state state looked made done read left) next
+  RunLeaves given (Driving openings events reported) next =
+      CutsDrive given openings events reported next
 
   -- It made these runs, one after another.
   abbrev pub RunsLeave : (given : D) → List Run → (next : D) → Type 0

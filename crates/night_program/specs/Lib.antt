@@ -1,6 +1,7 @@
 pub mod Crews
 pub mod CutScripts
 pub mod Demos
+pub mod Drives
 pub mod Jobs
 pub mod Known
 pub mod Lasting

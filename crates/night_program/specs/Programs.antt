@@ -9,17 +9,18 @@ use Rattle.console_lines.specs.declared.rejections.RejectedLine.{RejectedLine}
 use Rattle.run_crew.specs.Crews.{CrewEnds}
 use Rattle.night_words.specs.Commands.{AsksFor, IsAnswer, IsCausedBy, faults_of}
 use Rattle.night_words.specs.declared.requests.Request.{Request}
-use Rattle.night_words.specs.declared.requests.Request.TheVariants.{Crew, Demo, Format, Help}
-use Rattle.night_words.specs.declared.requests.Request.TheVariants.{Inspect, Migrate, Plan, Renew}
-use Rattle.night_words.specs.declared.requests.Request.TheVariants.{RenewInPlace, Script}
+use Rattle.night_words.specs.declared.requests.Request.TheVariants.{Crew, Demo, Drive, Format}
+use Rattle.night_words.specs.declared.requests.Request.TheVariants.{Help, Inspect, Migrate, Plan}
+use Rattle.night_words.specs.declared.requests.Request.TheVariants.{Renew, RenewInPlace, Script}
 use Rattle.night_words.specs.declared.faults.WordsFault.{WordsFault}
 use Rattle.night_words.specs.declared.faults.WordsFault.TheVariants as words
 use Rattle.night_words.specs.Faults.{fault_text}
 use Rattle.night_program.specs.Demos.{DemoEnds}
+use Rattle.night_program.specs.Drives.{DoesDrive}
 use Rattle.night_program.specs.Plans.{DoesPlan}
 use Rattle.night_program.specs.Scripts.{DoesScript, until_of}
 use Rattle.night_program.specs.Timed.{DoesTimed}
-use Rattle.night_program.specs.Crews.{AnswersCrew, IsLooked, IsOpen, StopsAt}
+use Rattle.night_program.specs.Crews.{AnswersCrew, AreOpenShifts, IsLooked, StopsAt}
 use Rattle.store_words.specs.declared.endings.Done.{Done}
 use Rattle.store_words.specs.declared.endings.Ended.{Ended}
 use Rattle.store_words.specs.declared.failures.Failure.{Failure}
@@ -69,7 +70,7 @@ module _ {F D : Type 0} (state : D → DiskState) (seen : FilesView F D) where
     pub held : HoldsAlone seen seen.opens store given left f0 f1
     pub settled : IsSettled (state given)
     pub looked : IsLooked state known given begun
-    pub works : CrewEnds state IsOpen begun workers done left w0 w1
+    pub works : CrewEnds state (AreOpenShifts state) begun workers done left w0 w1
     pub answers : AnswersCrew (Names (seen.notes given) store) done answer
 
   -- The file of this name was opened and only read: no state was found in it, or tasks of unknown
@@ -128,6 +129,8 @@ module _ {F D : Type 0} (state : D → DiskState) (seen : FilesView F D) where
       DoesRenewInPlace state seen store.now answer f0 f1 w0 w1 × (r1 ≡ r0)
   Does Plan lists moments answer f0 f1 r0 r1 w0 w1 =
       DoesPlan answer r0 r1 w0 w1 × (f1 ≡ f0)
+  Does (Drive store) lists moments answer f0 f1 r0 r1 w0 w1 =
+      DoesDrive state seen store.now answer f0 f1 r0 r1 w0 w1
   Does (Help text) lists moments answer f0 f1 r0 r1 w0 w1 =
       DoesPrint (string_bytes text) answer w0 w1 × (f1 ≡ f0) × (r1 ≡ r0)
 

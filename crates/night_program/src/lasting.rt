@@ -11,7 +11,7 @@ ghost use Rattle.console_lines.specs.declared.faults.RunFault.{RunFault};
 ghost use Rattle.console_lines.specs.declared.rejections.RejectedLine.{RejectedLine};
 ghost use Rattle.run_crew.specs.Crews.{CrewEnds, StoresNight};
 ghost use Rattle.run_console.specs.declared.untils.Until.{Until};
-ghost use Rattle.night_program.specs.Crews.{IsOpen};
+ghost use Rattle.night_program.specs.Crews.{AreOpenShifts};
 ghost use Rattle.night_program.specs.CutScripts.{IsRunOver};
 ghost use Rattle.night_program.specs.Lasting.{Run, RunsLeave, StoresAfterRuns, StoresWork};
 ghost use Rattle.night_program.specs.Scripts.{ScriptEnds};
@@ -44,7 +44,7 @@ pub fn a_store_lasts_from_run_to_run<D: RunDisk>()
         → StoresPrefix (restarted p) c.session.history (acked m) (D.state next).now }
     ensures crew { (given left next : D) (p : State) (workers : ℕ) (answer : Result Bool RunFault)
         (w0 w1 : Option (List ℕ)) → LiesWith D.state given p
-        → CrewEnds D.state IsOpen given workers answer left w0 w1
+        → CrewEnds D.state (AreOpenShifts D.state) given workers answer left w0 w1
         → FindsLeft D.state given left next
         → StoresWork p (D.state next).now }
     ensures inspect { (view : View) (found read : D) (p : State) (done : ⊤)
@@ -57,9 +57,10 @@ pub fn a_store_lasts_from_run_to_run<D: RunDisk>()
 /// any moment. They lose nothing that they have printed as acknowledged, if each opening finds what
 /// a crash may have left of the disk. The state after them is the one that was stored, changed run
 /// by run. A script and a crew change it by a restart and a prefix of their events, which contains
-/// every acknowledged one. A format makes it a state that has no row but root, a migration puts it
-/// into the large layout, and a renewal renews it. Whatever only reads a store changes nothing: an
-/// inspection, and the reading of an old store before a new one is made of it.
+/// every acknowledged one. A driven night does the same at each of its openings, and all that its
+/// answers reported as durable is in the state. A format makes it a state that has no row but root,
+/// a migration puts it into the large layout, and a renewal renews it. Whatever only reads a store
+/// changes nothing: an inspection, and the reading of an old store before a new one is made of it.
 pub fn many_runs_lose_nothing_acknowledged<D: RunDisk>()
     ensures runs { (given next : D) (p : State) (runs : List Run) → LiesWith D.state given p
         → RunsLeave D.state given runs next → StoresAfterRuns p runs (D.state next).now }

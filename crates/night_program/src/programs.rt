@@ -8,7 +8,9 @@ ghost use Rattle.store_words.specs.Failures.{Blames};
 
 use crate::crews::crew_file;
 use crate::demos::demo;
+use crate::drives::drive_file;
 use crate::plans::plan;
+use crate::process_ends::ProcessEnd;
 use crate::scripts::{script_file, until_of};
 use crate::timed::timed_file;
 use console_lines::write_whole;
@@ -41,6 +43,8 @@ use store_words::{
 ///   OLD's small one; with `--new` only if there is no file NEW.
 /// - `renew OLD NEW` likewise makes of NEW a store of OLD's size with what isn't finished in OLD,
 ///   and `renew --in-place STORE` locks STORE, and replaces it by such a store.
+/// - `drive STORE` drives a night over the store: it reads a plan and rounds of what happens,
+///   records them, and answers what begins and stops.
 /// - `plan` reads a plan and rounds of what happens, and answers each.
 ///
 /// A new file of which no store is made is removed again. Help and the version go to the output.
@@ -67,15 +71,15 @@ pub fn night<
     output: &mut O,
     streams: &Streams<Y>,
     errors: &mut E,
-) -> Ended
-    ensures refused { IfErr words (λ why. IsRefused why result files.old files.new
+) -> ProcessEnd
+    ensures refused { IfErr words (λ why. IsRefused why result.ended files.old files.new
         (I.remaining input.old) (I.remaining input.new)
         (O.contents output.old) (O.contents output.new)
         (E.state errors.old) (E.state errors.new)) }
     ensures runs { IfOk words (λ words. RunsWords F.Disk.state F.seen
         (Blames (Y.notes streams.now.input) (Y.notes streams.now.output))
         (map string_bytes words.items) (vec_len jobs) (C.moments clock.old)
-        streams.now.is_terminal result
+        streams.now.is_terminal result.ended
         files.old files.new
         (I.remaining input.old) (I.remaining input.new)
         (O.contents output.old) (O.contents output.new)
@@ -89,20 +93,20 @@ pub fn night<
         Ok(request) => {
             hint(streams.is_terminal && reads_lines(&request), errors);
             let answer = answer(rt, alloc, &request, jobs, files, clock, input, output);
-            end(&answer, streams, errors)
+            ProcessEnd::of(end(&answer, streams, errors))
         }
         Err(fault) => refuse(fault, errors),
     }
 }
 
 /// Ends a program whose arguments ask for nothing, and prints why.
-fn refuse<E: ErrorSink>(fault: WordsFault, errors: &mut E) -> Ended
-    ensures { Refuses fault result (E.state errors.old) (E.state errors.new) }
+fn refuse<E: ErrorSink>(fault: WordsFault, errors: &mut E) -> ProcessEnd
+    ensures { Refuses fault result.ended (E.state errors.old) (E.state errors.new) }
 {
-    Ended {
+    ProcessEnd::of(Ended {
         status: refusal_status(&fault),
         printed: errors.print(fault),
-    }
+    })
 }
 
 /// The exit status of a program whose arguments ask for nothing.
@@ -183,6 +187,7 @@ fn answer_alone<'a, F: Files, C: MachineTime, I: Read, O: Write>(
         }
         Request::Renew { old, new, is_new } => renew_file(alloc, old, new, *is_new, files, output),
         Request::RenewInPlace(store) => renew_in_place(alloc, store, files, output),
+        Request::Drive { store } => drive_file(alloc, store, files, input, output),
         Request::Plan => plan(alloc, input, output),
         Request::Help(text) => done_alone(write_whole(output, text.as_bytes())),
     }

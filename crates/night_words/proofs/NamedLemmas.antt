@@ -17,9 +17,9 @@ use Rattle.clap.specs.declared.parser.matches.ArgMatches.{ArgMatches}
 use Rattle.clap.specs.declared.parser.matches.ArgMatches.TheViews.{out-ArgMatches, out-SubCommand}
 use Rattle.clap.specs.declared.parser.matches.SubCommand.{SubCommand}
 use Rattle.night_words.specs.Commands.{Asks, IsCrew, IsForTwo, IsInspect, IsNamed, IsRenewal}
-use Rattle.night_words.specs.Commands.{IsView, Named, NamesCrew, NamesDemo, NamesFormat}
-use Rattle.night_words.specs.Commands.{NamesInspect, NamesMigration, NamesPlan, NamesRenewal}
-use Rattle.night_words.specs.Commands.{NamesScript}
+use Rattle.night_words.specs.Commands.{IsView, Named, NamesCrew, NamesDemo, NamesDrive}
+use Rattle.night_words.specs.Commands.{NamesFormat, NamesInspect, NamesMigration, NamesPlan}
+use Rattle.night_words.specs.Commands.{NamesRenewal, NamesScript}
 use Rattle.night_words.specs.Commands.{command_in, has_flag, is_true, named_by, named_in, new_by}
 use Rattle.night_words.specs.Commands.{word_in, workers_of}
 use Rattle.night_words.specs.declared.requests.Request.{Request}
@@ -30,8 +30,8 @@ use Rattle.night_words.specs.declared.faults.WordsFault.{WordsFault}
 use Rattle.night_words.specs.declared.faults.WordsFault.TheVariants.{NoTree, Phase, Place}
 use Rattle.night_words.specs.declared.faults.WordsFault.TheVariants.{SameStores}
 use Rattle.night_words.specs.declared.faults.WordsFault.TheVariants.{Views, Workers}
-use Rattle.night_words.proofs.PlaceLemmas.{crews, demos, formats, inspects, migrates, plans}
-use Rattle.night_words.proofs.PlaceLemmas.{renews, scripts, word_of}
+use Rattle.night_words.proofs.PlaceLemmas.{crews, demos, drives, formats, inspects, migrates}
+use Rattle.night_words.proofs.PlaceLemmas.{plans, renews, scripts, word_of}
 use Rattle.night_words.proofs.ViewLemmas.{view_alike}
 
 -- what is read of a subcommand and of its matches
@@ -132,6 +132,12 @@ module _ (m : ArgMatches) (command : Bor Text) (inner : Bor ArgMatches)
     -- so it is where it is `plan`
     pub plan_here : command.now ≡ word_of plans → NamesPlan entered
     plan_here is = command_here (word_of plans) is
+
+    -- and where it is `drive`
+    pub drive_here : (store : Text) → command.now ≡ word_of drives
+        → Some store ≡ found (codes "STORE") → NamesDrive store entered
+    drive_here store is stored =
+        (command_here (word_of drives) is, word_here (codes "STORE") ∙ sym stored)
 
     -- and where it is `format`
     pub format_here : (store : Text) (is_new : Bool) → command.now ≡ word_of formats
@@ -302,18 +308,19 @@ no_store named new name which is no_demo no_plan no_crew = go which
     go (inr (inr (inr (store, inl e)))) = clash (word_of formats) store e
     go (inr (inr (inr (store, inr (inl e))))) = clash (word_of scripts) store e
     go (inr (inr (inr (store, inr (inr (inl e)))))) = clash (word_of inspects) store e
-    go (inr (inr (inr (store, inr (inr (inr (inl e))))))) = clash (word_of renews) store e
-    go (inr (inr (inr (store, inr (inr (inr (inr (given, n)))))))) =
+    go (inr (inr (inr (store, inr (inr (inr (inl e))))))) = clash (word_of drives) store e
+    go (inr (inr (inr (store, inr (inr (inr (inr (inl e)))))))) = clash (word_of renews) store e
+    go (inr (inr (inr (store, inr (inr (inr (inr (inr (given, n))))))))) =
         clash (word_of migrates) store n.0
 
 -- a command over a store that is none of the others is `migrate`
 pub two_left : (named : Named) (new : Option Text) (name store : Text) → IsNamed named new
     → named ≡ Some (name, Some store) → (name ≡ word_of demos → ⊥) → (name ≡ word_of plans → ⊥)
     → (name ≡ word_of crews → ⊥) → (name ≡ word_of formats → ⊥) → (name ≡ word_of scripts → ⊥)
-    → (name ≡ word_of inspects → ⊥) → (name ≡ word_of renews → ⊥)
+    → (name ≡ word_of inspects → ⊥) → (name ≡ word_of drives → ⊥) → (name ≡ word_of renews → ⊥)
     → (name ≡ word_of migrates) × ((given : Text) × (new ≡ Some given))
 two_left named new name store which is no_demo no_plan no_crew no_format no_script no_inspect
-    no_renew = go which
+    no_drive no_renew = go which
   where
     go : IsNamed named new → (name ≡ word_of migrates) × ((given : Text) × (new ≡ Some given))
     go (inl (first, e)) = absurd (no_demo (ap name_in (sym is ∙ e)))
@@ -322,8 +329,10 @@ two_left named new name store which is no_demo no_plan no_crew no_format no_scri
     go (inr (inr (inr (s, inl e)))) = absurd (no_format (ap name_in (sym is ∙ e)))
     go (inr (inr (inr (s, inr (inl e))))) = absurd (no_script (ap name_in (sym is ∙ e)))
     go (inr (inr (inr (s, inr (inr (inl e)))))) = absurd (no_inspect (ap name_in (sym is ∙ e)))
-    go (inr (inr (inr (s, inr (inr (inr (inl e))))))) = absurd (no_renew (ap name_in (sym is ∙ e)))
-    go (inr (inr (inr (s, inr (inr (inr (inr (given, n)))))))) =
+    go (inr (inr (inr (s, inr (inr (inr (inl e))))))) = absurd (no_drive (ap name_in (sym is ∙ e)))
+    go (inr (inr (inr (s, inr (inr (inr (inr (inl e)))))))) =
+        absurd (no_renew (ap name_in (sym is ∙ e)))
+    go (inr (inr (inr (s, inr (inr (inr (inr (inr (given, n))))))))) =
         (ap name_in (sym is ∙ n.0), (given, n.1))
 
 -- a new store is there

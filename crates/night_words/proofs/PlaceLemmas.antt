@@ -40,6 +40,7 @@ pub data Command : Type 0 where
   crews : Command
   renews : Command
   plans : Command
+  drives : Command
 
 -- the name of each, and its place among them
 abbrev pub entry_of : Command → Text × ℕ
@@ -51,6 +52,7 @@ entry_of migrates = (codes "migrate", 4)
 entry_of crews = (codes "crew", 5)
 entry_of renews = (codes "renew", 6)
 entry_of plans = (codes "plan", 7)
+entry_of drives = (codes "drive", 8)
 
 abbrev pub word_of : Command → Text
 word_of c = (entry_of c).0
@@ -124,6 +126,8 @@ formed renews = record {
   );
 }
 formed plans = record { once = refl; forms = (is_help refl, tt) }
+formed drives =
+    record { once = refl; forms = (is_place (codes "STORE") 1 true refl, (is_help refl, tt)) }
 
 -- no flag and no option of the command is there, by the words that were found; of a crew's words
 -- nothing is shown
@@ -136,6 +140,7 @@ IsUnset inspects word = AsksViews false false false false false word
 IsUnset migrates word = is_true (word (codes "new")) ≡ false
 IsUnset crews word = ⊥
 IsUnset plans word = Unit {0}
+IsUnset drives word = Unit {0}
 IsUnset renews word = (is_true (word (codes "new")) ≡ false)
     × (is_true (word (codes "in-place")) ≡ false)
 
@@ -164,6 +169,7 @@ quiet inspects rows unset =
 quiet migrates rows unset = neither _ _ unset refl
 quiet crews rows unset = absurd unset
 quiet plans rows unset = refl
+quiet drives rows unset = refl
 quiet renews rows unset = neither _ _ unset.0 (neither _ _ unset.1 refl)
 
 -- ---- where the walk stands after values alone
@@ -440,6 +446,7 @@ abbrev pub IsOver : Command → Type 0
 IsOver formats = Unit {0}
 IsOver scripts = Unit {0}
 IsOver inspects = Unit {0}
+IsOver drives = Unit {0}
 IsOver c = ⊥
 
 -- the parser read this store, and no flag and no option
@@ -452,6 +459,7 @@ reads_alone : (c : Command) → IsOver c → (x : Text) (t : Bool)
 reads_alone formats one x t = (refl, refl)
 reads_alone scripts one x t = (refl, (refl, refl))
 reads_alone inspects one x t = (refl, (refl, refl, refl, refl, refl))
+reads_alone drives one x t = (refl, tt)
 reads_alone c one x t = absurd one
 
 -- a first value is taken
@@ -459,6 +467,7 @@ takes_first : (c : Command) → IsOver c → step_fault (shape c) 1 (held [] Non
 takes_first formats one = refl
 takes_first scripts one = refl
 takes_first inspects one = refl
+takes_first drives one = refl
 takes_first c one = absurd one
 
 marks : (c : Command) (r : List Row) (p : Option (Text × List Text)) (q : Waiting) (n : ℕ)
@@ -474,6 +483,7 @@ store_given : (c : Command) → IsOver c → (rows : List Row) → check_fault (
 store_given formats one rows none = one_given (is_given (codes "STORE") rows) none
 store_given scripts one rows none = one_given (is_given (codes "STORE") rows) none
 store_given inspects one rows none = one_given (is_given (codes "STORE") rows) none
+store_given drives one rows none = one_given (is_given (codes "STORE") rows) none
 store_given c one rows none = absurd one
 
 -- no words give it
@@ -482,6 +492,7 @@ never_given : (c : Command) → IsOver c
 never_given formats one given = cc
 never_given scripts one given = cc
 never_given inspects one given = cc
+never_given drives one given = cc
 never_given c one given = absurd one
 
 -- whether a flag or an option alone gives it
@@ -494,6 +505,7 @@ none_gives : (c : Command) → IsOver c → (values : List Text)
 none_gives formats one values = refl
 none_gives scripts one values = refl
 none_gives inspects one values = refl
+none_gives drives one values = refl
 none_gives c one values = absurd one
 
 -- whether an option may be without a value
@@ -505,6 +517,7 @@ none_valueless : (c : Command) → IsOver c → list_any (is_valueless c) (shape
 none_valueless formats one = refl
 none_valueless scripts one = refl
 none_valueless inspects one = refl
+none_valueless drives one = refl
 none_valueless c one = absurd one
 
 module _ (c : Command) (one : IsOver c) where

@@ -11,8 +11,9 @@ use Rattle.clap.specs.Faults.{built_fault, entered_fault, other_fault, step_faul
 use Rattle.clap.specs.Walk.{Held, Names, Row, Step, Text, Walk, first_of, idle, nothing_held}
 use Rattle.clap.specs.Walk.{subcommand_or_other, value, walk, walked, walked_from}
 use Rattle.clap.proofs.OnLiterals.{clap_on_literals}
-use Rattle.night_words.specs.Commands.{Asks, AsksAlone, AsksFor, AsksForDemo, AsksForFormat}
-use Rattle.night_words.specs.Commands.{AsksForInspect, AsksForScript, AsksForTwo, AsksOver}
+use Rattle.night_words.specs.Commands.{Asks, AsksAlone, AsksFor, AsksForDemo, AsksForDrive}
+use Rattle.night_words.specs.Commands.{AsksForFormat, AsksForInspect, AsksForScript, AsksForTwo}
+use Rattle.night_words.specs.Commands.{AsksOver}
 use Rattle.night_words.specs.Commands.{IsCausedBy, IsNamed, NamesMigration, NamesRenewal}
 use Rattle.night_words.specs.Commands.{command_in, faults_of, is_true, named_in, new_in, night}
 use Rattle.night_words.specs.Commands.{word_in}
@@ -25,7 +26,7 @@ use Rattle.night_words.specs.declared.faults.WordsFault.TheVariants.{SameStores}
 use Rattle.night_words.proofs.LevelLemmas.{first_passes, lower_passes, rest_passes, start}
 use Rattle.night_words.proofs.LevelLemmas.{words_pass}
 use Rattle.night_words.proofs.PlaceLemmas.{Command, IsOver, IsUnset, Passes, ReadsAlone, Reads}
-use Rattle.night_words.proofs.PlaceLemmas.{after_mark, crews, demos, first_alone, formats}
+use Rattle.night_words.proofs.PlaceLemmas.{after_mark, crews, demos, drives, first_alone, formats}
 use Rattle.night_words.proofs.PlaceLemmas.{inspects, migrates, over, plans, reads, renews, scripts}
 use Rattle.night_words.proofs.PlaceLemmas.{shape, text_is, word_of}
 use Rattle.night_words.proofs.TurnLemmas.{above, above_is_strict, first_none, mark}
@@ -65,13 +66,14 @@ IsFirst word = ((c : Command) × (word ≡ word_of c)) ⊎ (word ≡ mark)
 first_word : (word : Text) → turn_fault above names start word ≡ [] → IsFirst word
 first_word word none =
     go (eq demos) (eq formats) (eq scripts) (eq inspects) (eq migrates) (eq crews) (eq renews)
-    (eq plans) (bytes_eq (codes "help") word) refl refl refl refl refl refl refl refl none
+    (eq plans) (eq drives) (bytes_eq (codes "help") word) refl refl refl refl refl refl refl refl
+    refl none
   where
     eq : Command → Bool
     eq c = bytes_eq (word_of c) word
 
-    met : (d f s i m c r p h : Bool) → Option Text
-    met d f s i m c r p h = option_map (λ (n : Text × List Text). n.0)
+    met : (d f s i m c r p v h : Bool) → Option Text
+    met d f s i m c r p v h = option_map (λ (n : Text × List Text). n.0)
         (cond (d || false) (Some (word_of demos, []))
         (cond (f || false) (Some (word_of formats, []))
         (cond (s || false) (Some (word_of scripts, []))
@@ -80,32 +82,38 @@ first_word word none =
         (cond (c || false) (Some (word_of crews, []))
         (cond (r || false) (Some (word_of renews, []))
         (cond (p || false) (Some (word_of plans, []))
-        (cond (h || false) (Some (codes "help", [])) None)))))))))
+        (cond (v || false) (Some (word_of drives, []))
+        (cond (h || false) (Some (codes "help", [])) None))))))))))
 
     is : (c : Command) → bytes_eq (word_of c) word ≡ true → IsFirst word
     is c same = inl (c, sym ((bytes_eq-Decides (word_of c) word).0 same))
 
-    go : (d f s i m c r p h : Bool) → bytes_eq (word_of demos) word ≡ d
+    go : (d f s i m c r p v h : Bool) → bytes_eq (word_of demos) word ≡ d
         → bytes_eq (word_of formats) word ≡ f → bytes_eq (word_of scripts) word ≡ s
         → bytes_eq (word_of inspects) word ≡ i → bytes_eq (word_of migrates) word ≡ m
         → bytes_eq (word_of crews) word ≡ c → bytes_eq (word_of renews) word ≡ r
-        → bytes_eq (word_of plans) word ≡ p
-        → or_else (other_fault above (met d f s i m c r p h) word nothing_held)
+        → bytes_eq (word_of plans) word ≡ p → bytes_eq (word_of drives) word ≡ v
+        → or_else (other_fault above (met d f s i m c r p v h) word nothing_held)
         (stepped above
-        (subcommand_or_other above.rules (met d f s i m c r p h) idle 1 word nothing_held))
+        (subcommand_or_other above.rules (met d f s i m c r p v h) idle 1 word nothing_held))
         ≡ [] → IsFirst word
-    go true f s i m c r p h same e1 e2 e3 e4 e5 e6 e7 none = is demos same
-    go false true s i m c r p h e0 same e2 e3 e4 e5 e6 e7 none = is formats same
-    go false false true i m c r p h e0 e1 same e3 e4 e5 e6 e7 none = is scripts same
-    go false false false true m c r p h e0 e1 e2 same e4 e5 e6 e7 none = is inspects same
-    go false false false false true c r p h e0 e1 e2 e3 same e5 e6 e7 none = is migrates same
-    go false false false false false true r p h e0 e1 e2 e3 e4 same e6 e7 none = is crews same
-    go false false false false false false true p h e0 e1 e2 e3 e4 e5 same e7 none =
+    go true f s i m c r p v h same e1 e2 e3 e4 e5 e6 e7 e8 none = is demos same
+    go false true s i m c r p v h e0 same e2 e3 e4 e5 e6 e7 e8 none = is formats same
+    go false false true i m c r p v h e0 e1 same e3 e4 e5 e6 e7 e8 none = is scripts same
+    go false false false true m c r p v h e0 e1 e2 same e4 e5 e6 e7 e8 none = is inspects same
+    go false false false false true c r p v h e0 e1 e2 e3 same e5 e6 e7 e8 none = is migrates same
+    go false false false false false true r p v h e0 e1 e2 e3 e4 same e6 e7 e8 none =
+        is crews same
+    go false false false false false false true p v h e0 e1 e2 e3 e4 e5 same e7 e8 none =
         is renews same
-    go false false false false false false false true h e0 e1 e2 e3 e4 e5 e6 same none =
+    go false false false false false false false true v h e0 e1 e2 e3 e4 e5 e6 same e8 none =
         is plans same
-    go false false false false false false false false true e0 e1 e2 e3 e4 e5 e6 e7 none = cc
-    go false false false false false false false false false e0 e1 e2 e3 e4 e5 e6 e7 none =
+    go false false false false false false false false true h e0 e1 e2 e3 e4 e5 e6 e7 same none =
+        is drives same
+    go false false false false false false false false false true e0 e1 e2 e3 e4 e5 e6 e7 e8
+        none = cc
+    go false false false false false false false false false false e0 e1 e2 e3 e4 e5 e6 e7 e8
+        none =
         let fails : step_fault above 1 nothing_held value ≡ [] → ⊥ = λ bad. cc in
         inr (only_the_mark above word fails
         (mark_or_value above above_is_strict 1 word [] None (first_none _ _ none))
@@ -234,12 +242,14 @@ taken_is_named words (takes c rows e r) = go c e r
     go scripts e r = inr (inr (inr (r.stored.0, inr (inl (store_named _ _ e r.stored.1)))))
     go inspects e r =
         inr (inr (inr (r.stored.0, inr (inr (inl (store_named _ _ e r.stored.1))))))
-    go renews e r =
+    go drives e r =
         inr (inr (inr (r.stored.0, inr (inr (inr (inl (store_named _ _ e r.stored.1)))))))
+    go renews e r =
+        inr (inr (inr (r.stored.0, inr (inr (inr (inr (inl (store_named _ _ e r.stored.1))))))))
     go migrates e r =
         let old = store_named (word_of migrates) r.stored.0.0 e r.stored.0.1 in
         let new = ap new_in e ∙ r.stored.1.1 in
-        inr (inr (inr (r.stored.0.0, inr (inr (inr (inr (r.stored.1.0, (old, new))))))))
+        inr (inr (inr (r.stored.0.0, inr (inr (inr (inr (inr (r.stored.1.0, (old, new)))))))))
 
 -- the command that the parser entered is no other one
 not_named : (words : List Text) (rows : List Row) (c d : Command)
@@ -338,6 +348,15 @@ module _ (words : List Text) (none : faults_of words ≡ []) where
           false false false false false asks.2) store (at (codes "STORE") ∙ asks.1)
       go (takes c rows e r) = absurd (not_named words rows c inspects refl e asks.0)
 
+  pub drive_without : (store : Text) → AsksForDrive store words
+      → AsksOver (word_of drives) store words
+  drive_without store asks = go (taken words none)
+    where
+      go : Taken words → AsksOver (word_of drives) store words
+      go (takes drives rows e r) =
+          r.alone tt store (found words (word_of drives) rows e (codes "STORE") ∙ asks.1)
+      go (takes c rows e r) = absurd (not_named words rows c drives refl e asks.0)
+
 -- ---- and back
 
 -- the parser entered this command, and read this store, and no flag and no option
@@ -398,3 +417,8 @@ module _ (store : Text) (words : List Text) (none : faults_of words ≡ []) wher
         views_alike (λ id. word_in id (entry words)) (λ id. first_of id s.rows)
             (λ id. sym (at id)) false false false false false s.unset,
       )
+
+  pub drive_alone : AsksOver (word_of drives) store words → AsksForDrive store words
+  drive_alone asks =
+      let s = store_alone drives tt store words none asks in
+      (ap command_in s.is, sym (found words (word_of drives) s.rows s.is (codes "STORE")) ∙ s.read)

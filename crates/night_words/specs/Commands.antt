@@ -16,9 +16,9 @@ use Rattle.clap.specs.declared.error.kind.ErrorKind.TheVariants.{DisplayHelp, Di
 use Rattle.clap.specs.declared.error.kind.ErrorKind.TheVariants.{OutOfMemory}
 use Rattle.clap.specs.declared.parser.matches.ArgMatches.{ArgMatches}
 use Rattle.night_words.specs.declared.requests.Request.{Request}
-use Rattle.night_words.specs.declared.requests.Request.TheVariants.{Crew, Demo, Format, Help}
-use Rattle.night_words.specs.declared.requests.Request.TheVariants.{Inspect, Migrate, Plan, Renew}
-use Rattle.night_words.specs.declared.requests.Request.TheVariants.{RenewInPlace, Script}
+use Rattle.night_words.specs.declared.requests.Request.TheVariants.{Crew, Demo, Drive, Format}
+use Rattle.night_words.specs.declared.requests.Request.TheVariants.{Help, Inspect, Migrate, Plan}
+use Rattle.night_words.specs.declared.requests.Request.TheVariants.{Renew, RenewInPlace, Script}
 use Rattle.state_views.specs.declared.views.View.{View}
 use Rattle.state_views.specs.declared.views.View.TheVariants.{Whole, Tasks, Json, Tree}
 use Rattle.state_views.specs.declared.views.View.TheVariants.{Summary}
@@ -114,10 +114,15 @@ crew_line = with_rule
 abbrev pub plan_line : App
 plan_line = new_app (codes "plan")
 
--- The command line of `night`: it has these eight subcommands, and no others.
+-- `drive` takes the name of a store, and nothing else.
+abbrev pub drive_line : App
+drive_line = store_line (codes "drive")
+
+-- The command line of `night`: it has these nine subcommands, and no others.
 abbrev pub night : App
 night =
     with_subcommand
+    (with_subcommand
     (with_subcommand
     (with_subcommand
     (with_subcommand
@@ -131,7 +136,8 @@ night =
     migrate_line.top)
     crew_line.top)
     renew_line.top)
-    plan_line.top
+    plan_line.top)
+    drive_line.top
 
 -- What the parser reports about these words, the first of which is the program's name. It reports
 -- nothing if they ask for a subcommand. A request for help or for the version is reported in the
@@ -193,6 +199,11 @@ NamesDemo strict entered = (command_in entered ≡ Some (codes "demo"))
 -- The parser has found `plan`.
 abbrev pub NamesPlan : Option (Text × List Row) → Type 0
 NamesPlan entered = command_in entered ≡ Some (codes "plan")
+
+-- The parser has found `drive` with this store.
+abbrev pub NamesDrive : Text → Option (Text × List Row) → Type 0
+NamesDrive store entered = (command_in entered ≡ Some (codes "drive"))
+    × (word_in (codes "STORE") entered ≡ Some store)
 
 -- The parser has found `format` with this store, and whether the file has to be new.
 abbrev pub NamesFormat : Text → Bool → Option (Text × List Row) → Type 0
@@ -312,6 +323,10 @@ AsksForDemo strict words = NamesDemo strict (subcommand_of night words)
 abbrev pub AsksForPlan : List Text → Type 0
 AsksForPlan words = NamesPlan (subcommand_of night words)
 
+-- The parser finds `drive` in the words: after it stands the store.
+abbrev pub AsksForDrive : Text → List Text → Type 0
+AsksForDrive store words = NamesDrive store (subcommand_of night words)
+
 -- The parser finds `format` in the words: after it stands the store, and `--new` may stand before
 -- or after the store.
 abbrev pub AsksForFormat : Text → Bool → List Text → Type 0
@@ -367,6 +382,7 @@ AsksFor (Renew old new is_new) words =
     AsksForRenewal old.now new.now is_new words × (old.now ≢ new.now)
 AsksFor (RenewInPlace store) words = AsksForRenewalInPlace store.now words
 AsksFor Plan words = AsksForPlan words
+AsksFor (Drive store) words = AsksForDrive store.now words
 AsksFor (Help text) words = Unit {0}
 
 -- The words make this mistake: - SameStores: a migration or a renewal goes from a store to itself.
@@ -484,6 +500,7 @@ Asks entered (Ok (Renew old given is_new)) =
     NamesRenewal old.now (Some given.now) is_new false entered × (old.now ≢ given.now)
 Asks entered (Ok (RenewInPlace store)) = NamesRenewal store.now None false true entered
 Asks entered (Ok Plan) = NamesPlan entered
+Asks entered (Ok (Drive store)) = NamesDrive store.now entered
 Asks entered (Ok (Help text)) = ⊥
 Asks entered (Err SameStores) = (store : Text) × ((is_new : Bool)
     × (NamesMigration store store is_new entered
@@ -506,8 +523,9 @@ IsNamed named new = ((first : Option Text) × (named ≡ Some (codes "demo", fir
     ⊎ ((store : Text) × ((named ≡ Some (codes "format", Some store))
     ⊎ ((named ≡ Some (codes "script", Some store))
     ⊎ ((named ≡ Some (codes "inspect", Some store))
+    ⊎ ((named ≡ Some (codes "drive", Some store))
     ⊎ ((named ≡ Some (codes "renew", Some store))
-    ⊎ ((given : Text) × NamesTwo (codes "migrate") store given named new))))))))
+    ⊎ ((given : Text) × NamesTwo (codes "migrate") store given named new)))))))))
 
 -- A crew over this store, with the number of workers that this word says, and with only known jobs
 -- or with any; or the mistake of a wrong number.

@@ -2,8 +2,8 @@
 
 ghost use Rattle.std.specs.Prelude.{◌≡◌, [], false, true, IfOk};
 ghost use Rattle.clap.specs.Words.{App, Rule, app_of, rule_of, with_rule, with_subcommand};
-ghost use Rattle.night_words.specs.Commands.{crew_line, demo_line, flag, format_line, free};
-ghost use Rattle.night_words.specs.Commands.{inspect_line, migrate_line, night, night_alone};
+ghost use Rattle.night_words.specs.Commands.{crew_line, demo_line, drive_line, flag, format_line};
+ghost use Rattle.night_words.specs.Commands.{free, inspect_line, migrate_line, night, night_alone};
 ghost use Rattle.night_words.specs.Commands.{plan_line, renew_line, script_line, store_line};
 ghost use Rattle.night_words.specs.Commands.{value_option};
 
@@ -219,6 +219,61 @@ const PLAN: &str = "\
     Example:\n  \
     printf 'group 0 go-on\\ncommand 0 0 0 0 1 0\\n\\n\\n' | night plan";
 
+/// What help shows of `drive`. Its lines are those of both sides.
+const DRIVE: Page = Page {
+    about: "Drives a night over a store: reads a plan and what happens, and answers what to do",
+    ending: "\
+    Standard input is written by an executor, which begins and stops processes. It has a\n\
+    plan, and then rounds of what happens; each ends with an empty line, and is answered\n\
+    on standard output.\n\n\
+    The lines of a plan. Pools, groups and commands are numbered from 0:\n\n  \
+    pool SIZE                            a pool\n  \
+    group PRIORITY WAY NAME              a group, and what a failure does to it: `go-on`,\n  \
+    \x20                                    `stop` or `cancel`\n  \
+    until MOMENT WORDS                   the deadline of the group before it, and its text\n  \
+    command GROUP PRIORITY RETRIES WAIT FACTOR CAP KEY\n  \
+    \x20                                    a command, and how it is tried again\n  \
+    need well|failed|ended command|group NUMBER\n  \
+    \x20                                    what the command before it comes after\n  \
+    take POOL AMOUNT                     what the command before it takes\n  \
+    all MOMENT WORDS                     the deadline of all groups together\n  \
+    next                                 another night begins, even if the last isn't over\n\n\
+    The lines of a round:\n\n  \
+    now MOMENT                           the time\n  \
+    ended TASK ok                        the try ended well\n  \
+    ended TASK error WHY                 it failed\n  \
+    gone TASK                            it is over, and nobody knows how it ended\n  \
+    cancel COMMAND WHY                   the command was canceled\n  \
+    done GROUP WHY                       the group was canceled\n  \
+    size POOL SIZE                       a pool has another size\n  \
+    hurry                                no retry waits for its time any longer\n  \
+    group, until, command, need, take    the plan grows\n  \
+    standings                            asks how each command stands\n  \
+    lives GROUP KEY TRY                  in the first round: this try still runs\n\n\
+    The answers:\n\n  \
+    plan COMMANDS                        the plan is taken\n  \
+    night NIGHT                          this night begins or goes on\n  \
+    unknown, too-much, circle, member    the plan is refused, as by `night plan`\n  \
+    name GROUP                           it is refused: no group can have this name, or an\n  \
+    \x20                                    earlier one has it\n  \
+    twice COMMAND                        it is refused: the group and key stand before\n  \
+    other TASK                           the store is refused: this task isn't a drive's\n  \
+    begin COMMAND TASK GROUP KEY TRY     begin the command; its try is this task\n  \
+    rebound COMMAND TASK GROUP KEY TRY   it runs already, and is this task from now on\n  \
+    stop TASK WHY                        stop the try\n  \
+    later MOMENT                         when to report the time again\n  \
+    stands COMMAND STANDING              how a command stands\n  \
+    durable                              all lines so far are recorded\n  \
+    over                                 the night has ended\n  \
+    full                                 the store is full, so nothing more begins\n  \
+    bad LINE                             the line can't be taken\n  \
+    fault N NAME                         the store can't be used any more\n\n\
+    Example:\n  \
+    printf 'group 0 go-on g\\ncommand 0 0 0 0 1 0 k\\n\\n\\n' | night drive jobs.store",
+    store: "STORE",
+    help: STORE,
+};
+
 /// The command line of the program, with all of its commands.
 pub fn night_command<'a>(alloc: Global) -> Result<Command<'a>, AllocError>
     ensures { IfOk result (λ command. app_of command ≡ night) }
@@ -230,7 +285,8 @@ pub fn night_command<'a>(alloc: Global) -> Result<Command<'a>, AllocError>
     let migrate = with_command(inspect, migrate_command(alloc));
     let crew = with_command(migrate, crew_command(alloc));
     let renew = with_command(crew, renew_command(alloc));
-    with_command(renew, Ok(plan_command(alloc)))
+    let plan = with_command(renew, Ok(plan_command(alloc)));
+    with_command(plan, drive_command(alloc))
 }
 
 /// The command line without its commands.
@@ -342,6 +398,13 @@ fn plan_command<'a>(alloc: Global) -> Command<'a>
     Command::new(alloc, "plan")
         .about("Reads a plan and what happens, and answers what may begin; needs no store")
         .after_help(PLAN)
+}
+
+/// The command that drives a night over a store.
+fn drive_command<'a>(alloc: Global) -> Result<Command<'a>, AllocError>
+    ensures { IfOk result (λ command. app_of command ≡ drive_line) }
+{
+    store_command(alloc, "drive", DRIVE)
 }
 
 /// A command over a store.

@@ -7,10 +7,11 @@ ghost use Rattle.std.specs.Prelude.{◌≡◌, ◌∷◌, ℕ, List, None, Some,
 ghost use Rattle.std.specs.Borrow.{Bor};
 ghost use Rattle.clap.specs.Words.{subcommand_of};
 ghost use Rattle.clap.specs.declared.error.kind.ErrorKind.TheVariants as kind;
-ghost use Rattle.night_words.specs.Commands.{AsksForCrew, AsksForDemo, AsksForFormat};
-ghost use Rattle.night_words.specs.Commands.{AsksForInspect, AsksForMigration, AsksForRenewal};
-ghost use Rattle.night_words.specs.Commands.{AsksForRenewalInPlace, AsksForScript, IsCausedBy};
-ghost use Rattle.night_words.specs.Commands.{NamesRenewal, faults_of, night};
+ghost use Rattle.night_words.specs.Commands.{AsksForCrew, AsksForDemo, AsksForDrive};
+ghost use Rattle.night_words.specs.Commands.{AsksForFormat, AsksForInspect, AsksForMigration};
+ghost use Rattle.night_words.specs.Commands.{AsksForRenewal, AsksForRenewalInPlace};
+ghost use Rattle.night_words.specs.Commands.{AsksForScript, IsCausedBy, NamesRenewal, faults_of};
+ghost use Rattle.night_words.specs.Commands.{night};
 ghost use Rattle.state_views.specs.declared.views.View.TheVariants.{Json, Summary, Tasks, Tree};
 ghost use Rattle.state_views.specs.declared.views.View.TheVariants.{Whole};
 ghost use Rattle.night_words.specs.declared.faults.WordsFault.TheVariants.{NoTree, Phase, Place};
@@ -343,6 +344,30 @@ pub fn other_crews_are_mistakes()
         ≡ kind.ArgumentConflict ∷ [] }
 {}
 
+/// `drive` is a command over a store. After the mark that ends the flags, the name of the store may
+/// look like a flag.
+pub fn a_drive_is_named()
+    ensures alone { (name : List ℕ)
+        → AsksForDrive (codes "a") (name ∷ codes "drive" ∷ codes "a" ∷ []) }
+    ensures taken { (name : List ℕ) → faults_of (name ∷ codes "drive" ∷ codes "a" ∷ []) ≡ [] }
+    ensures before { (name : List ℕ)
+        → AsksForDrive (codes "-a") (name ∷ codes "drive" ∷ codes "--" ∷ codes "-a" ∷ []) }
+    ensures after { (name : List ℕ)
+        → AsksForDrive (codes "a") (name ∷ codes "drive" ∷ codes "a" ∷ codes "--" ∷ []) }
+{}
+
+/// A drive has one store and no flag.
+pub fn other_drives_are_mistakes()
+    ensures none { (name : List ℕ) → faults_of (name ∷ codes "drive" ∷ [])
+        ≡ kind.MissingRequiredArgument ∷ [] }
+    ensures two { (name : List ℕ)
+        → faults_of (name ∷ codes "drive" ∷ codes "a" ∷ codes "b" ∷ [])
+        ≡ kind.UnknownArgument ∷ [] }
+    ensures timed { (name : List ℕ)
+        → faults_of (name ∷ codes "drive" ∷ codes "--now" ∷ codes "a" ∷ [])
+        ≡ kind.UnknownArgument ∷ [] }
+{}
+
 /// Without arguments, nothing is asked for.
 pub fn no_words_are_a_mistake()
     ensures name { (name : List ℕ) → faults_of (name ∷ [])
@@ -374,6 +399,8 @@ pub fn help_and_the_version_are_shown()
     ensures of_demo { (name : List ℕ) → faults_of (name ∷ codes "demo" ∷ codes "--help" ∷ [])
         ≡ kind.DisplayHelp ∷ [] }
     ensures of_format { (name : List ℕ) → faults_of (name ∷ codes "format" ∷ codes "--help" ∷ [])
+        ≡ kind.DisplayHelp ∷ [] }
+    ensures of_drive { (name : List ℕ) → faults_of (name ∷ codes "drive" ∷ codes "--help" ∷ [])
         ≡ kind.DisplayHelp ∷ [] }
     ensures version { (name : List ℕ) → faults_of (name ∷ codes "--version" ∷ [])
         ≡ kind.DisplayVersion ∷ [] }

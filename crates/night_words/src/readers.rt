@@ -122,6 +122,10 @@ fn request_of<'a>(matches: &ArgMatches<'a>) -> Result<Request<'a>, WordsFault>
     if inspects {
         return inspect(store, inner);
     }
+    let drives = command == "drive";
+    if drives {
+        return Ok(Request::Drive { store });
+    }
     let renews = command == "renew";
     if renews {
         let is_new = is_set(inner, "new");

@@ -55,6 +55,11 @@ pub enum Request<'a> {
     RenewInPlace(&'a str),
     /// `plan`: reads a plan and rounds of what happens, and answers each.
     Plan,
+    /// `drive STORE`: drives a night over the store. It reads a plan and rounds of what happens,
+    /// records them in the store, and answers which commands begin and stop.
+    Drive {
+        store: &'a str,
+    },
     /// A text for the output: help, or the version.
     Help(String),
 }

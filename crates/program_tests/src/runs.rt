@@ -113,7 +113,7 @@ pub fn run_over<R: Threads + Wait + Sync + Abort, I: Read, O: Write, E: Write>(
         is_terminal: false,
     };
     let mut errors = Errors::new(errors);
-    let ended = night(
+    let end = night(
         rt,
         alloc,
         words,
@@ -125,6 +125,7 @@ pub fn run_over<R: Threads + Wait + Sync + Abort, I: Read, O: Write, E: Write>(
         &streams,
         &mut errors,
     );
+    let ended = end.ended();
     holds(rt, ended.printed == (errors.failures() == 0), "told", 0);
     ended
 }

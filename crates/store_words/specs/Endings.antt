@@ -12,8 +12,8 @@ use Rattle.console_lines.specs.declared.rejections.RejectedLine.{RejectedLine}
 use Rattle.console_lines.specs.Strict.{rejection_text}
 use Rattle.store_files.specs.ErrorSinks.{SinkState, IsPrinted}
 use Rattle.store_words.specs.declared.endings.Done.{Done}
-use Rattle.store_words.specs.declared.endings.Done.TheVariants.{NoPlan, Rejection, Strayed}
-use Rattle.store_words.specs.declared.endings.Done.TheVariants.{Unknown, Well}
+use Rattle.store_words.specs.declared.endings.Done.TheVariants.{Full, NoPlan, Rejection}
+use Rattle.store_words.specs.declared.endings.Done.TheVariants.{Strayed, Unknown, Well}
 use Rattle.store_words.specs.declared.endings.Ended.{Ended}
 use Rattle.store_words.specs.declared.failures.Failure.{Failure}
 use Rattle.store_words.specs.declared.failures.FileFailure.{FileFailure}
@@ -36,6 +36,7 @@ done_status Strayed = 3
 done_status (Rejection line) = 1
 done_status (Unknown job) = 3
 done_status NoPlan = 1
+done_status Full = 3
 
 -- The line of a job that a crew doesn't know, such as `night: unknown job mail; tasks 3`.
 abbrev pub unknown_line : UnknownJob → List ℕ
@@ -60,12 +61,13 @@ abbrev pub stray_lines : RejectedLine → List ℕ
 stray_lines line = stray_line line ++ return_line line.why line.number
 
 -- What is printed on standard error if no fault ended the program: the input line at which a strict
--- run ended, a job that a crew doesn't know, or that a plan is refused; else nothing. The
--- difference that an audit found is printed on standard output.
+-- run ended, a job that a crew doesn't know, that a plan is refused, or that a store is full; else
+-- nothing. The difference that an audit found is printed on standard output.
 abbrev pub PrintsDone : Done → Bool → (e0 e1 : SinkState) → Type 0
 PrintsDone (Rejection line) reported e0 e1 = IsPrinted reported (stray_lines line) e0 e1
 PrintsDone (Unknown unknown) reported e0 e1 = IsPrinted reported (unknown_line unknown) e0 e1
 PrintsDone NoPlan reported e0 e1 = IsPrinted reported (codes "night: the plan is refused\n") e0 e1
+PrintsDone Full reported e0 e1 = IsPrinted reported (codes "night: the store is full\n") e0 e1
 PrintsDone _ reported e0 e1 = (reported ≡ true) × (e1 ≡ e0)
 
 -- The line of a file or a stream that is to blame, such as `night: jobs.store: not a store`.

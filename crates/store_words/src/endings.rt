@@ -18,8 +18,8 @@ use store_files::{ErrorSink, FirstError};
 pub struct Ended {
     /// The exit status: 0 if all went well; 1 if a strict run met a line that was bad or refused,
     /// or if a plan was refused; 2 for a mistake in the arguments; 3 if the store, the input or the
-    /// output failed, if an audit found a difference, or if a crew doesn't know a job; 4 if memory
-    /// was refused.
+    /// output failed, if the store has no room for a night, if an audit found a difference, or if a
+    /// crew doesn't know a job; 4 if memory was refused.
     pub status: u8,
     /// Whether everything was printed on standard error. If not, a call of it has failed.
     pub printed: bool,
@@ -38,6 +38,8 @@ pub enum Done {
     Unknown(UnknownJob),
     /// A plan was refused, and the output says why.
     NoPlan,
+    /// The store has no room for the rest of a night.
+    Full,
 }
 
 /// The tasks of a store that haven't ended and whose jobs the crews don't know: the job of the
@@ -82,7 +84,7 @@ fn status_of(done: &Done) -> u8
     match done {
         Done::Well => 0,
         Done::Rejection(_) | Done::NoPlan => 1,
-        Done::Strayed | Done::Unknown(_) => 3,
+        Done::Strayed | Done::Unknown(_) | Done::Full => 3,
     }
 }
 
@@ -106,6 +108,7 @@ fn print_done<E: ErrorSink>(done: &Done, errors: &mut E) -> bool
         Done::Rejection(line) => print_stray(line, errors),
         Done::Unknown(unknown) => print_unknown(unknown, errors),
         Done::NoPlan => errors.print(format_args!("night: the plan is refused\n")),
+        Done::Full => errors.print(format_args!("night: the store is full\n")),
     }
 }
 

@@ -1,7 +1,9 @@
-use Rattle.std.proofs.Common.{◌≡◌, ◌∙◌, ℕ, arith, inl, inr, refl, subst, vec_len}
-use Rattle.std.specs.Prelude.{None, Some}
+use Rattle.std.proofs.Common.{◌≡◌, ◌∙◌, ℕ, arith, inl, inr, refl, subst, true, vec_len}
+use Rattle.std.specs.Prelude.{None, Some, ⊤}
 use Rattle.run_crew.specs.Crews.{CrewEnds}
-use Rattle.night_program.specs.Crews.{IsLooked, IsOpen}
+use Rattle.run_crew.specs.Nights.{OfDesk}
+use Rattle.run_crew.proofs.SomeShifts.{crew_shifts}
+use Rattle.night_program.specs.Crews.{AreOpenShifts, IsLooked}
 use Rattle.store_words.proofs.NotedLemmas.{named}
 use Rattle.night_program.proofs.Looking.{answers_crew, found_is, looked_first, looked_not}
 use Rattle.night_program.proofs.crews.crew_file.Goals as goal
@@ -74,8 +76,9 @@ returns g c =
       c.from.ensures,
       c.from-2.ensures,
     ) in
-    let P : ℕ → Type 0 = λ n. CrewEnds g.F.Disk.RunDisk.state IsOpen c.if-known.disk n
-    c.crew_over-done.result.0 c.crew_over-done.result.1
+    let P : ℕ → Type 0 = λ n. CrewEnds g.F.Disk.RunDisk.state
+    (AreOpenShifts g.F.Disk.RunDisk.state) c.if-known.disk n c.crew_over-done.result.0
+    c.crew_over-done.result.1
     (g.O.Write.contents c.args.output.now) (g.O.Write.contents c.crew_over-done.new.output) in
     let looked : IsLooked g.F.Disk.RunDisk.state c.args.known c.in-Ok.opened.disk c.if-known.disk =
     elim c.if-known.branch [
@@ -104,7 +107,14 @@ returns g c =
       };
       settled = c.in-Ok.ensures.settled;
       looked = looked;
-      works = subst P count c.crew_over-done.ensures;
+      works = subst P count
+          (crew_shifts g.F.Disk.RunDisk.state
+          (λ known. OfDesk g.F.Disk.RunDisk.state known (λ task turn answer. answer ≡ true)
+          (λ task. ⊤)) (λ b name answer. (g.dyn-1.0.entry b.vtable).1.answers b.value name answer)
+          (λ b info turn done answer left.
+          (job : _) × (g.dyn-1.0.entry b.vtable).1.turns b.value info turn done answer job
+          × (left ≡ record b { value = job })) (λ list. list.items) _ _ _ _ _ _ _
+          c.crew_over-done.ensures);
       answers = answers_crew _ _ (named c.args.store.now c.in-Ok.ensures.noted)
           c.worked.ensures;
     }))

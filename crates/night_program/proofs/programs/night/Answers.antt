@@ -29,7 +29,7 @@ returns-after-streams-clause-runs g c =
                 rw w.if-streams.false
                 (rw (w.hint-is ∙ w.if-streams.false) at c.hint.ensures)
           ],
-          c.end.ensures,
+          rw c.of.ensures c.end.ensures,
         ),
       ),
     )

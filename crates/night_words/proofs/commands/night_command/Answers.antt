@@ -10,4 +10,5 @@ returns c =
     let migrate = c.with_command-migrate.ensures _ _ refl inspect c.migrate_command.ensures in
     let crew = c.with_command-crew.ensures _ _ refl migrate c.crew_command.ensures in
     let renew = c.with_command-renew.ensures _ _ refl crew c.renew_command.ensures in
-    c.with_command.ensures _ _ refl renew c.plan_command.ensures
+    let plan = c.with_command-plan.ensures _ _ refl renew c.plan_command.ensures in
+    c.with_command.ensures _ _ refl plan c.drive_command.ensures

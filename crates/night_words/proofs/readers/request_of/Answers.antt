@@ -2,11 +2,11 @@ use Rattle.std.proofs.Common.{◌∙◌, Option, Some, ap, sym}
 use Rattle.std.specs.Prelude.{option_map}
 use Rattle.std.specs.Borrow.{Bor}
 use Rattle.clap.specs.Walk.{Text}
-use Rattle.night_words.proofs.NamedLemmas.{crew_here, demo_here, differ, format_here, inspect_here}
-use Rattle.night_words.proofs.NamedLemmas.{migration_here, named_here, new_here, new_is_there}
-use Rattle.night_words.proofs.NamedLemmas.{no_store, plan_here, renewal_here, same}
+use Rattle.night_words.proofs.NamedLemmas.{crew_here, demo_here, differ, drive_here, format_here}
+use Rattle.night_words.proofs.NamedLemmas.{inspect_here, migration_here, named_here, new_here}
+use Rattle.night_words.proofs.NamedLemmas.{new_is_there, no_store, plan_here, renewal_here, same}
 use Rattle.night_words.proofs.NamedLemmas.{script_here, two_left, unwrapped}
-use Rattle.night_words.proofs.PlaceLemmas.{crews, demos, formats, inspects, plans, renews}
+use Rattle.night_words.proofs.PlaceLemmas.{crews, demos, drives, formats, inspects, plans, renews}
 use Rattle.night_words.proofs.PlaceLemmas.{scripts, word_of}
 use Rattle.night_words.specs.Commands.{named_by, new_by}
 use Rattle.night_words.proofs.readers.request_of.Goals as goal
@@ -71,6 +71,13 @@ returns-then-inspects c =
     (same _ (word_of inspects) c.eq-inspects.result c.eq-inspects.ensures c.if-inspects.true)
     c.in-Some-get_str.ensures c.inspect.ensures
 
+pub returns-then-drives : goal.returns-then-drives
+returns-then-drives c =
+    drive_here c.args.matches.now c.in-Some.command c.in-Some.inner
+    c.in-Some.ensures.name c.in-Some.ensures.rows c.in-Some-get_str.store.now
+    (same _ (word_of drives) c.eq-drives.result c.eq-drives.ensures c.if-drives.true)
+    c.in-Some-get_str.ensures
+
 pub returns-then-renews : goal.returns-then-renews
 returns-then-renews c =
     let now : Option (Bor Text) → Option Text = option_map (λ s. s.now) in
@@ -97,6 +104,7 @@ unreachable-requires-in_default-get_str-2 c =
     (differ command (word_of scripts) c.eq-scripts.result c.eq-scripts.ensures c.if-scripts.false)
     (differ command (word_of inspects) c.eq-inspects.result c.eq-inspects.ensures
     c.if-inspects.false)
+    (differ command (word_of drives) c.eq-drives.result c.eq-drives.ensures c.if-drives.false)
     (differ command (word_of renews) c.eq-renews.result c.eq-renews.ensures c.if-renews.false) in
     new_is_there (new_by c.args.matches.now) left.1.0 left.1.1
     (new_here c.args.matches.now c.in-Some.command c.in-Some.inner
@@ -117,6 +125,7 @@ returns c =
     (differ command (word_of scripts) c.eq-scripts.result c.eq-scripts.ensures c.if-scripts.false)
     (differ command (word_of inspects) c.eq-inspects.result c.eq-inspects.ensures
     c.if-inspects.false)
+    (differ command (word_of drives) c.eq-drives.result c.eq-drives.ensures c.if-drives.false)
     (differ command (word_of renews) c.eq-renews.result c.eq-renews.ensures c.if-renews.false) in
     migration_here c.args.matches.now c.in-Some.command c.in-Some.inner
     c.in-Some.ensures.name c.in-Some.ensures.rows
