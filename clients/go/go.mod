@@ -1,0 +1,3 @@
+module pokhnier
+
+go 1.21

@@ -1,0 +1,84 @@
+"""Mistakes that the client for Go could make. tests/clients_go has to find each of them.
+
+Each is an edit of a file of clients/go in a copy, and names what finds it: tests of the module, or
+nights that are killed.
+"""
+
+from __future__ import annotations
+
+from dataclasses import dataclass
+
+NIGHTS = ""
+
+
+@dataclass(frozen=True)
+class Wrong:
+    """What it does, the file, the text that is replaced, the new one, and the test."""
+    does: str
+    file: str
+    old: str
+    new: str
+    test: str = NIGHTS
+
+
+WRONGS = {
+    "early": Wrong(
+        "reports a result before the end is durable", "command.go",
+        "	c.phase, c.result, c.err = hasEnded, result, err\n",
+        "	c.phase, c.result, c.err = hasEnded, result, err\n"
+        "	if c.then != nil {\n		go c.then(result, err)\n		c.then = nil\n	}\n"),
+    "forgets": Wrong(
+        "says of a good end that nobody knows it", "parts.go",
+        "	line := fmt.Sprintf(\"ended %d ok\", c.task)\n",
+        "	line := fmt.Sprintf(\"gone %d\", c.task)\n"),
+    "renames": Wrong(
+        "gives a key another name in each run", "names.go",
+        "func keyName(text string) string {\n",
+        "func keyName(text string) string {\n	text += strconv.Itoa(os.Getpid())\n"),
+    "halves": Wrong(
+        "takes half an answer", "session.go",
+        "			return nil, io.ErrUnexpectedEOF\n",
+        "			if len(lines) > 0 {\n				return append(lines, \"durable\"), nil\n			}\n"
+        "			return nil, io.ErrUnexpectedEOF\n", "TestHalfAnAnswerIsntTaken"),
+    "unwritten": Wrong(
+        "writes the results of a run at its end alone", "results.go",
+        "	if len(text) > 0 {\n",
+        "	if r.kept = append(r.kept, text...); len(lines) > 0 {\n		return nil\n	}\n"
+        "	if text = r.kept; len(text) > 0 {\n"),
+    "orphans": Wrong(
+        "doesn't name the functions that go on after `night` has died", "sessions.go",
+        "		case phase == phaseInterrupted:\n",
+        "		case phase == phaseInterrupted:\n			c.phase = isWaiting\n			continue\n"
+        "		case phase == \"none\":\n"),
+    "blames": Wrong(
+        "takes the last error of a group for its first", "failures.go",
+        "	for _, it := range s.failures[g.name] {\n",
+        "	for at := range s.failures[g.name] {\n"
+        "		it := s.failures[g.name][len(s.failures[g.name])-1-at]\n",
+        "TestTheFirstErrorAfterAnInterruption"),
+    "fails": Wrong(
+        "records an error that the end of this run has caused", "command.go",
+        "	if local == nil && err != nil && c.why == nil {\n",
+        "	if local == nil && err != nil && c.why == nil && s.cut == nil {\n",
+        "TestCloseRecordsNoFailure"),
+    "restarts": Wrong(
+        "counts a timeout from the start of each run", "scope.go",
+        "	c.moment, c.words, c.cause = r.moment,",
+        "	c.moment, c.words, c.cause = momentOf(wish.at),",
+        "TestATimeoutCountsFromTheFirstRun"),
+    "redraws": Wrong(
+        "has another value in each run", "values.go",
+        "		c.values[key] = text\n", "		c.values[key] = text[:0] + wishes[key]\n",
+        "TestValuesAreThoseOfTheFirstRun"),
+    "cancels": Wrong(
+        "lets a cancel end this run alone", "cancel.go",
+        "	s.todo.dones = append(s.todo.dones, done{r, cause})\n", "	_ = r\n",
+        "TestADurableCancel"),
+    "abandons": Wrong(
+        "doesn't say that a task was abandoned", "group.go",
+        "row.phase == phaseInterrupted && !g.called[named.key] {",
+        "row.phase == phaseInterrupted && g.called[named.key] {", "TestAbandoned"),
+    "shares": Wrong(
+        "opens a store that another program has", "lock.go",
+        "syscall.LOCK_EX|syscall.LOCK_NB", "syscall.LOCK_UN", "TestAnotherRunHasTheLock"),
+}
