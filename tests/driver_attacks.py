@@ -9,15 +9,21 @@ from __future__ import annotations
 
 import collections
 import contextlib
+import functools
+import json
 import os
 import random
 import re
 import subprocess
 import time
+from collections.abc import Callable
 
 from driver_room import Room, Shared, children, hit, job, kill, name_of, nights_in
 from running import bytes_of
 
+Part = Callable[[Shared], None]
+# A command that waits for a file.
+WAITS = "g a echo g.a >> begun; until [ -e go ]; do sleep 0.1; done; echo g.a >> done"
 IN_USE = re.compile(r"night-run: s: in use by another night-run.*\n")
 # The last line of a driver whose `night` was killed too often.
 KILLED = re.compile(r"night-run: .*`night` was ended by signal 9 \(Killed\)")
@@ -55,11 +61,10 @@ def plans_in(parent: int) -> list[int]:
 
 # --- two at once
 
-def two_at_once(tries: Shared) -> None:
+def two_at_once(tries: Shared, dice: random.Random) -> None:
     """Drivers that begin at the same moment: one has the store, and the others wait for it, or say
     that it is in use. The store is new, or a killed night has left it."""
-    dice, kind = random.Random(), "drivers at once"
-    statuses = collections.Counter[int | str]()
+    kind, statuses = "drivers at once", collections.Counter[int | str]()
     for at in range(8 if tries.is_short else 60):
         jobs = [job("g", f"k{it}", dice.choice((0, 0.02, 0.1))) for it in range(10)]
         room = Room(tries, [*jobs, "g: limit 3", *([job("h", "long", 5)] if at % 4 == 3 else [])])
@@ -97,14 +102,13 @@ def two_nights_at_once(tries: Shared) -> None:
 
 # --- the clock
 
-def clock_is_set(tries: Shared) -> None:
+def clock_is_set(tries: Shared, dice: random.Random) -> None:
     """The clock is set ahead and back during a night: no command is stopped by that, and a retry
     waits for seconds. Nor does the next night end by it, whose store has a clock that was ahead."""
     kind, library = "a clock that is set during a night", tries.built("nights_clock.c")
     if not library:
         tries.skip(kind, "no cc")
         return
-    dice = random.Random()
     for _ in range(3 if tries.is_short else 25):
         jobs = [job("g", f"k{it}", dice.choice((0.1, 0.3))) for it in range(12)]
         failing = "; [ -e {0} ] || {{ : > {0}; exit 3; }}"
@@ -131,12 +135,63 @@ def clock_is_set(tries: Shared) -> None:
                 "s", "JOBS", "--nightly"), (0, "15 commands: 15 ok; 15 run this time"))
 
 
+def set_back_after_a_crash(tries: Shared) -> None:
+    """A try that a crash cut off is in the reports, also if the clock is set back before the store
+    is opened again, so that another store replaces it."""
+    kind, library = "a clock that is set back after a crash", tries.built("nights_clock.c")
+    if not library:
+        tries.skip(kind, "no cc")
+        return
+    room = Room(tries, [WAITS])
+    room.write("clock", "7200")
+    room.before = ["env", f"LD_PRELOAD={library}", f"NIGHTS_CLOCK={room.path}/clock"]
+    run = room.start()
+    room.until(lambda: room.lines("begun"))
+    hit(run, "all")
+    room.ended(run)
+    room.settle()
+    room.write("clock", "0")
+    room.write("go", "")
+    tries.is_same(kind, room.path, room.last(), (0, "1 command: 1 ok; 1 run this time"))
+    tries.holds(f"{kind}: another store", room.path, "a new store replaces it" in room.errors,
+                room.errors)
+    its = json.loads(room.run("s", "JOBS", "--list", "--json")[1])[0]["tries"]
+    tries.is_same(f"{kind}: its tries", room.path, [it["end"] for it in its], ["interrupted", "ok"])
+
+
+def outlives_its_store(tries: Shared) -> None:
+    """A command that outlives a change of its group's deadline, and then its store, too, runs once:
+    its group has a later name by then."""
+    kind, library = "a command that outlives its store", tries.built("nights_clock.c")
+    if not library:
+        tries.skip(kind, "no cc")
+        return
+    room = Room(tries, ["g: within 4h", WAITS])
+    room.write("clock", "7200")
+    room.before = ["env", f"LD_PRELOAD={library}", f"NIGHTS_CLOCK={room.path}/clock"]
+    for lines, clock, said in ((["g: within 4h", WAITS], 7200, ""),
+                               (["g: within 5h", WAITS], 7200, "its deadline is now: within 5h"),
+                               (["g: within 5h", WAITS], 0, "a new store replaces it")):
+        room.set(lines)
+        room.write("clock", str(clock))
+        run = room.start()
+        room.until(lambda said=said: room.lines("begun") and said in room.text("errors"))
+        time.sleep(0.5)
+        hit(run, "driver")
+        room.ended(run)
+        tries.holds(f"{kind}: {said or 'it begins'}", room.path, said in room.errors, room.errors)
+    room.write("go", "")
+    room.until(lambda: room.lines("done"))
+    tries.is_same(kind, room.path, (room.last(), room.begun()),
+                  ((0, "1 command: 1 ok; 1 run this time"), {"g.a": 1}))
+
+
 # --- kills
 
-def planner_is_killed(tries: Shared) -> None:
+def planner_is_killed(tries: Shared, dice: random.Random) -> None:
     """`night plan` is killed at random moments of a night, beside `night script`, and the driver.
     Only the shells of commands live on."""
-    dice, hits = random.Random(), collections.Counter[str]()
+    hits = collections.Counter[str]()
     for _ in range(2 if tries.is_short else 25):
         kind = "kills of `night plan`"
         jobs = ["a: limit 3", "c: limit 2 retries 2"]
@@ -169,7 +224,7 @@ def planner_is_killed(tries: Shared) -> None:
 
 
 def goes_on(room: Room, run: subprocess.Popen[str]) -> None:
-    """Waits until another command has ended. (Where a driver begins slowly, no kill would come amid
+    """Waits until another command has ended. (If a driver begins slowly, no kill would come during
     its commands.)"""
     ended = len(room.lines("done"))
     room.until(lambda: len(room.lines("done")) > ended or run.poll() is not None, 20)
@@ -186,4 +241,13 @@ def strike(run: subprocess.Popen[str], who: str) -> bool:
     return bool(its)
 
 
-ATTACKS = [planner_is_killed, clock_is_set, two_at_once, two_nights_at_once]
+def attacks(seed: int) -> list[Part]:
+    """The parts of these tries, those that take longest first."""
+    def drawn(part: Callable[[Shared, random.Random], None]) -> Part:
+        @functools.wraps(part)
+        def run(tries: Shared) -> None:
+            part(tries, random.Random(seed))
+        return run
+
+    return [drawn(planner_is_killed), drawn(clock_is_set), set_back_after_a_crash,
+            outlives_its_store, drawn(two_at_once), two_nights_at_once]

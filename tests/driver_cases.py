@@ -3,6 +3,7 @@
 from __future__ import annotations
 
 import functools
+import json
 import os
 import re
 import shutil
@@ -10,8 +11,8 @@ import signal
 import time
 
 from by_hand import Store
-from driver_room import (Room, Shared, children, environments, hit, job, kill, locked, most_at_once,
-                         nights_in)
+from driver_room import (Room, Shared, children, environments, has_lines, hit, is_within, job, kill,
+                         locked, most_at_once, nights_in, says)
 from running import own_name
 
 SMALL = 2048
@@ -96,7 +97,7 @@ def short_cancel(tries: Shared) -> None:
     found = room.run("s", "--cancel", "g", "not", "now", errors="errors2")
     begun = len(room.lines("begun"))
     tries.is_same(f"{kind}: it is taken", room.path, found, (
-        0, "g: done; deadline none; err context canceled; cause not now\n"))
+        0, "g: canceled: not now\n"))
     status, _ = room.ended(run)
     tries.holds(f"{kind}: nothing begins after it", room.path,
                 status == 1 and len(room.lines("begun")) <= begun + 8 < 900,
@@ -119,6 +120,35 @@ def full_store(tries: Shared) -> None:
                   [f"g.k{it}" for it in range(SMALL - 4, SMALL)])
 
 
+def renewed_beside(tries: Shared) -> None:
+    """A command that lives on while the store is renewed is one try in the reports, whether its
+    driver was killed before that, or renews the store during the night."""
+    waits = "g z echo g.z >> begun; until [ -e go ]; do sleep 0.1; done"
+    for what, done, more in ("a kill", SMALL * 3 // 4 - 4, 8), ("no kill", SMALL * 3 // 4 - 4, 560):
+        kind = f"a command beside a renewal: {what}"
+        room = Room(tries, [waits, *(f"g k{it} :" for it in range(done + more))])
+        small_store(room)
+        refused = room.script([
+            "derive night root cause", "derive g night cause", "bare g g",
+            *(f"go g sh k{it}" for it in range(done)), *(["start"] * done),
+            *(f"finish {it} ok" for it in range(done))])
+        tries.is_same(f"{kind}: it is made", room.path, refused, "")
+        room.night = tries.program
+        run = room.start("s", "JOBS", "-j", "8")
+        room.until(functools.partial(has_lines, room, "s.log", done + more + 1))
+        if what == "a kill":
+            hit(run, "driver")
+            room.ended(run)
+            run = room.start("s", "JOBS", "-j", "8")
+            room.until(functools.partial(says, room, "renewed"))
+        room.write("go", "")
+        status, _ = room.ended(run)
+        its = json.loads(room.run("s", "JOBS", "--list", "--json", errors="errors2")[1])[0]
+        tries.is_same(kind, room.path, (
+            status, "renewed" in room.text("errors"), room.begun()["g.z"],
+            [it["end"] for it in its["tries"]]), (0, True, 1, ["ok"]))
+
+
 def read_meanwhile(tries: Shared) -> None:
     """A program that reads the store for a moment, as a renewal or a cancel opens it, ends no
     night, and keeps no cancel from being done."""
@@ -138,7 +168,7 @@ def read_meanwhile(tries: Shared) -> None:
     room.night = room.program("between", READING.format(night=tries.program, at=0))
     tries.is_same(f"{kind}: at a cancel", room.path, (
         room.run("s", "--cancel", "g", "why"), room.lines("count")[-1:] != ["1"]), (
-            (0, "g: done; deadline none; err context canceled; cause why\n"), True))
+            (0, "g: canceled: why\n"), True))
 
 
 def night_dies(tries: Shared) -> None:
@@ -243,7 +273,7 @@ def late_cancels(tries: Shared) -> None:
     hit(run, "all")
     room.ended(run)
     tries.is_same(f"{kind}: it is done", room.path, room.ended(asking, errors="errors2"), (
-        0, "g: done; deadline none; err context canceled; cause at last\n"))
+        0, "g: canceled: at last\n"))
     kind = "a cancel that nobody waits for"
     room = Room(tries, [job("g", "a")])
     tries.is_same(f"{kind}: a night before", room.path, room.run()[0], 0)
@@ -330,9 +360,10 @@ def no_room(tries: Shared) -> None:
     tries.is_same(f"{kind}: all end", room.path, found,
                   (0, "10 commands: 10 ok; 10 run this time"))
     tries.is_same(f"{kind}: each began once", room.path, set(room.begun().values()), {1})
-    told = room.errors.splitlines()
-    tries.holds(f"{kind}: told, each reason once", room.path, told and len(told) == len(set(told))
-                and all(it.endswith("commands are started later") for it in told), room.errors)
+    lines = room.errors.splitlines()
+    tries.holds(f"{kind}: each reason is printed once", room.path,
+                lines and len(lines) == len(set(lines)) and all(
+                    it.endswith("commands are started later") for it in lines), room.errors)
 
 
 def clock_ahead(tries: Shared) -> None:
@@ -468,9 +499,9 @@ def hung_night(tries: Shared) -> None:
     kill([run.pid], which=signal.SIGTERM)
     began = time.monotonic()
     room.ended(run, 40)
-    took = time.monotonic() - began
-    tries.holds(f"{kind}: a signal is heard", room.path, took < 20 and run.returncode == 3,
-                (took, run.returncode, room.errors))
+    tries.holds(f"{kind}: a signal is heard", room.path,
+                is_within(began, 20) and run.returncode == 3,
+                (time.monotonic() - began, run.returncode, room.errors))
     room.settle()
     tries.is_same(f"{kind}: run again", room.path,
                   room.run("s", "JOBS", "--list")[1].splitlines()[-1], "h b: interrupted")
@@ -509,9 +540,9 @@ def held_night(tries: Shared) -> None:
         run = room.start("s", "JOBS", "--grace", "1", night=night)
         tries.holds(f"{kind}: it is held", room.path, room.until(lambda: room.has("was_held")), "")
         kill([run.pid], which=signal.SIGTERM)
-        is_told = room.until(lambda: "waiting for the disk" in room.text("errors"), 15)
-        tries.holds(f"{kind}: told, under the mark", room.path,
-                    is_told and room.has("s.failed"), (room.text("errors"), run.poll()))
+        is_printed = room.until(lambda: "waiting for the disk" in room.text("errors"), 15)
+        tries.holds(f"{kind}: it is printed, under the mark", room.path,
+                    is_printed and room.has("s.failed"), (room.text("errors"), run.poll()))
         time.sleep(1)
         tries.is_same(f"{kind}: it isn't killed", room.path, run.poll(), None)
         if is_left:
@@ -521,7 +552,7 @@ def held_night(tries: Shared) -> None:
                 pass
         began = time.monotonic()
         room.ended(run, 40)
-        tries.holds(f"{kind}: it ends", room.path, time.monotonic() - began < 10
+        tries.holds(f"{kind}: it ends", room.path, is_within(began, 10)
                     and run.returncode == (3 if is_left else 1), (run.returncode, room.errors))
         if is_left:
             with open(f"{room.path}/disk", "wb"):
@@ -531,6 +562,47 @@ def held_night(tries: Shared) -> None:
             room.run("s", "JOBS", "--list")[1].splitlines()[-1], room.has("s.failed"),
             tries.run("script", f"{room.path}/s").status, room.has("s.failed")),
             ("g a: interrupted", True, 0, False))
+
+
+def marked_store(tries: Shared) -> None:
+    """A store with the mark is copied. The message doesn't say that a sync has failed, since that
+    may not be so."""
+    kind = "a store with the mark of a failed sync"
+    room = Room(tries, [job("g", "a")])
+    room.run()
+    room.write("s.failed", "")
+    os.chmod(f"{room.path}/s.failed", 0o600)
+    tries.is_same(kind, room.path, (
+        room.run("s", "JOBS", "--again")[0], room.has("s.failed"), room.errors.splitlines()), (
+        0, False, ["night-run: s.failed is there: a sync failed, or a `night` was killed that may"
+                   " have been in one; `night` copies the store first"]))
+
+
+# The second run puts a copy in the store's place, as it does under the mark, and is killed then.
+COPIES = """#!/bin/sh
+[ "$1" = script ] || exec {night} "$@"
+echo >> runs
+[ $(wc -l < runs) -ne 2 ] || {{ cp -p s s.making; mv s.making s; kill -9 $$; }}
+exec {night} "$@"
+"""
+
+
+def copied_store(tries: Shared) -> None:
+    """A `night` that is killed as it opens a store with the mark may have put a copy in its place.
+    That isn't taken for another store."""
+    kind = "a store that was copied"
+    room = Room(tries, ["g a echo g.a >> begun; until [ -e go ]; do sleep 0.1; done"])
+    night = room.program("copies", COPIES.format(night=tries.program))
+    run = room.start("s", "JOBS", night=night)
+    room.until(lambda: room.lines("begun"))
+    room.write("s.failed", "")
+    os.chmod(f"{room.path}/s.failed", 0o600)
+    hit(run, "night")
+    room.until(lambda: len(room.text("runs")) > 2 or run.poll() is not None)
+    room.write("go", "")
+    status, output = room.ended(run)
+    tries.is_same(kind, room.path, (status, output, "taken away" in room.errors, room.begun()),
+                  (0, "1 command: 1 ok; 1 run this time\n", False, {"g.a": 1}))
 
 
 def missing_store(tries: Shared) -> None:
@@ -571,7 +643,7 @@ def edits(tries: Shared) -> None:
     room.set(["g: within 2s", job("g", "a", 30)])
     status, output = room.run(seconds=25)
     tries.is_same(kind, room.path, (status, output.split(";")[0]), (1, "g a: canceled: within 2s"))
-    tries.is_same(f"{kind}: told", room.path, room.errors,
+    tries.is_same(f"{kind}: it is printed", room.path, room.errors,
                   "night-run: g: its deadline is now: within 2s\n")
     kind = "the deadline of all groups is edited"
     its = ["g: within 3h", job("g", "a", 30), job("h", "b", 30)]
@@ -584,7 +656,7 @@ def edits(tries: Shared) -> None:
     status, output = room.run(seconds=40)
     tries.is_same(kind, room.path, (status, [it.split(";")[0] for it in output.splitlines()]), (
         1, ["g a: canceled: within 2s", "h b: canceled: within 2s", "2 commands: 2 canceled"]))
-    tries.is_same(f"{kind}: told", room.path, room.errors,
+    tries.is_same(f"{kind}: it is printed", room.path, room.errors,
                   "night-run: night: its deadline is now: within 2s\n")
 
 
@@ -607,7 +679,19 @@ def second_evening(tries: Shared) -> None:
     tries.is_same(f"{kind}: the rounds", room.path, sorted(scopes), ["g--2", "h--4", "night--2"])
     room.set([job("g", "a"), job("h", "b") + "; true"])
     tries.holds(f"{kind}: a command that has changed", room.path, room.run()[1].startswith(
-        "h b: its command has changed since it ended; --again runs it\n"))
+        "h b: its command has changed since it ended; --redo h/b runs it again\n"))
+
+
+def long_lines(tries: Shared) -> None:
+    """The summary shows the last lines of an output as a terminal does, and none of any length: it
+    is mailed, and a mail has no line over 998 bytes."""
+    kind = "lines of an output in the summary"
+    room = Room(tries, ["g a printf 'copying 10\\r100 of 100\\n'; printf %03000d 7; exit 3"])
+    status, output = room.run()
+    shown = output.splitlines()
+    tries.is_same(kind, room.path, (status, shown[0], shown[1], shown[2][:12], shown[2][-3:]),
+                  (1, "g a: exit 3; s.out/g.a.0", "    100 of 100", "    00000000", " .."))
+    tries.holds(f"{kind}: how long they are", room.path, max(map(len, shown)) < 500, shown)
 
 
 def names_of_rounds(tries: Shared) -> None:
@@ -665,8 +749,8 @@ def order(tries: Shared) -> None:
     tries.is_same(f"{kind}: it isn't begun", room.path, room.begun(), {"g.a": 1})
 
 
-CASES = [short_commands, short_deadline, short_cancel, full_store, read_meanwhile, night_dies,
-         lists, bad_cancels,
-         held_cancels, late_cancels, cancel_beside, two_tries, backgrounds, stopped_ok, no_room,
-         clock_ahead, clock_ahead_again, other_jobs, many_groups, texts, no_traces, hung_night,
-         held_night, missing_store, edits, second_evening, names_of_rounds, order]
+CASES = [short_commands, short_deadline, short_cancel, full_store, renewed_beside, read_meanwhile,
+         night_dies, lists, bad_cancels, held_cancels, late_cancels, cancel_beside, two_tries,
+         backgrounds, stopped_ok, no_room, clock_ahead, clock_ahead_again, other_jobs, many_groups,
+         texts, no_traces, hung_night, held_night, marked_store, copied_store, missing_store, edits,
+         second_evening, long_lines, names_of_rounds, order]

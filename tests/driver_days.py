@@ -159,11 +159,11 @@ def night_keeps_its_day(tries: Shared) -> None:
         room.set(whole)
         room.before = ["env", f"TZ={east}"]
         room.write("go", "")
-        told = f"g b: not due: on {second[:3]}; tonight is {first}"
-        tries.holds(f"{kind}: a list", room.path, told in room.run(
-            "s", "JOBS", "--list")[1].splitlines(), told)
+        line = f"g b: not due: on {second[:3]}; tonight is {first}"
+        tries.holds(f"{kind}: a list", room.path, line in room.run(
+            "s", "JOBS", "--list")[1].splitlines(), line)
         dry = room.run("s", "JOBS", "--dry-run")[1].splitlines()
-        tries.holds(f"{kind}: what would begin", room.path, f"not due g b: {told[14:]}" in dry, dry)
+        tries.holds(f"{kind}: what would begin", room.path, f"not due g b: {line[14:]}" in dry, dry)
         tries.is_same(f"{kind}: it goes on", room.path, (room.last(), room.begun()["g.a"],
                                                          room.begun()["g.b"]), (
             (1, f"4 commands: 2 ok, 1 failed, 1 not due; {count} run this"

@@ -19,7 +19,7 @@ from functools import partial
 from driver_cases import small_store
 from driver_kills import RENEWING
 from driver_plan import driver_module
-from driver_room import Room, Shared, environments, job, kill, locked
+from driver_room import Room, Shared, environments, is_within, job, kill, locked
 from nights_room import copied
 
 # Lines of a file of commands that are white and no empty line: no-break spaces, a form feed, ..
@@ -66,7 +66,7 @@ def strange_numbers(tries: Shared) -> None:
 # --- alarms
 
 # What a night runs as it ends: a line, and its input.
-ALARM = ("echo $NIGHT_STATUS $NIGHT_FAILED $NIGHT_LEFT $NIGHT_STORE >> alarm; cat > told;"
+ALARM = ("echo $NIGHT_STATUS $NIGHT_FAILED $NIGHT_LEFT $NIGHT_STORE >> alarm; cat > summary;"
          " [ ! -e out ] || wc -c < out > printed")
 
 
@@ -95,8 +95,8 @@ def nothing_runs(tries: Shared) -> None:
         with locked(f"{room.path}/s.lock" if what == "a held lock" else os.devnull):
             found = room.run(*words, "--quiet", "--on-failure", ALARM, night=night)
         tries.is_same(kind, what, (found, alarmed(room)), ((status, ""), [[str(status), "0", "0"]]))
-        tries.holds(f"{kind}: why", what, why in room.text("told") and why in room.errors,
-                    (room.text("told"), room.errors))
+        tries.holds(f"{kind}: why", what, why in room.text("summary") and why in room.errors,
+                    (room.text("summary"), room.errors))
     room = Room(tries, good)
     tries.is_same(f"{kind}: no list is a night", room.path, (
         room.run("s", "gone", "--list", "--on-failure", ALARM)[0], room.has("alarm")), (2, False))
@@ -120,7 +120,7 @@ def not_printed(tries: Shared) -> None:
     room = Room(tries, ["g a false"])
     with open(f"{room.path}/out", "w", encoding="ascii") as file:
         room.start("s", "JOBS", "--on-failure", ALARM, stdout=file).wait(timeout=60)
-    tries.is_same(kind, room.path, (room.text("printed"), room.text("told")),
+    tries.is_same(kind, room.path, (room.text("printed"), room.text("summary")),
                   ("0\n", room.text("out")))
 
 
@@ -146,7 +146,7 @@ def commands_left(tries: Shared) -> None:
         kill([run.pid], which=which)
         found = room.ended(run)
         tries.is_same(f"{kind}: {what}", room.path, (found[0], alarmed(room), found[1]),
-                      (1, [counts], room.text("told")))
+                      (1, [counts], room.text("summary")))
     room = Room(tries, [job("g", "a")])
     with locked(f"{room.path}/s.lock"):
         run = room.start("s", "JOBS", "--on-failure", ALARM)
@@ -156,8 +156,8 @@ def commands_left(tries: Shared) -> None:
         found = room.ended(run)
     tries.is_same(f"{kind}: before it began", room.path, (found, room.errors, alarmed(room)), (
         (3, ""), "night-run: ended before it began\n", [["3", "0", "0"]]))
-    took = time.monotonic() - began
-    tries.holds(f"{kind}: the lock isn't waited for", room.path, took < 30, took)
+    tries.holds(f"{kind}: the lock isn't waited for", room.path, is_within(began, 30),
+                time.monotonic() - began)
 
 
 # What waits in a room for a file, once it has said that it is there.
@@ -188,8 +188,9 @@ def early_signals(tries: Shared) -> None:
             room.before = ["env", f"PATH={room.path}:{os.environ['PATH']}"]
         run = room.start("s", "JOBS", "--on-failure", ALARM, *words, driver=driver)
         tries.holds(f"{kind}: {what}", room.path, room.until(partial(room.has, "reads")))
-        for _ in range(count):
-            kill([run.pid], which=signal.SIGTERM)
+        # (two of one kind may come to a slow machine as one; of two kinds the lower is heard first)
+        for which in (signal.SIGUSR1, signal.SIGTERM)[-count:]:
+            kill([run.pid], which=which)
             time.sleep(0.2)
         room.write("go", "")
         ended = room.ended(run)
@@ -223,7 +224,7 @@ def few_files(tries: Shared) -> None:
                f" limit is {limit}, ulimit -n\\)"
         whole = f"night-run: a night opens \\d+ {said}\n"
         tries.holds(kind, limit, re.fullmatch(whole, room.errors), room.errors)
-        tries.is_same(f"{kind}: the alarm", limit, (found, alarmed(room), room.text("told")), (
+        tries.is_same(f"{kind}: the alarm", limit, (found, alarmed(room), room.text("summary")), (
             (3, ""), [["3", "0", "0"]], room.errors))
         tries.is_same(f"{kind}: nothing is made", limit,
                       [it for it in os.listdir(room.path) if it[:2] in ("s", "s.")], [])
@@ -261,26 +262,27 @@ def hung_alarm(tries: Shared) -> None:
         "s", "JOBS", "--nightly", errors="errors2"), (0, "1 command: 1 ok; 1 run this time"))
     began = time.monotonic()
     kill([run.pid], which=signal.SIGTERM)
-    found, took = room.ended(run)[0], time.monotonic() - began
-    tries.is_same(f"{kind}: a signal ends it", room.path, (found, took < 40, room.errors), (
+    found = room.ended(run)[0]
+    tries.is_same(f"{kind}: a signal ends it", room.path, (
+        found, is_within(began, 40), room.errors), (
         1, True, "night-run: --on-failure: it was ended, as a signal asked for\n"))
     tries.is_same(f"{kind}: nothing is left of it", room.path,
                   [it for it in environments(room.path) if "sleep\x007" in it], [])
-    alarms, told = driver_module(tries, "alarms"), list[str]()
+    alarms, printed = driver_module(tries, "alarms"), list[str]()
     made = alarms.Alarm("--on-failure", f"cd {room.path}; cat > input; exec sleep 73",
                         driver_module(tries, "signals").Signals())
-    made.seconds, real, alarms.tell = 0.5, alarms.tell, told.append
+    made.seconds, real, alarms.tell = 0.5, alarms.tell, printed.append
     began = time.monotonic()
     made.run("x" * 100_000, {})
-    took = time.monotonic() - began
-    tries.is_same(f"{kind}: its time", room.path, (took < 40, told, len(room.text("input"))),
+    tries.is_same(f"{kind}: its time", room.path, (
+        is_within(began, 40), printed, len(room.text("input"))),
                   (True, ["--on-failure: it was ended after 0 s"], 100_000))
     for command, why in (("exit 7", "it ended with status 7"), ("kill -9 $$", "signal 9 ended it"),
                          ("true < /dev/null", "")):
-        told.clear()
+        printed.clear()
         made = alarms.Alarm("--on-begin", command, made.signals)
         made.run("", {})
-        tries.is_same("an alarm that fails is told", command, told,
+        tries.is_same("an alarm that fails is reported", command, printed,
                       [f"--on-begin: {why}"] if why else [])
     alarms.tell = real
 
@@ -298,7 +300,7 @@ def stalled_output(tries: Shared) -> None:
     os.set_blocking(its, True)
     with open(its, "w", encoding="ascii") as stalled:
         run = room.start("s", "JOBS", "--on-failure", ALARM, stdout=stalled)
-        tries.is_same(f"{kind}: the alarm", room.path, room.until(lambda: room.has("told")), True)
+        tries.holds(f"{kind}: the alarm", room.path, room.until(lambda: room.has("summary")))
         room.write("well", "")
         tries.is_same(f"{kind}: the next night", room.path, room.last(
             "s", "JOBS", "--nightly", errors="errors2"), (0, "1 command: 1 ok; 1 run this time"))

@@ -140,7 +140,7 @@ def alarm_without_room(tries: Shared) -> None:
                 and room.has("alarmed") and "it is run without the summary" in done.stderr,
                 (done.returncode, done.stdout))
     tries.is_same("a store without a name", room.path, (room.run("", "JOBS")[0],
-                  room.errors.endswith("error: STORE is empty\n")), (2, True))
+                  room.errors.startswith("night-run: STORE is empty;")), (2, True))
 
 
 def folder_is_gone(tries: Shared) -> None:
@@ -150,13 +150,13 @@ def folder_is_gone(tries: Shared) -> None:
                  f" {tries.driver} s J --on-failure 'echo $NIGHT_STATUS > {folder}/alarm'"
         done = subprocess.run(["sh", "-c", script], capture_output=True, text=True, check=False,
                               env={**os.environ, "NIGHT": tries.program})
-        told = ""
+        alarm = ""
         if os.path.exists(f"{folder}/alarm"):
             with open(f"{folder}/alarm", encoding="ascii") as file:
-                told = file.read()
+                alarm = file.read()
         tries.is_same("a folder that is gone", done.stderr[-300:],
                       (done.returncode, "s: the folder in which night-run was started is gone"
-                       in done.stderr, told), (3, True, "3\n"))
+                       in done.stderr, alarm), (3, True, "3\n"))
 
 
 def large_files(tries: Shared) -> None:
@@ -281,7 +281,7 @@ def store_of_a_backup(tries: Shared) -> None:
     kept = {it: room.text(f"s.out/{it}") for it in os.listdir(f"{room.path}/s.out")}
     os.replace(f"{room.path}/kept", f"{room.path}/s")
     status, _ = room.run("s", "JOBS", "--nightly")
-    tries.holds("a store of a backup", "told", status == 3
+    tries.holds("a store of a backup", "it is reported", status == 3
                 and "s ends with night 1, and s.log.1 is there: " in room.errors, room.errors)
     tries.is_same("a store of a backup", "nothing is written over",
                   {it: room.text(f"s.out/{it}") for it in os.listdir(f"{room.path}/s.out")}, kept)
@@ -317,8 +317,8 @@ def new_store(tries: Shared) -> None:
         room.run("s", "JOBS", "--nightly")[0], room.errors), (
         3, "night-run: s ends with night 1, and s.log.7 is there: restore s.log*, s.nights and"
         " s.out from the backup that the store is from, or move them away\n"))
-    told = driver_module(tries, "files").are_there
-    tries.is_same(f"{kind}: many", "", told(list("abcdefg")), "a, b, c, d and 3 more are")
+    are_there = driver_module(tries, "files").are_there
+    tries.is_same(f"{kind}: many", "", are_there(list("abcdefg")), "a, b, c, d and 3 more are")
 
 
 def other_signals(tries: Shared) -> None:

@@ -106,6 +106,26 @@ exec {night} "$@"
 """
 
 
+# Stands for `night`: the first two openings of a store with the mark of a failed sync are killed.
+KILLED_MENDING = """#!/bin/sh
+if [ "$1" = script ] && [ -e s.failed ]; then
+    echo script >> scripts
+    if [ "$(wc -l < scripts)" -lt 3 ]; then kill -9 $$; fi
+fi
+exec {night} "$@"
+"""
+
+
+# Stands for `night`: the first opening after a renewal is killed.
+KILLED_OPENING = """#!/bin/sh
+case $1 in
+renew) {night} "$@"; status=$?; : > renewed; exit $status ;;
+script) if [ -e renewed ] && [ ! -e killed ]; then : > killed; kill -9 $$; fi ;;
+esac
+exec {night} "$@"
+"""
+
+
 def between(tries: Shared, jobs: list[str], what: str, at: int = 3) -> Room:
     return Room(tries, jobs, BETWEEN.format(night=tries.program, what=what, at=at))
 
@@ -221,8 +241,8 @@ def night_is_killed(tries: Shared) -> None:
         killed.update(nights)
     tries.is_same(f"{kind}: its driver goes on", room.path, (*room.ended(run), hits),
                   (0, "12 commands: 12 ok; 12 run this time\n", 3))
-    told = "night-run: `night` was ended by signal 9 (Killed); it is started again\n"
-    tries.is_same(f"{kind}: told", room.path, room.errors, told * 3)
+    line = "night-run: `night` was ended by signal 9 (Killed); it is started again\n"
+    tries.is_same(f"{kind}: it is printed", room.path, room.errors, line * 3)
     tries.is_same(f"{kind}: each began once", room.path, set(room.begun().values()), {1})
     tries.is_same(f"{kind}: the limit holds", room.path, most_at_once(room, "g"), 2)
     whole(room, kind, ended, [])
@@ -265,7 +285,7 @@ def resumed(tries: Shared) -> None:
     tries.holds(f"{kind}: the long one runs", room.path, room.until(lambda: room.lines("began")))
     found = room.run("s", "--cancel", "long", "not", "tonight", errors="errors2")
     tries.is_same(f"{kind}: it is cancelled", room.path, found, (
-        0, "long: done; deadline none; err context canceled; cause not tonight\n"))
+        0, "long: canceled: not tonight\n"))
     status, output = room.ended(run)
     looked(room, kind, ended)
     shown = [it.split(";")[0] for it in output.splitlines() if not it.startswith(" ")]
@@ -297,27 +317,32 @@ def left_behind(tries: Shared) -> None:
                   False)
     cancelled = room.run("s", "--cancel", "late", "not", "now", errors="errors2")
     tries.is_same(f"{kind}: one is cancelled", room.path, cancelled,
-                  (0, "late: done; deadline none; err context canceled; cause not now\n"))
+                  (0, "late: canceled: not now\n"))
     room.write("go", "")
     status, output = room.ended(run, 60)
     shown = [it.split("; s.out")[0] for it in output.splitlines() if not it.startswith(" ")]
     tries.is_same(f"{kind}: its end", room.path, (status, shown), (1, [
         "soon a: canceled: within 9s", "hard b: canceled: within 9s", "late c: canceled: not now",
         "5 commands: 2 ok, 3 canceled; 5 run this time"]))
-    tries.is_same(f"{kind}: told", room.path, len(re.findall(
+    tries.is_same(f"{kind}: it is printed", room.path, len(re.findall(
         r"^night-run: \S+ \S still runs from the last run: process \d+$", room.errors, re.M)), 4)
     tries.is_same(f"{kind}: each began once", room.path, set(room.begun().values()), {1})
 
 
-def stubborn(trap: str) -> str:
-    """A command whose shell ends when it is asked to, and what it began does not."""
-    return (f"g a echo g.a >> begun; sh -c \"trap '{trap}' TERM; until [ -e over ]; do sleep 0.1;"
-            " done\"; true")
+# A command whose shell ends when it is asked to, and what it began does not.
+STUBBORN = ("g a echo g.a >> begun; sh -c \"trap 'echo it >> asked' TERM; until [ -e over ]; do"
+            " sleep 0.1; done\"; true")
 
 
-def is_over(room: Room, kind: str, timeout: str) -> None:
-    """The next run stops it, if it has to; its end is why it was stopped, and it isn't begun
-    again."""
+def is_stopped_after_a_kill(tries: Shared, kind: str, timeout: str, grace: int,
+                            moment: str) -> None:
+    """The driver of such a command is killed once this file is there. The next run stops the
+    command, if it has to; its end is why it was stopped, and it isn't begun again."""
+    room = Room(tries, [f"g: background keep timeout {timeout}", STUBBORN])
+    run = room.start("s", "JOBS", "--grace", str(grace))
+    tries.holds(f"{kind}: {moment}", room.path, room.until(lambda: room.lines(moment)))
+    hit(run, "both")
+    room.ended(run)
     status, output = room.run("s", "JOBS", "--grace", "1")
     shown = [it.split(";")[0] for it in output.splitlines() if not it.startswith(" ")]
     room.tries.is_same(kind, room.path, (status, shown, room.begun()),
@@ -329,25 +354,13 @@ def is_over(room: Room, kind: str, timeout: str) -> None:
 def stopped_after_a_kill(tries: Shared) -> None:
     """A try that a killed driver left is stopped by its timeout: nothing of it lives on, though its
     group keeps what its commands leave, and it has failed by that."""
-    kind = "a try that was left is stopped"
-    room = Room(tries, ["g: background keep timeout 2s", stubborn("")])
-    run = room.start("s", "JOBS", "--grace", "1")
-    tries.holds(f"{kind}: it runs", room.path, room.until(lambda: room.lines("begun")))
-    hit(run, "both")
-    room.ended(run)
-    is_over(room, kind, "2s")
+    is_stopped_after_a_kill(tries, "a try that was left is stopped", "2s", 1, "begun")
 
 
 def killed_while_it_stops(tries: Shared) -> None:
     """A try that its driver was stopping as that was killed: as above, though its shell has ended
     by then."""
-    kind = "a try that was being stopped"
-    room = Room(tries, ["g: background keep timeout 1s", stubborn("echo it >> asked")])
-    run = room.start("s", "JOBS", "--grace", "9")
-    tries.holds(f"{kind}: it is asked to end", room.path, room.until(lambda: room.lines("asked")))
-    hit(run, "both")
-    room.ended(run)
-    is_over(room, kind, "1s")
+    is_stopped_after_a_kill(tries, "a try that was being stopped", "1s", 9, "asked")
 
 
 def faults(tries: Shared) -> None:
@@ -356,13 +369,15 @@ def faults(tries: Shared) -> None:
     run = room.start("s", "JOBS", "-j", "1")
     room.until(lambda: room.lines("begun"))
     tries.is_same("a second driver", room.path,
-                  (room.run(errors="errors2"), room.text("errors2")),
-                  ((3, ""), "night-run: s: in use by another night-run\n"))
+                  (room.run(errors="errors2"), re.sub("for [0-9][0-9.hms]*", "for TIME",
+                                                      room.text("errors2"))),
+                  ((3, ""), f"night-run: s: in use by another night-run, process {run.pid}, for"
+                   " TIME\n"))
     kill([run.pid], which=signal.SIGTERM)
     room.ended(run)
     found = room.run("s", "--cancel", "g", "too", "late"), room.run("s", "--cancel", "h")
     tries.is_same("a cancel without a driver", room.path, found, (
-        (0, "g: done; deadline none; err context canceled; cause too late\n"), (2, "")))
+        (0, "g: canceled: too late\n"), (2, "")))
     tries.is_same("a cancel of no group", room.path, room.errors, "night-run: s has no group h\n")
 
     room = Room(tries, [job("g", "a"), job("g", "b")])
@@ -477,8 +492,8 @@ def taken_away(tries: Shared) -> None:
         os.rename(f"{room.path}/n", f"{room.path}/m")
         if what == "removed":
             shutil.rmtree(f"{room.path}/m")
-        told = room.until(lambda: "n/s" in room.text("errors"), 10)
-        tries.holds(f"{kind}: it is said at once", room.path, told and "g.b" not in
+        is_printed = room.until(lambda: "n/s" in room.text("errors"), 10)
+        tries.holds(f"{kind}: it is printed at once", room.path, is_printed and "g.b" not in
                     room.lines("done"), room.text("errors"))
         if what == "moved, and back":
             os.rename(f"{room.path}/m", f"{room.path}/n")
@@ -514,7 +529,7 @@ def all_canceled(tries: Shared) -> None:
     kill([run.pid], which=signal.SIGTERM)
     tries.is_same(f"{kind}: before", room.path, room.ended(run)[0], 1)
     tries.is_same(f"{kind}: so they are", room.path, room.run("s", "--cancel", "night", "why"), (
-        0, "night: done; deadline none; err context canceled; cause why\n"))
+        0, "night: canceled: why\n"))
     room.write("fine", "")
     room.set([*room.jobs, job("h", "b"), job("g", "d")])
     status, output = room.run()
@@ -598,10 +613,10 @@ class Full:
         status, output = room.last()
         tries.is_same(f"{kind}: its end", room.path, (status, output),
                       (1, "13 commands: 12 ok, 1 failed; 4 run this time"))
-        told = room.errors
-        tries.is_same(f"{kind}: it is renewed", told, len(re.findall(
+        errors = room.errors
+        tries.is_same(f"{kind}: it is renewed", errors, len(re.findall(
             r"^night-run: s: renewed; events \d+; scopes \d+ of \d+; groups \d+ of \d+;"
-            r" tasks \d+ of \d+$", told, re.M)), renewals)
+            r" tasks \d+ of \d+$", errors, re.M)), renewals)
         every = {name_of(it): 1 for it in room.jobs if ":" not in it.split()[0]}
         del every["u.k0"]  # (it was ended by hand)
         tries.is_same(f"{kind}: each began once", room.path, room.begun(), every)
@@ -650,9 +665,10 @@ def renewals(tries: Shared, dice: random.Random, rounds: int) -> None:
         full.looks(room, kind)
     kind = "a renewal fails"
     room = groups.room("fails")
-    found, told = room.last(), room.errors
-    tries.is_same(f"{kind}: told", room.path, told, "night-run: s is nearly full, and can't be"
-                  " renewed, so it is used as it is: s: it fails; `night` ended with status 1\n")
+    found, errors = room.last(), room.errors
+    tries.is_same(f"{kind}: it is printed", room.path, errors, "night-run: s is nearly full, and"
+                  " can't be renewed, so it is used as it is: s: it fails; `night` ended with"
+                  " status 1\n")
     tries.is_same(f"{kind}: its end", room.path, found,
                   (1, "13 commands: 12 ok, 1 failed; 4 run this time"))
     stopped_renewals(tries, groups if tries.is_short else tasks)
@@ -698,9 +714,15 @@ def killed_renewals(tries: Shared, full: Full, dice: random.Random, rounds: int)
 
 
 def full_in_the_midst(tries: Shared) -> None:
-    """A store that gets full in the midst of a night is renewed there, and commands run on."""
-    kind = "a store gets full"
-    room = Room(tries, [job("g", "long", 20), *(job("g", f"k{it}") for it in range(640))])
+    """A store that gets full in the midst of a night is renewed there, and commands run on, also if
+    `night` is killed as it opens the new store."""
+    becomes_full(tries, "a store gets full", "")
+    becomes_full(tries, "a store gets full, and night is killed",
+                 KILLED_OPENING.format(night=tries.program))
+
+
+def becomes_full(tries: Shared, kind: str, night: str) -> None:
+    room = Room(tries, [job("g", "long", 20), *(job("g", f"k{it}") for it in range(640))], night)
     store = Store(False)
     store.made()
     room.write("s", bytes(store.bytes))
@@ -725,6 +747,19 @@ def format_is_killed(tries: Shared) -> None:
     tries.is_same(f"{kind}: what it left", room.path, room.has("s.making"), False)
 
 
+def mending_is_killed(tries: Shared) -> None:
+    """A signal ends the opening that copies a store after a failed sync, twice: it is copied all
+    the same."""
+    kind = "a copy after a failed sync is killed"
+    room = Room(tries, [job("g", "a")], KILLED_MENDING.format(night=tries.program))
+    tries.is_same(f"{kind}: a night", room.path, room.run()[0], 0)
+    room.write("s.failed", "")
+    os.chmod(f"{room.path}/s.failed", 0o600)
+    tries.is_same(kind, room.path, (room.last("s", "JOBS", "--again"), room.lines("scripts"),
+                                    room.has("s.failed")),
+                  ((0, "1 command: 1 ok; 1 run this time"), ["script"] * 3, False))
+
+
 def parts(tries: Shared, seed: int) -> list[Part]:
     """The parts of these tries, those that take longest first."""
     def random_kills(tries: Shared) -> None:
@@ -735,4 +770,4 @@ def parts(tries: Shared, seed: int) -> list[Part]:
 
     return [random_renewals, random_kills, full_in_the_midst, resumed, left_behind,
             stopped_after_a_kill, killed_while_it_stops, cuts, night_is_killed, format_is_killed,
-            full_session, faults, damaged, taken_away, all_canceled, old_night]
+            mending_is_killed, full_session, faults, damaged, taken_away, all_canceled, old_night]

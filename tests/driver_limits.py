@@ -5,6 +5,7 @@ from __future__ import annotations
 
 import os
 import signal
+import subprocess
 import sys
 from collections.abc import Mapping
 
@@ -31,6 +32,8 @@ NO_SCOPE = ("night-run: memory and cpu are limited process by process: no scope 
 LOOKS = ("nice; ionice; nproc; ulimit -d")
 # Prints 3 MB, and then takes a while. (What prints for ever fills the disk over a wrong driver.)
 PRINTS = "head -c 3000000 /dev/zero; sleep 100"
+# Stops the driver of a command, which would see what the command does meanwhile.
+HALTS = "read -r _ _ _ by _ </proc/$PPID/stat; kill -STOP $by"
 TOOLS = ("nice", "ionice", "taskset")
 FIELDS = ("cpu", "memory", "output", "limits")
 
@@ -142,7 +145,7 @@ def outputs(tries: Shared) -> None:
         "g exact head -c 1048576 /dev/zero", "g over head -c 1048577 /dev/zero; exit 3",
         "g holes truncate -s 2M /dev/stdout; sleep 60", "g own head -c 3000000 /dev/zero",
         "g own: output 3M", "g apart head -c 3000000 /dev/zero > file",
-        "g cut head -c 3000000 /dev/zero; truncate -s 5 /dev/stdout",
+        f"g cut {HALTS}; head -c 3000000 /dev/zero; truncate -s 5 /dev/stdout; kill -CONT $by",
         "h free head -c 3000000 /dev/zero", f"h again {PRINTS}", "h again: output 1M retries 1"])
     status, output = room.run("s", "JOBS", "-j", "8", "--grace", "1")
     shown = sorted(it for it in output.splitlines() if it[:1] != " ")
@@ -211,6 +214,30 @@ def taken(tries: Shared) -> None:
                 found["daemon.0"]["memory"] in ("-", *map(str, range(1, 30 << 20))),
                 found["daemon.0"])
     kill([int(it) for it in os.listdir("/proc") if it.isdigit() and is_in(it, room.path)])
+
+
+# Begins a program after having been a large one; and what that prints: the memory of a command that
+# it runs, as a driver learns it of a brief one.
+ONCE_LARGE = "import os, sys; x = bytearray(600 << 20); del x; os.execv(sys.argv[1], sys.argv[1:])"
+LEARNS = """import os, sys
+sys.path.insert(0, sys.argv[1])
+from night_run.used import of_shell
+its = os.wait4(os.posix_spawn("/bin/sh", ["/bin/sh", "-c", sys.argv[2]], os.environ), 0)[2]
+print(of_shell(its, "-").memory)
+"""
+
+
+def learned_below_a_large_one(tries: Shared) -> None:
+    """The memory of a brief command is known also where the driver was begun by a large program, of
+    which the system counts the memory as the driver's."""
+    folder = os.path.dirname(os.path.realpath(tries.driver))
+    callers: dict[str, list[str]] = {"a small program": [],
+                                     "a large one": [PYTHON, "-c", ONCE_LARGE]}
+    for what, before in callers.items():
+        output = subprocess.run([*before, PYTHON, "-c", LEARNS, folder, LARGE], text=True,
+                                capture_output=True, timeout=300, check=True).stdout.split()
+        tries.is_same("what a try took: a driver that was begun by", what, output[1:],
+                      [str(int(output[0]) << 10)])
 
 
 def is_in(process: str, path: str) -> bool:
@@ -371,8 +398,10 @@ def in_words(tries: Shared) -> None:
         5000 << 40: "5000T"}
     for count, wanted in rows.items():
         tries.is_same("a size in words", count, used.size(count), wanted)
+    for count, wanted in {0: "0 bytes", 1: "1 byte", 1023: "1023 bytes", 1024: "1.0K"}.items():
+        tries.is_same("an amount in words", count, used.amount(count), wanted)
     for its, shown in ((used.Used(), []), (used.Used(0.0, 0, 0), [
-            "0.00s of processor time", "0 of memory", "0 printed"]), (
+            "0.00s of processor time", "0 bytes of memory", "0 bytes printed"]), (
                 used.Used(75.2, 3 << 20, None), ["1m15s of processor time", "3.0M of memory"])):
         tries.is_same("what was taken in words", its, used.in_words(its), shown)
 
@@ -406,5 +435,6 @@ def asks(process: str) -> bool:
         return False
 
 
-LIMITS = [put_on_processes, put_by_systemd, without_tools, outputs, taken, taken_over_a_kill,
-          variables, small_limits, without_python, lines_are_read, together, in_words, interrupts]
+LIMITS = [put_on_processes, put_by_systemd, without_tools, outputs, taken,
+          learned_below_a_large_one, taken_over_a_kill, variables, small_limits, without_python,
+          lines_are_read, together, in_words, interrupts]

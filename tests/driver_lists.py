@@ -5,6 +5,8 @@ from __future__ import annotations
 
 import os
 import signal
+import subprocess
+import sys
 import tempfile
 from collections.abc import Callable
 
@@ -49,6 +51,9 @@ MADE: list[tuple[str, dict[str, str], list[tuple[str, str]]]] = [
      [("g a", "x"), ("h b", "y"), ("h k", "z"), ("g c", "x")]),
     ("a group called include", {"JOBS": "include a true\ninclude a: timeout 5s"},
      [("include a", "true")]),
+    ("marks of the byte order", {"JOBS": "\ufeffeach h: file hosts\r\ng {h} x\ninclude more",
+                                 "hosts": "\ufeffa b", "more": "\ufeffg: limit 2\ng c x"},
+     [("g a", "x"), ("g b", "x"), ("g c", "x")]),
     ("several lines", {"JOBS": "g a\n+ cd /\n\t+\r\n  +   ls \\\n+ # x\n+ y\n# z\ng b x"},
      [("g a", "cd /\n\n  ls \\\n# x\ny"), ("g b", "x")]),
     ("several lines, from the first on", {"JOBS": "g a tar \\\n+  x\n+\ty"},
@@ -260,7 +265,7 @@ def night_over_lists(tries: Shared) -> None:
             " [ $NIGHT_TRY != 0 ] || exit 3")
     tries.is_same(f"{kind}: what would begin", room.path, room.run("s", "JOBS", "--dry-run"), (0, (
         "each host: a b\n" + "".join(f"begin g {it}: {text.format(it)}\n" for it in "ab")
-        + "later h a\nlater h b\n")))
+        + "later h a: after g\nlater h b: after g\n")))
     tries.is_same(f"{kind}: nothing is made", room.path, room.has("s"), False)
     found = room.last()
     tries.is_same(kind, room.path, (found, room.begun()), (
@@ -280,9 +285,9 @@ def night_over_lists(tries: Shared) -> None:
     room.agrees(kind)
 
 
-def lists_amid_a_night(tries: Shared) -> None:
-    """A list that is wrong amid a night costs nothing, and one with more values gives it more."""
-    kind = "a list amid a night"
+def lists_during_a_night(tries: Shared) -> None:
+    """A list that is wrong during a night costs nothing, and one with more values gives it more."""
+    kind = "a list during a night"
     room = Room(tries, ["each h: file hosts", "g {h} echo g.{h} >> begun; until [ -e go ]; do"
                         " sleep 0.1; done; echo g.{h} >> done"])
     room.write("hosts", "a\nb\nc\n")
@@ -291,7 +296,7 @@ def lists_amid_a_night(tries: Shared) -> None:
     kill([run.pid], which=signal.SIGTERM)
     room.ended(run)
     room.write("go", "")
-    for text, told in (("", "JOBS: line 1: the list h is empty"),
+    for text, why in (("", "JOBS: line 1: the list h is empty"),
                        ("a\nB\n", f"JOBS: line 1: hosts: line 2: the value 'B' {NO_KEY}"),
                        (None, "JOBS: line 1: hosts: No such file or directory")):
         if text is None:
@@ -300,8 +305,8 @@ def lists_amid_a_night(tries: Shared) -> None:
             room.write("hosts", text)
         before = room.text("s")
         tries.is_same(f"{kind}: it is wrong", text, (room.run(
-            "s", "JOBS", "--on-failure", "cat > told"), room.errors, room.text("told")), (
-                (2, ""), f"night-run: {told}\n", f"night-run: {told}\n"))
+            "s", "JOBS", "--on-failure", "cat > summary"), room.errors, room.text("summary")), (
+                (2, ""), f"night-run: {why}\n", f"night-run: {why}\n"))
         tries.holds(f"{kind}: nothing is written", text, room.text("s") == before)
     room.write("hosts", "d\na\nb\nc\n")
     tries.is_same(kind, room.path, (room.last(), sorted(room.lines("done"))), (
@@ -325,17 +330,52 @@ def unused_lists(tries: Shared) -> None:
         "night-run: JOBS: line 1: no command is made over the list h\n"))
 
 
-def signal_amid_a_list(tries: Shared) -> None:
+def signal_during_a_list(tries: Shared) -> None:
     """A signal ends a run whose list's command runs, and that command with it."""
     kind = "a signal as a list's command runs"
     room = Room(tries, ["each h: command touch runs; sleep 63; echo a", "g {h} true"])
-    run = room.start("s", "JOBS", "--on-failure", "cat > told")
+    run = room.start("s", "JOBS", "--on-failure", "cat > summary")
     tries.holds(f"{kind}: it runs", room.path, room.until(lambda: room.has("runs")))
     kill([run.pid], which=signal.SIGTERM)
-    tries.is_same(kind, room.path, (room.ended(run), room.errors, room.text("told")), (
+    tries.is_same(kind, room.path, (room.ended(run), room.errors, room.text("summary")), (
         (3, ""), "night-run: ended before it began\n", "night-run: ended before it began\n"))
     tries.holds(f"{kind}: nothing is left", room.path, room.settle(5))
     tries.is_same(f"{kind}: nothing is made", room.path, room.has("s"), False)
+
+
+# Reads a list whose command is begun at the moment at which a signal comes.
+SIGNALED = """import os, signal, subprocess, sys
+sys.path.insert(0, sys.argv[1])
+from night_run import lists
+
+def signaled(begin):
+    def begun(*words, **how):
+        it = begin(*words, **how)
+        os.kill(os.getpid(), signal.SIGTERM)
+        return it
+    return begun
+
+def stop(*_):
+    raise KeyboardInterrupt
+
+signal.signal(signal.SIGTERM, stop)
+os.posix_spawn, subprocess.Popen = map(signaled, (os.posix_spawn, subprocess.Popen))
+try:
+    print(lists.printed_by("exec sleep 63"))
+except KeyboardInterrupt:
+    print("it was ended")
+"""
+
+
+def signal_as_a_list_begins(tries: Shared) -> None:
+    """A signal that comes at the moment at which a list's command is begun ends that, too."""
+    kind = "a signal as a list's command begins"
+    room = Room(tries, ["g a true"])
+    folder = os.path.dirname(os.path.realpath(tries.driver))
+    found = subprocess.run([sys.executable, "-c", SIGNALED, folder], cwd=room.path, text=True,
+                           capture_output=True, timeout=300)
+    tries.is_same(kind, room.path, found.stdout + found.stderr, "it was ended\n")
+    tries.holds(f"{kind}: nothing is left", room.path, room.settle(5))
 
 
 def open_files(tries: Shared) -> None:
@@ -365,5 +405,5 @@ def linked_files(tries: Shared) -> None:
 
 
 LISTS: list[Callable[[Shared], None]] = [
-    made, refused, settings_over_lists, night_over_lists, lists_amid_a_night, unused_lists,
-    signal_amid_a_list, open_files, linked_files]
+    made, refused, settings_over_lists, night_over_lists, lists_during_a_night, unused_lists,
+    signal_during_a_list, signal_as_a_list_begins, open_files, linked_files]

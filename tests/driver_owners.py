@@ -33,7 +33,7 @@ REFUSED: list[tuple[str, dict[str, str], list[str]]] = [
     ("an owner that is an option", {"JOBS": "g a x\ng: owner -oQ/tmp"},
      ["JOBS: line 2: the owner '-oQ/tmp' is not written like anna or anna@example.org"]),
     ("two owners", {"JOBS": "g a x\ng: owner a owner b"},
-     ["JOBS: line 2: g has a owner already"]),
+     ["JOBS: line 2: g has an owner already"]),
     ("a user that isn't there", {"JOBS": "g a x\ng: user no-such-user"},
      ["JOBS: line 2: no user of this machine is called 'no-such-user'"]),
     ("a user of commands elsewhere", {"JOBS": "g a x\ng: user nobody\ng: via far"},
@@ -99,7 +99,7 @@ def secrets(tries: Shared) -> None:
     kill([run.pid], which=signal.SIGKILL)
     room.ended(run)
     room.write("go", "")
-    texts = [room.run("s", "JOBS", "--mail", "cat >> mails", "--on-failure", "cat >> told")[1],
+    texts = [room.run("s", "JOBS", "--mail", "cat >> mails", "--on-failure", "cat >> summary")[1],
              room.errors]
     for words in (("--list", "--json"), ("--list",), ("--dry-run",), ("--report", "text"),
                   ("--report", "html"), ("--report", "prom"), ("--status",)):
@@ -169,7 +169,7 @@ def sendmails(tries: Shared) -> None:
             "Subject: night-run: s, night 1: 1 of 1 command not ok",
             "Auto-Submitted: auto-generated", "MIME-Version: 1.0",
             "Content-Type: text/plain; charset=utf-8", "Content-Transfer-Encoding: 8bit", "",
-            "s, night 1: 1 of your 1 command didn't end well.", "",
+            "s, night 1: your command didn't end well.", "",
             "g a: exit 3; s.out/g.a.0", "    x"]))
 
 

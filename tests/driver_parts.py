@@ -16,7 +16,7 @@ from collections.abc import Callable, Mapping
 from typing import Any
 
 from driver_plan import driver_module, facts_of, jobs_of, pair, planner_of
-from driver_room import Shared
+from driver_room import Shared, is_within
 
 # Commands of a file, and settings of it; how commands have ended; which of them may be begun then,
 # with this many places; and which after another end.
@@ -173,7 +173,7 @@ def planner_ends(tries: Shared) -> None:
         it.asking.it.kill()
         it.asking.it.wait()
     with tempfile.TemporaryDirectory(dir=tries.folder) as folder:
-        for text, told, runs in ENDS_OF_PLANNERS:
+        for text, wanted, runs in ENDS_OF_PLANNERS:
             program = f"{folder}/night"
             with open(program, "w", encoding="utf-8") as file:
                 file.write(f"#!/bin/sh\necho >> $0.runs\n{text}\n")
@@ -184,7 +184,7 @@ def planner_ends(tries: Shared) -> None:
                 found = str(it.choose(facts, 1, 0.0))
             except fault as error:
                 found = str(error)
-            tries.is_same("a planner that ends", text, found, told)
+            tries.is_same("a planner that ends", text, found, wanted)
             tries.is_same("a planner that ends: so often", text,
                           os.path.getsize(f"{program}.runs"), runs)
             os.remove(f"{program}.runs")
@@ -218,16 +218,16 @@ def fault_of(tries: Shared, ask: Callable[[], object]) -> str:
 
 def wrong_answers(tries: Shared) -> None:
     """An answer that `night plan` never gives is a fault that names it, and isn't obeyed."""
-    for what, is_busy, answer, told in WRONG_ANSWERS:
+    for what, is_busy, answer, wanted in WRONG_ANSWERS:
         it = answering(tries, answer)
         facts = facts_of(tries, {"g a": "running"} if is_busy else {})
         tries.is_same("a wrong answer", what, fault_of(tries, lambda: it.choose(facts, 1, 0.0)),
-                      f"`night plan`: it answered {told}")
+                      f"`night plan`: it answered {wanted}")
         tries.is_same("a wrong answer: its process", what, it.asking, None)
-    for what, answer, told in WRONG_STANDINGS:
+    for what, answer, wanted in WRONG_STANDINGS:
         it, facts = answering(tries, answer), facts_of(tries, {})
         tries.is_same("a wrong standing", what, fault_of(tries, lambda: it.standings(facts)),
-                      f"`night plan`: it answered {told}")
+                      f"`night plan`: it answered {wanted}")
 
 
 def answer_is_two(tries: Shared) -> None:
@@ -269,7 +269,7 @@ def answer_is_stopped(tries: Shared) -> None:
     it.meanwhile = lambda: 3.0
     tries.is_same("an answer of a stopped planner", "another one",
                   len(it.choose(facts, 2, 0.0).names), 2)
-    tries.holds("an answer of a stopped planner", "its time", time.monotonic() < began + 25,
+    tries.holds("an answer of a stopped planner", "its time", is_within(began, 25),
                 time.monotonic() - began)
 
 
@@ -307,11 +307,11 @@ def restarts(tries: Shared) -> None:
     ended = driver_module(tries, "night").NightEnded
     for what, runs, wanted in RESTARTS:
         it, found = make(), []
-        for status, told, had_store in runs:
+        for status, errors, had_store in runs:
             it.begin()
             if had_store:
                 it.open()
-            error = ended(status, told)
+            error = ended(status, errors)
             found.append("waits" if it.is_waiting(error) else
                          "begins" if it.may_begin(error, False) else "no")
         tries.is_same("another run of night", what, found, wanted)
@@ -347,6 +347,18 @@ def in_sight(tries: Shared) -> None:
         os.rename(f"{path}3", path)
         tries.is_same("a store in its place", "back", (it.look(), it.missing, it.look()),
                       (True, "", False))
+        it.let_go()
+        os.rename(path, f"{path}4")
+        tries.is_same("a store that may be replaced", "missing", it.why(),
+                      "No such file or directory")
+        with open(path, "w", encoding="ascii"):
+            pass
+        tries.is_same("a store that may be replaced", "replaced", (it.why(), it.look()),
+                      ("", False))
+        it.keep()
+        os.rename(f"{path}4", path)
+        tries.is_same("a store that may be replaced", "kept again", it.why(),
+                      "another file has its name")
 
 
 class Fake:
@@ -502,8 +514,9 @@ def numbers_of_others(tries: Shared) -> None:
             fcntl.flock(held, fcntl.LOCK_EX)
             for what, began, lives in (("another process", start + 1, True),
                                        ("its own", start, False)):
-                told = tried.Contents(process=processes.Process(processes.boot(), other.pid, began))
-                it = leftovers.Leftover(tried.Named("g", "a", 0), f"{folder}/s", None, told,
+                process = processes.Process(processes.boot(), other.pid, began)
+                contents = tried.Contents(process=process)
+                it = leftovers.Leftover(tried.Named("g", "a", 0), f"{folder}/s", None, contents,
                                         os.open(f"{folder}/try", os.O_RDWR))
                 it.signal(signal.SIGKILL)
                 time.sleep(0.3)
@@ -618,8 +631,8 @@ def recorded_lines(tries: Shared) -> None:
 
 def held_back(tries: Shared) -> None:
     """What keeps commands from beginning is printed once, for a second, and until one begins."""
-    holding, told = driver_module(tries, "holding"), list[str]()
-    before, holding.tell_once = holding.tell_once, told.append
+    holding, printed = driver_module(tries, "holding"), list[str]()
+    before, holding.tell_once = holding.tell_once, printed.append
     try:
         it = holding.Holding()
         found: list[object] = [(it.why, it.is_over())]
@@ -628,7 +641,7 @@ def held_back(tries: Shared) -> None:
         it.until -= holding.SECONDS
         found.append((it.why, it.is_over()))
         it.has_begun()
-        tries.is_same("what keeps commands from beginning", "", ([*found, it.why], told), (
+        tries.is_same("what keeps commands from beginning", "", ([*found, it.why], printed), (
             [("", True), ("no room", False), ("no room", True), ""],
             ["no room: commands are started later"]))
     finally:
@@ -695,14 +708,14 @@ def handed_over(tries: Shared) -> None:
             processes.signal_session(leader.pid, signal.SIGKILL)
 
 
-def told_ends(tries: Shared) -> None:
+def ends_in_words(tries: Shared) -> None:
     """How a `night` ended, in the words of a message."""
     make = driver_module(tries, "night").NightEnded
-    for status, told, wanted in (
+    for status, errors, wanted in (
             (1, "night: s: I/O error\n", "s: I/O error; `night` ended with status 1"),
             (-9, "", "`night` was ended by signal 9 (Killed)"),
             (-25, "", "`night` was ended by signal 25 (File size limit exceeded)")):
-        tries.is_same("how night ended", status, str(make(status, told)), wanted)
+        tries.is_same("how night ended", status, str(make(status, errors)), wanted)
     night, before = driver_module(tries, "night"), driver_module(tries, "night").program
     night.program = lambda: "bin/night"
     try:
@@ -717,7 +730,7 @@ def told_ends(tries: Shared) -> None:
 
 
 SMALL = [recorded_lines, held_back, rests, nights_of_others, missed_members, handed_over,
-         told_ends, numbers_of_others, waiting, retries_are_due, places_are_kept, clocks, restarts,
-         in_sight, stopped, outputs]
+         ends_in_words, numbers_of_others, waiting, retries_are_due, places_are_kept, clocks,
+         restarts, in_sight, stopped, outputs]
 # Those that set a signal's handler or the environment, which the main thread alone may.
 MAIN = [copies, planner_ends, wrong_answers, answer_is_two, answer_is_late, answer_is_stopped]

@@ -337,7 +337,11 @@ MISTAKES = [
     ("g one: after two", 1, "after 'two': no such key of g, and no such group"),
     ("g one: after h/two", 1, "after 'h/two': no such key of g, and no such group"),
     ("h one true\ng h true\ng one: after h", 3,
-     "after h: it is a group, and a key of g; g/h is the key"),
+     "after h: it is a group, and a key of g: write g/h for the key; to name the group, rename the"
+     " key"),
+    ("h x true\ng h true\ng h: after failed h", 3,
+     "after h: it is a group, and a key of g: write g/h for the key; to name the group, rename the"
+     " key"),
     ("g two true\ng one: after two\ng two: after one", 3,
      "these wait for each other: g/two, after g/one, after g/two"),
     ("g one: after g", 1, "these wait for each other: g/one, after g, after g/one"),

@@ -15,6 +15,7 @@ import time
 from collections.abc import Callable, Iterable, Iterator, Sequence
 from typing import IO, Any
 
+from nights_pace import slowness
 from running import HERE, Tries, bytes_of
 
 Task = tuple[str, int]
@@ -80,17 +81,17 @@ class Room:
     def start(self, *words: str, night: str = "", driver: str = "", errors: str = "errors",
               stdout: int | IO[str] = subprocess.PIPE) -> subprocess.Popen[str]:
         words = words or ("s", "JOBS")
-        with open(f"{self.path}/{errors}", "w", encoding="utf-8") as told:
+        with open(f"{self.path}/{errors}", "w", encoding="utf-8") as file:
             return subprocess.Popen(
                 [*self.before, driver or self.tries.driver, *words], stdin=subprocess.DEVNULL,
-                text=True, stdout=stdout, stderr=told, start_new_session=True, cwd=self.path,
+                text=True, stdout=stdout, stderr=file, start_new_session=True, cwd=self.path,
                 env={**os.environ, "NIGHT": night or self.night})
 
     def ended(self, run: subprocess.Popen[str], seconds: float = 120,
               errors: str = "errors") -> tuple[int | str, str]:
         """The status and the output of a driver once it has ended; its errors are kept."""
         try:
-            output, _ = run.communicate(timeout=seconds)
+            output = output_within(run, seconds)
         except subprocess.TimeoutExpired:
             run.kill()
             return "it hangs", run.communicate()[0]
@@ -107,8 +108,15 @@ class Room:
         return status, (output.splitlines() or [""])[-1]
 
     def until(self, holds: Callable[[], object], seconds: float = 60) -> bool:
-        end = time.monotonic() + seconds
-        while not (found := holds()) and time.monotonic() < end:
+        """Waits until this holds, for this many seconds at most, or longer on a slow machine."""
+        began, most = time.monotonic(), seconds
+        while not (found := holds()):
+            if time.monotonic() - began >= most:
+                if most > seconds:
+                    break
+                most = seconds * slowness()
+                if most <= seconds:
+                    break
             time.sleep(0.01)
         return bool(found)
 
@@ -158,6 +166,20 @@ class Room:
         ended = {task: it for task, it in self.tasks().items()
                  if it[1] not in ("running", "ready", "held")}
         self.tries.is_same(f"{kind}: the log and the store", self.path, self.log(), ended)
+
+
+def output_within(run: subprocess.Popen[str], seconds: float) -> str:
+    """What a run prints that has to end within this many seconds, or more on a slow machine."""
+    try:
+        return run.communicate(timeout=seconds)[0]
+    except subprocess.TimeoutExpired:
+        return run.communicate(timeout=seconds * (slowness() - 1))[0]
+
+
+def is_within(began: float, seconds: float) -> bool:
+    """Whether it is less than this many seconds since a moment, or more on a slow machine."""
+    took = time.monotonic() - began
+    return took < seconds or took < seconds * slowness()
 
 
 def job(group: str, key: str, seconds: float = 0.0, end: str = "") -> str:
@@ -225,7 +247,17 @@ def kill(numbers: Iterable[int], in_groups: bool = False,
             (os.killpg if in_groups else os.kill)(it, which)
 
 
-def hit(run: subprocess.Popen[str], who: str) -> None:
+def says(room: Room, text: str) -> bool:
+    """Whether the driver has printed this on standard error."""
+    return text in room.text("errors")
+
+
+def has_lines(room: Room, name: str, count: int) -> bool:
+    """Whether a file has at least this many lines."""
+    return len(room.lines(name)) >= count
+
+
+def hit(run: subprocess.Popen[Any], who: str) -> None:
     """Kills the driver, its `night`, both, or these and its commands."""
     if who == "all":
         # (so that it begins no other)

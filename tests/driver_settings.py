@@ -11,7 +11,7 @@ import subprocess
 import time
 
 from driver_plan import driver_module
-from driver_room import (Room, Shared, environments, hit, job, kill, locked,
+from driver_room import (Room, Shared, environments, hit, is_within, job, kill, locked,
                          most_at_once)
 
 NO_STORE = "so it is not a store; give STORE first, and then JOBS"
@@ -30,11 +30,19 @@ KEY = ("crm is a key of db: --cancel db/crm cancels that command alone; to cance
        " begin the reason with another word")
 ENDED = "night-run: s: night 1 has ended, and nothing of it is left to cancel\n"
 LEFT = "night-run: night 1 wasn't finished: the rest of it comes first\n"
-# Wrong options, which are reported with the usage.
-UNUSABLE = [("s",), ("s", "JOBS", "-j", "0"), ("s", "JOBS", "-j", "x"), ("s", "JOBS", "--json"),
-            ("s", "JOBS", "--failed", "--again"), ("s", "JOBS", "--report", "pdf"),
-            ("s", "JOBS", "--dry-run", "--list"), ("s", "JOBS", "--list", "--again"),
-            ("s", "JOBS", "--unknown")]
+# Wrong options, and a part of the line that reports them.
+UNUSABLE = [(("s",), "JOBS is missing"), (("s", "JOBS", "-j", "0"), "-j"),
+            (("s", "JOBS", "-j", "x"), "-j"), (("s", "JOBS", "--json"), "--json goes with"),
+            (("s", "JOBS", "--failed", "--again"), "--again"),
+            (("s", "JOBS", "--report", "pdf"), "pdf"),
+            (("s", "JOBS", "--dry-run", "--list"), "--dry-run goes with none"),
+            (("s", "JOBS", "--list", "--again"), "--again"),
+            (("s", "JOBS", "--unknown"), "--unknown"),
+            (("s", "--set", "g.limit=0"), "--set 'g.limit=0': g.limit is 1 to 64"),
+            (("s", "--set", "g.limit=65"), "--set 'g.limit=65': g.limit is 1 to 64"),
+            (("s", "--set", "j=10000"), "--set 'j=10000': j is 1 to 9999"),
+            (("s", "--set", "limit=4"), "a setting is j=N or GROUP.limit=N")]
+MORE = "; night-run --help shows all options\n"
 
 
 def retries(tries: Shared) -> None:
@@ -152,8 +160,8 @@ def timeout(tries: Shared) -> None:
     tries.is_same(kind, room.path, (status, shown), (1, [
         f"g {it}: timeout 1s; s.out/g.{it}.0" for it in "abc"] + [
         "4 commands: 1 ok, 3 failed; 4 run this time"]))
-    took = time.monotonic() - began
-    tries.holds(f"{kind}: they are stopped", room.path, took < 40, took)
+    tries.holds(f"{kind}: they are stopped", room.path, is_within(began, 40),
+                time.monotonic() - began)
     tries.is_same(f"{kind}: no process is left", room.path,
                   [it for it in environments(room.path) if "sleep" in it], [])
     kind = "a timeout over a kill"
@@ -250,21 +258,24 @@ def cancels(tries: Shared) -> None:
     asked = [
         (("db", "crm"), 2, "", KEY), (("db", "crm", "too", "slow"), 2, "", KEY),
         (("db/nowhere", "why"), 2, "", "db has no command nowhere"),
-        (("nowhere/crm",), 2, "", "nowhere has no command crm"),
+        (("nowhere/crm",), 2, "", "nowhere has no command crm; did you mean db/crm?"),
+        (("db/cmr",), 2, "", "db has no command cmr; did you mean db/crm?"),
         (("nowhere",), 2, "", "s has no group nowhere"),
+        (("wwww",), 2, "", "s has no group wwww; did you mean www?"),
+        (("crm", "it", "hangs"), 2, "", "s has no group crm; did you mean db/crm?"),
         (("db/crm", "too", "slow"), 0, "db/crm: canceled: too slow", ""),
         (("db/crm", "again"), 0, "db/crm: canceled: too slow", ""),
-        (("www/x",), 0, "www/x: canceled: canceled by hand", "")]
-    for words, status, said, told in asked:
+        (("www/x",), 0, "www/x: canceled: by hand", "")]
+    for words, status, printed, why in asked:
         found = room.run("s", "--cancel", *words, errors="errors2", seconds=40)
         tries.is_same(f"{kind}: {' '.join(words)}", room.path, (found, room.errors), (
-            (status, said and f"{said}\n"), told and f"night-run: {told}\n"))
+            (status, printed and f"{printed}\n"), why and f"night-run: {why}\n"))
     tries.is_same(f"{kind}: the others run on", room.path,
                   (run.poll(), sorted(room.lines("begun"))), (None, ["a", "x", "y"]))
     room.write("go", "")
     ended, output = room.ended(run)
     tries.is_same(kind, room.path, (ended, output.splitlines()), (1, [
-        "db crm: canceled: too slow", "www x: canceled: canceled by hand; s.out/www.x.0",
+        "db crm: canceled: too slow", "www x: canceled: by hand; s.out/www.x.0",
         "rest z: not started, because db/crm was canceled",
         "6 commands: 3 ok, 2 canceled, 1 not started; 4 run this time"]))
     tries.is_same(f"{kind}: one that has ended", room.path, (
@@ -276,9 +287,65 @@ def cancels(tries: Shared) -> None:
                   ((0, "6 commands: 6 ok; 3 run this time"), True))
 
 
+def deadlines_after_the_end(tries: Shared) -> None:
+    """A night that has ended stays as it is when a deadline passes later: what wasn't needed or
+    wasn't started isn't canceled by it. --failed and --redo run all of it that may run again."""
+    kind = "a deadline after the night's end"
+    # (the commands are done long before that, even on a slow machine)
+    file = ["night: within 12s", "g a test -e ready", "m b true", "m b: after g",
+            "m w echo >> warned", "m w: after failed m/b", "n c true", "n c: after ended g",
+            "n d true", "n d: after failed n/c"]
+    wanted = ["g a: exit 1", "m b: not started, because g/a failed",
+              "m w: not needed, because m/b didn't fail",
+              "n d: not needed, because n/c didn't fail"]
+    counts = "5 commands: {}, 2 not needed; {} run this time"
+    room = Room(tries, file)
+    tries.is_same(f"{kind}: the night", room.path, room.last(),
+                  (1, "5 commands: 1 ok, 1 failed, 1 not started, 2 not needed; 2 run this time"))
+    time.sleep(12.1)
+    for words in (("--list",), ("--dry-run",)):
+        shown = room.run("s", "JOBS", *words)[1].splitlines()
+        tries.is_same(f"{kind}: {words[0]}", room.path, [
+            it for it in shown if "within" in it or "canceled" in it], [])
+    tries.is_same(f"{kind}: its commands", room.path,
+                  room.run("s", "JOBS", "--list")[1].splitlines(), wanted)
+    tries.is_same(f"{kind}: the metrics", room.path, re.findall(
+        '.*(?:phase="canceled"|group_canceled).* [1-9].*',
+        room.run("s", "JOBS", "--report", "prom")[1]), [])
+    tries.holds(f"{kind}: the report", room.path, "deadline passed" not in room.run(
+        "s", "JOBS", "--report", "text")[1])
+    tries.is_same(f"{kind}: nothing to do", room.path, (room.last()[0], room.run(
+        "s", "JOBS", "--list")[1].splitlines()), (1, wanted))
+    tries.is_same(f"{kind}: --redo of another one", room.path,
+                  room.last("s", "JOBS", "--redo", "n/c"), (1, counts.format(
+                      "1 ok, 1 failed, 1 not started", 1)))
+    tries.is_same(f"{kind}: what isn't needed still", room.path,
+                  room.run("s", "JOBS", "--list")[1].splitlines()[-1], wanted[-1])
+    room.write("ready", "")
+    tries.is_same(f"{kind}: --failed", room.path, room.last("s", "JOBS", "--failed"),
+                  (0, counts.format("3 ok", 2)))
+    os.remove(f"{room.path}/ready")
+    room.set(["night: within 12s", "g a test -e ready", "m b exit 4", *file[3:]])
+    room.run("s", "JOBS", "--again")
+    time.sleep(12.1)
+    room.write("ready", "")
+    room.run("s", "JOBS", "--failed")
+    tries.holds(f"{kind}: a warning that is needed after all", room.path, room.has("warned"),
+                room.errors)
+    kind = "a command that is new after a deadline"
+    file = ["night: within 12s", "g a true", "m w true", "m w: after failed g/a"]
+    room = Room(tries, file)
+    room.run()
+    time.sleep(12.1)
+    room.set([*file, "g z true"])
+    room.run()
+    tries.is_same(kind, room.path, room.run("s", "JOBS", "--list")[1].splitlines(),
+                  ["m w: not needed, because g/a didn't fail", "g z: canceled: within 12s"])
+
+
 def cancels_with_a_deadline(tries: Shared) -> None:
-    """The deadline of what is canceled is printed as the reports print it, beside a driver and
-    without one."""
+    """A cancel of all groups, which have a deadline, is printed with its reason, with a driver that
+    runs and without one."""
     for who in "", "driver":
         kind = f"a cancel of all groups, past {who or 'nobody'}"
         room = Room(tries, ["night: until 2035-01-01T05:30",
@@ -290,9 +357,17 @@ def cancels_with_a_deadline(tries: Shared) -> None:
             room.ended(run)
         tries.is_same(kind, room.path, (room.run("s", "--cancel", "night", "deadline 5;",
                                                  errors="errors2")), (
-            0, "night: done; deadline 2035-01-01 05:30; err context canceled; cause deadline 5;\n"))
+            0, "night: canceled: deadline 5;\n"))
         tries.is_same(f"{kind}: its end", room.path,
                       room.run()[0] if who else room.ended(run)[0], 1)
+    in_words = driver_module(tries, "canceling").in_words
+    for state, wanted in (
+            ("done; deadline none; err context canceled; cause no room", "canceled: no room"),
+            ("done; deadline 1795730400; err context canceled; cause x; y", "canceled: x; y"),
+            ("done; deadline 1795730400; err context deadline exceeded; cause within 2s",
+             "its deadline has passed: within 2s"),
+            ("canceled: too slow", "canceled: too slow")):
+        tries.is_same("a cancel in words", state, in_words(state), wanted)
 
 
 def helps(tries: Shared) -> None:
@@ -332,16 +407,16 @@ def cancels_alone(tries: Shared) -> None:
          " this command, by its file of commands"),
         (("s", "JOBS", "--cancel", "db/nowhere"), "db has no command nowhere"),
         (("s", "JOBS", "--cancel", "db/a"), "db a has ended: ok")]
-    for words, told in asked:
+    for words, why in asked:
         began = time.monotonic()
         tries.is_same(f"{kind}: {' '.join(words)}", room.path, (room.run(*words), room.errors),
-                      ((2, ""), f"night-run: {told}\n"))
-        tries.holds(f"{kind}: at once", words, time.monotonic() - began < 20)
-    for key, told in ("crm", ""), ("b", "night-run: db b still runs from the last run; the next one"
-                                        " stops it\n"):
+                      ((2, ""), f"night-run: {why}\n"))
+        tries.holds(f"{kind}: at once", words, is_within(began, 20))
+    lives = "night-run: db b still runs from the last run; the next one stops it\n"
+    for key, errors in ("crm", ""), ("b", lives):
         tries.is_same(f"{kind}: {key}", room.path, (
             room.run("s", "JOBS", "--cancel", f"db/{key}", "not", "now"), room.errors), (
-                (0, f"db/{key}: canceled: not now\n"), told))
+                (0, f"db/{key}: canceled: not now\n"), errors))
     status, output = room.run("s", "JOBS", "--grace", "1", seconds=40)
     tries.is_same(kind, room.path, (status, output.splitlines()), (1, [
         "db b: canceled: not now; s.out/db.b.0", "db crm: canceled: not now",
@@ -406,6 +481,21 @@ def summaries(tries: Shared) -> None:
                 and "s.ended" in room.text("alarm"), room.text("alarm"))
 
 
+# Files, words, and what a dry run says of the commands that can't begin at once.
+WAITS: list[tuple[list[str], tuple[str, ...], list[str]]] = [
+    (["g: limit 2", "g a true", "g b true", "g c true", "h a true"], (),
+     ["later g c: for the limit 2 of g"]),
+    (["g a true", "g b true", "g c true"], ("-j", "2"), ["later g c: for a place (-j 2)"]),
+    (["g: limit 9", "g a true", "g b true", "g c true"], ("--set", "g.limit=1", "--set", "j=1"),
+     ["later g b: for the limit 1 of g", "later g c: for the limit 1 of g"]),
+    (["night: pool tape 2", "g: uses tape 2", "g a true", "h b true", "h b: uses tape 1"], (),
+     ["later h b: for 1 of the pool tape, of which none is free"]),
+    (["g a true", "h b true", "h b: after g", "h c true", "h c: after ended g/a b", "h d true",
+      "h d: after failed g"], (),
+     ["later h b: after g", "later h c: after the end of g/a, the end of h/b",
+      "later h d: after a failure of g"])]
+
+
 def views(tries: Shared) -> None:
     kind = "views"
     room = Room(tries, [job("g", "a"), job("g", "b", end="; echo oh; exit 3"), job("g", "c"),
@@ -414,6 +504,13 @@ def views(tries: Shared) -> None:
     tries.is_same(f"{kind}: a dry run", room.path, ([it.partition(":")[0] for it in shown],
                                                     room.has("begun"), room.has("s")),
                   (["begin g a", "begin g b", "begin g d", "later g c"], False, False))
+    for lines, words, wanted in WAITS:
+        room.set(lines)
+        tries.is_same(f"{kind}: a dry run says what is waited for", (lines, words), [
+            it for it in room.run("s", "JOBS", "--dry-run", *words)[1].splitlines()
+            if it.startswith("later")], wanted)
+    room.set([job("g", "a"), job("g", "b", end="; echo oh; exit 3"), job("g", "c"),
+              "g c: after b", job("g", "d")])
     room.run()
     tries.is_same(f"{kind}: a list", room.path, room.run("s", "JOBS", "--list"), (
         0, "g b: exit 3\ng c: not started, because g/b failed\n"))
@@ -432,35 +529,42 @@ def views(tries: Shared) -> None:
         r"night-run \d+\.\d+\.\d+\n", room.run("--version")[1]))
 
 
+# What a retry waits for, without the hour.
+RETRY = "for its retry at HOUR, after exit 7"
+
+
+def without_hours(text: str) -> str:
+    return re.sub(r"\d\d:\d\d:\d\d", "HOUR", text)
+
+
 def looks(tries: Shared) -> None:
     """What is printed of a retry that is due, of what runs, and of what other words would do."""
     kind = "a look at a night that runs"
-    room = Room(tries, ["g: retries 1 wait 50s", "g a [ -e fine ] || exit 7", "g b until [ -e go ];"
+    room = Room(tries, ["g: retries 1 wait 1h", "g a [ -e fine ] || exit 7", "g b until [ -e go ];"
                         " do sleep 0.1; done", "g c true", "g c: after a", "h d false"])
     run = room.start()
     room.until(lambda: len(room.lines("s.log")) == 3 and room.has("s.out/g.b.0"))
     tries.is_same(f"{kind}: a list", room.path, room.run("s", "JOBS", "--list", errors="errors2"), (
         0, "g a: waiting: a retry after exit 7\ng b: running\ng c: waiting\nh d: exit 1\n"))
-    tries.is_same(f"{kind}: a dry run", room.path,
-                  room.run("s", "JOBS", "--dry-run", errors="errors2"), (
-                      0, "later g a: a retry after exit 7\nrunning g b\nlater g c\n"
-                      "failed h d: exit 1\n"))
+    status, output = room.run("s", "JOBS", "--dry-run", errors="errors2")
+    tries.is_same(f"{kind}: a dry run", room.path, (status, without_hours(output)), (
+        0, f"later g a: {RETRY}\nrunning g b\nlater g c: after g/a\nfailed h d: exit 1\n"))
     kill([run.pid], which=signal.SIGTERM)
     room.ended(run)
     room.write("go", "")
     fresh = ["begin g a: [ -e fine ] || exit 7", "begin g b: until [ -e go ]; do sleep 0.1; done",
-             "begin h d: false", "later g c"]
+             "begin h d: false", "later g c: after g/a"]
     rest = ["begin g b: until [ -e go ]; do sleep 0.1; done",
-            "later g a: a retry after exit 7", "later g c", "failed h d: exit 1"]
-    both = ["night 1, the rest of it:", *rest, "night 2:", "later g a", "later g b", "later g c",
-            "later h d"]
+            f"later g a: {RETRY}", "later g c: after g/a", "failed h d: exit 1"]
+    both = ["night 1, the rest of it:", *rest, "night 2:", *(
+        f"later {it}: after the rest of night 1" for it in ("g a", "g b", "g c", "h d"))]
     retried = ["begin g b: until [ -e go ]; do sleep 0.1; done", "begin h d: false",
-               "later g a: a retry after exit 7", "later g c"]
+               f"later g a: {RETRY}", "later g c: after g/a"]
     for words, wanted in ((), rest), (("--nightly",), both), (("--again",), fresh), (
             ("--failed",), retried):
         status, output = room.run("s", "JOBS", "--dry-run", *words)
         tries.is_same(f"{kind}: a dry run {' '.join(words)}", room.path,
-                      (status, output.splitlines()), (0, wanted))
+                      (status, without_hours(output).splitlines()), (0, wanted))
     room.set(["g a true", "g b true"])
     tries.is_same(f"{kind}: its end", room.path, room.run("s", "JOBS")[0], 1)
     status, output = room.run("s", "JOBS", "--dry-run", "--nightly")
@@ -588,10 +692,14 @@ def astray(tries: Shared) -> None:
                       ((status, ""), f"night-run: {why}\n"))
         tries.is_same("astray: nothing is made", words, sorted(os.listdir(room.path)),
                       ["JOBS", "bytes", "errors", "null"])
-    for words in UNUSABLE:
+    for words, part in UNUSABLE:
         room = Room(tries, ["g a true"])
-        tries.is_same("unusable words", words, (room.run(*words), room.errors.split(" ")[0]),
-                      ((2, ""), "usage:"))
+        found = room.run(*words)
+        tries.is_same("unusable words", words, (
+            found, room.errors[:11], part in room.errors, room.errors.count("\n"),
+            room.errors.endswith(MORE)), ((2, ""), "night-run: ", True, 1, True))
+    done = subprocess.run([tries.driver], capture_output=True, text=True, check=False)
+    tries.is_same("no words", "", (done.returncode, done.stderr.split(" ")[0]), (2, "usage:"))
     room = Room(tries, ["disk: limit 1", "disks: limit 1", "disks a true", "disks b: timeout 1s"])
     tries.is_same("a group with no command", room.path, (room.run()[0], room.errors), (
         0, "night-run: JOBS: line 1: the group disk has no command\n"
@@ -605,7 +713,7 @@ def keys(tries: Shared) -> None:
     soon = "night-run: no more commands are started; Ctrl-C again stops those that run\n"
     cut = [f"night-run: g k{it}: interrupted\n" for it in range(2)]
     both = ["g k0: interrupted", "g k1: interrupted"]
-    for kind, signals, told, wanted in (
+    for kind, signals, errors, wanted in (
             ("Ctrl-C", [signal.SIGINT], soon,
              [*left, "4 commands: 2 ok, 2 left; 2 run this time"]),
             ("Ctrl-C twice", [signal.SIGINT] * 2, soon + "".join(cut),
@@ -620,7 +728,7 @@ def keys(tries: Shared) -> None:
             time.sleep(0.1)
         status, output = room.ended(run)
         tries.is_same(kind, room.path, (status, output.splitlines(), sorted(
-            room.errors.splitlines(True))), (1, wanted, sorted(told.splitlines(True))))
+            room.errors.splitlines(True))), (1, wanted, sorted(errors.splitlines(True))))
         tries.is_same(f"{kind}: listed", room.path, room.run("s", "JOBS", "--list"),
                       (0, "".join(f"{it}\n" for it in wanted[:-1])))
         tries.is_same(f"{kind}: run again", room.path, (room.run()[0], set(room.lines("done"))),
@@ -631,9 +739,9 @@ def keys(tries: Shared) -> None:
 def terminals(tries: Shared) -> None:
     """A line of progress, on a terminal alone, and no wider than that."""
     room = Room(tries, [job("g", "a"), job("g", "b", end="; exit 3")])
-    told = on_a_terminal(room)
+    shown = on_a_terminal(room)
     tries.holds("progress on a terminal", room.path,
-                told.endswith("\r\x1b[K2 of 2 done, 0 running, 1 failed\r\x1b[K"), told)
+                shown.endswith("\r\x1b[K2 of 2 done, 0 running, 1 failed\r\x1b[K"), shown)
     tries.is_same("progress: none into a file", room.path, (room.run()[0], room.errors), (1, ""))
 
 
@@ -644,16 +752,16 @@ def on_a_terminal(room: Room) -> str:
                           stdin=subprocess.DEVNULL, stdout=subprocess.DEVNULL,
                           start_new_session=True, env={**os.environ, "NIGHT": room.night}):
         os.close(its)
-        told = b""
+        shown = b""
         while True:
             try:
-                told += os.read(ours, 4096)
+                shown += os.read(ours, 4096)
             except OSError:
                 break
     os.close(ours)
-    return told.decode()
+    return shown.decode()
 
 
 SETTINGS = [cleanups, retries, timeout, places, shells, cancels, cancels_alone,
-            cancels_with_a_deadline, helps, after, stop_on_failure, limits, summaries, views, looks,
-            failed, missed, nightly, astray, keys, terminals]
+            deadlines_after_the_end, cancels_with_a_deadline, helps, after, stop_on_failure, limits,
+            summaries, views, looks, failed, missed, nightly, astray, keys, terminals]

@@ -12,9 +12,10 @@ import subprocess
 import time
 from collections.abc import Callable, Iterator
 from contextlib import contextmanager
+from functools import partial
 
 from driver_plan import driver_module
-from driver_room import Room, Shared, environments, hit, job, kill
+from driver_room import Room, Shared, environments, hit, job, kill, says
 
 # A command that waits until it may end, and how it ends then; what it is called for says which.
 WAITS = "echo {0} >> begun; until [ -e go ]; do sleep 0.05; done; echo {0} >> done"
@@ -66,7 +67,7 @@ def outlived(tries: Shared) -> None:
             status, output = room.run("s", "JOBS", "--grace", "1")
         else:
             run = room.start("s", "JOBS", "--grace", "1")
-            room.until(lambda room=room: "still runs" in room.text("errors"))
+            room.until(partial(says, room, "still runs"))
             room.write("go", "")
             status, output = room.ended(run)
         shown = {it.split(":")[0][2:]: it.split(": ")[1].split(";")[0]
@@ -177,7 +178,7 @@ def of_its_shell(tries: Shared) -> None:
     shell = [*shells(room)]
     tries.is_same(f"{kind}: there is one", room.path, len(shell), 1)
     kill(shell)
-    run = room.start("s", "JOBS", "--grace", "3")
+    run = room.start("s", "JOBS", "--grace", "60")
     tries.holds(f"{kind}: it is begun again", room.path,
                 room.until(lambda: len(room.lines("begun")) == 2))
     tries.is_same(f"{kind}: these are two tries", room.path, counted(room),
@@ -185,6 +186,14 @@ def of_its_shell(tries: Shared) -> None:
     room.write("go", "")
     tries.is_same(kind, room.path, (room.ended(run), room.begun(), room.lines("beside")),
                   ((0, "1 command: 1 ok; 1 run this time\n"), {"g.a": 2}, []))
+
+
+def has_begun(room: Room, name: str) -> bool:
+    return name in room.lines("begun")
+
+
+def has_no_shell(room: Room) -> bool:
+    return not any(shells(room))
 
 
 def shells(room: Room) -> Iterator[int]:
@@ -256,7 +265,7 @@ def keeps(tries: Shared) -> None:
                                   " (trap '' TERM; exec sleep 67) & until [ -e go ]; do sleep 0.05;"
                                   " done; exit 3"])
         room.write("go", "")
-        room.until(lambda room=room: not list(shells(room)))
+        room.until(partial(has_no_shell, room))
         tries.is_same(kind, room.path, (room.last("s", "JOBS", "--grace", "1"), room.begun()),
                       ((1, "1 command: 1 failed; 1 run this time"), {"g.a": 1}))
         there = any("sleep\x0067" in it for it in environments(room.path))
@@ -325,7 +334,7 @@ def of_others(tries: Shared) -> None:
             room.set([job("g", "b"), *(job("g", f"c{it}") for it in range(9)), waiting("g", "a")])
         os.remove(f"{room.path}/go")
         run = room.start("s", "JOBS")
-        room.until(lambda room=room: "g.a" in room.lines("begun"))
+        room.until(partial(has_begun, room, "g.a"))
         hit(run, "both")
         room.ended(run)
         has_settled(room, kind)
@@ -486,6 +495,26 @@ def on_full_disk(tries: Shared, kind: str, part: Callable[[Room], None], size: s
         part(room)
 
 
+def fails_on_full_disk(tries: Shared) -> None:
+    """A command that fails while the disk of its output is full can't print why. The driver prints
+    that, once, and nothing about it while there is room."""
+    kind = "a command that fills the disk of its output"
+    line = ("s.out: its disk is full, so commands may have failed because of that, and what they"
+            " printed may be cut off\n")
+
+    def part(room: Room) -> None:
+        room.set([job("g", "first"), "g b exit 3"])
+        tries.is_same(f"{kind}: there is room", room.path, (
+            room.run("m/s", "JOBS", "--quiet")[0], room.errors), (1, ""))
+        room.set([job("g", "first"), "g b yes", "g c sleep 1; echo lost; exit 3",
+                  "g c: after ended b"])
+        status, output = room.run("m/s", "JOBS", "--again", "--quiet")
+        tries.is_same(kind, room.path, (status, room.errors.count(line), output.splitlines()[-1]), (
+            1, 1, "3 commands: 1 ok, 2 failed; 3 run this time"))
+
+    on_full_disk(tries, kind, part, "10m")
+
+
 def never_began(tries: Shared) -> None:
     """While the disk is full nothing begins, and nothing has failed by that; later all begins, and
     what runs then is known to the next driver."""
@@ -498,9 +527,9 @@ def never_began(tries: Shared) -> None:
                   "g z " + once.format("z", "until [ -e go ]; do sleep 0.1; done")])
         fill(f"{room.path}/m")
         run = room.start("m/s", "JOBS", "-j", "4", "--grace", "2")
-        told = "/s.tries: No space left on device: commands are started later\n"
+        line = "/s.tries: No space left on device: commands are started later\n"
         tries.holds(f"{kind}: the file is named", room.path,
-                    room.until(lambda: told in room.text("errors"), 30), room.text("errors"))
+                    room.until(lambda: line in room.text("errors"), 30), room.text("errors"))
         time.sleep(2)
         tries.is_same(f"{kind}: nothing begins", room.path, room.begun(), {"g.first": 1})
         tries.holds(f"{kind}: the plan of the run before says nothing", room.path,
@@ -522,6 +551,47 @@ def never_began(tries: Shared) -> None:
     on_full_disk(tries, kind, part)
 
 
+def full_and_set_back(tries: Shared) -> None:
+    """A run that has to replace the store, because the machine's clock was set back, waits for room
+    on a full disk."""
+    kind = "a disk that is full as a store is replaced"
+
+    def part(room: Room) -> None:
+        waits = "echo {0} >> begun; until [ -e go ]; do sleep 0.1; done"
+        room.set([job("g", "first"), f"g a {waits.format('g.a')}", "g b echo g.b >> begun",
+                  "g b: after a"])
+        run = room.start("m/s", "JOBS")
+        room.until(lambda: "g.a" in room.lines("begun"))
+        hit(run, "all")
+        room.ended(run)
+        room.settle()
+        ran = tries.run("script", f"{room.path}/m/s",
+                        lines=[f"advance {int(time.time()) + 86_400}", "flush"])
+        tries.is_same(f"{kind}: its clock is ahead", room.path, ran.status, 0)
+        fill(f"{room.path}/m")
+        room.write("go", "")
+        for room_left in (0, 1 << 16):
+            # (a little room is enough for STORE.ended, and not for a store)
+            if room_left:
+                os.truncate(f"{room.path}/m/hog", os.path.getsize(f"{room.path}/m/hog") - room_left)
+            run = room.start("m/s", "JOBS", "--quiet")
+            tries.holds(f"{kind}: it waits", (room.path, room_left), room.until(
+                lambda: re.search("No space left on device.*: commands are started later",
+                                  room.text("errors")), 30), room.text("errors"))
+            time.sleep(2.5)
+            tries.is_same(f"{kind}: that is said once", (room.path, room_left),
+                          (room.text("errors").count("later"), run.poll()), (1, None))
+            if not room_left:
+                kill([run.pid], which=signal.SIGTERM)
+                tries.is_same(f"{kind}: a signal ends it", room.path, room.ended(run)[0], 3)
+        os.remove(f"{room.path}/m/hog")
+        status, output = room.ended(run)
+        tries.is_same(kind, room.path, (status, output, room.begun()),
+                      (0, "", {"g.first": 1, "g.a": 2, "g.b": 1}))
+
+    on_full_disk(tries, kind, part, "16m")
+
+
 def full_at_first(tries: Shared) -> None:
     """A night that begins while the disk is full waits for room."""
     kind = "a disk that is full from the first moment"
@@ -532,14 +602,14 @@ def full_at_first(tries: Shared) -> None:
         shutil.rmtree(f"{room.path}/m/s.tries", ignore_errors=True)
         fill(f"{room.path}/m")
         run = room.start("m/s", "JOBS")
-        told = "/s.tries: No space left on device: commands are started later\n"
+        line = "/s.tries: No space left on device: commands are started later\n"
         tries.holds(f"{kind}: it waits", room.path,
-                    room.until(lambda: told in room.text("errors"), 30), room.text("errors"))
+                    room.until(lambda: line in room.text("errors"), 30), room.text("errors"))
         os.kill(run.pid, signal.SIGTERM)
         room.ended(run)
         run = room.start("m/s", "JOBS", "--quiet", "--on-failure", "cat > alarm")
-        tries.holds(f"{kind}: told with --quiet, too", room.path,
-                    room.until(lambda: told in room.text("errors"), 30), room.text("errors"))
+        tries.holds(f"{kind}: with --quiet, too", room.path,
+                    room.until(lambda: line in room.text("errors"), 30), room.text("errors"))
         os.kill(run.pid, signal.SIGTERM)
         status, alarm = room.ended(run)[0], "".join(
             it for it in room.lines("alarm") if it.startswith("commands couldn't be started: "))
@@ -585,7 +655,7 @@ def nights(run: subprocess.Popen[str]) -> list[int]:
 
 def torn_far(tries: Shared) -> None:
     """A line of STORE.far that a full disk cuts off is none, and its command hasn't begun."""
-    kind = "a disk that is full amid a line of STORE.far"
+    kind = "a disk that is full in the middle of a line of STORE.far"
 
     def part(room: Room) -> None:
         group = "g" * 20
@@ -633,4 +703,5 @@ def renewed_badly(tries: Shared) -> None:
 
 TRIES = [outlived, counted_once, began_then, outlived_twice, of_its_shell, passed_meanwhile,
          many_left, limited, keeps, cut_off, of_others, forged, another_process, given,
-         full_at_first, never_began, ends_on_full_disk, torn_far, renewed_badly]
+         full_at_first, full_and_set_back, fails_on_full_disk, never_began, ends_on_full_disk,
+         torn_far, renewed_badly]

@@ -9,7 +9,7 @@ import signal
 import time
 
 from driver_cases import small_store
-from driver_room import Room, Shared, environments, job, kill
+from driver_room import Room, Shared, environments, is_within, job, kill
 from nights_room import copied
 
 # Stands for `night`: a renewal takes a while.
@@ -44,7 +44,7 @@ def long_renewal(tries: Shared) -> None:
     asked = time.monotonic()
     status = room.ended(run)[0]
     tries.holds(f"{kind}: a signal is heard", room.path, status == 1
-                and time.monotonic() - asked < 40, (status, time.monotonic() - asked, room.errors))
+                and is_within(asked, 40), (status, time.monotonic() - asked, room.errors))
     room.night = tries.program
     status, last = room.last("s", "JOBS", "--list")
     tries.is_same(f"{kind}: the store is whole", room.path, status, 0)
@@ -88,10 +88,10 @@ def dead_mounts(tries: Shared) -> None:
     room = Room(tries, ["g a true"])
     room.before = before
     os.rename(f"{room.path}/JOBS", f"{room.path}/dead")
-    found = room.run("s", "dead", "--on-failure", "cat > told", driver=driver, seconds=30)
+    found = room.run("s", "dead", "--on-failure", "cat > summary", driver=driver, seconds=30)
     said = "night-run: dead: it can't be read within 2 s: does its mount answer?\n"
     tries.is_same(f"{kind}: the file of commands", room.path, (found, room.errors,
-                                                               room.text("told")),
+                                                               room.text("summary")),
                   ((3, ""), said, said))
 
 
@@ -121,7 +121,8 @@ def unset_clock(tries: Shared) -> None:
     status, output = room.ended(run)
     tries.holds(kind, room.path, "canceled" not in output and room.lines("begun")[-1] == "g.c",
                 (status, output))
-    tries.holds(f"{kind}: told", room.path, "clock shows 2000-01-01" in room.errors, room.errors)
+    tries.holds(f"{kind}: it is printed", room.path, "clock shows 2000-01-01" in room.errors,
+                room.errors)
     tries.is_same(f"{kind}: its deadline", room.path, re.findall(
         r"^scope \d+ g .*deadline (\d+)", room.shown(), re.M), deadline)
 

@@ -141,8 +141,8 @@ class Engine:
         return "" if os.geteuid() == 0 else "this wants root"
 
     def version(self) -> str:
-        told = subprocess.run(self.about, capture_output=True, text=True, env=self.environment())
-        return (told.stdout + told.stderr).splitlines()[0]
+        found = subprocess.run(self.about, capture_output=True, text=True, env=self.environment())
+        return (found.stdout + found.stderr).splitlines()[0]
 
     def environment(self) -> dict[str, str]:
         return {**os.environ, **self.given, "PATH": PATH}
@@ -240,13 +240,13 @@ class Sshd(Engine):
                             "-f", f"{self.folder}/{name}"], check=True)
         shutil.copy(f"{SCRIPTS}/guard", self.folder)
         with open(f"{SCRIPTS}/guard", encoding="utf-8") as file:
-            told = file.read().partition('command="')[2].partition('"')[0]
-        told = told.replace("/usr/local/bin", self.folder)
+            command = file.read().partition('command="')[2].partition('"')[0]
+        command = command.replace("/usr/local/bin", self.folder)
         if not self.is_guarded:
             self.write("guard", '#!/bin/sh\nexec sh -c "${SSH_ORIGINAL_COMMAND#* }"\n')
         os.chmod(f"{self.folder}/guard", 0o755)
         with open(f"{self.folder}/key.pub", encoding="utf-8") as file:
-            self.write("keys", f'command="export HOME={self.folder}; {told}" {file.read()}')
+            self.write("keys", f'command="export HOME={self.folder}; {command}" {file.read()}')
         with open(f"{self.folder}/host.pub", encoding="utf-8") as file:
             self.write("known", f"far {file.read()}")
         self.has_made = not os.path.isdir("/run/sshd")
@@ -306,9 +306,9 @@ class Slurm(Engine):
         assert until(self.is_up, 60), "Slurm's nodes aren't idle"
 
     def is_up(self) -> bool:
-        told = subprocess.run(["sinfo", "-h", "-N", "-o", "%t"], capture_output=True, text=True,
+        found = subprocess.run(["sinfo", "-h", "-N", "-o", "%t"], capture_output=True, text=True,
                               env=self.environment())
-        return told.stdout.split() == ["idle", "idle"]
+        return found.stdout.split() == ["idle", "idle"]
 
     def is_down(self, is_so: bool) -> None:
         if is_so:
@@ -319,9 +319,9 @@ class Slurm(Engine):
 
     def tend(self) -> None:
         # (a node that couldn't begin or end a job is drained)
-        told = subprocess.run(["sinfo", "-h", "-N", "-o", "%T"], capture_output=True, text=True,
+        found = subprocess.run(["sinfo", "-h", "-N", "-o", "%T"], capture_output=True, text=True,
                               env=self.environment())
-        if "drain" in told.stdout:
+        if "drain" in found.stdout:
             subprocess.run(["scontrol", "update", "NodeName=n1,n2", "State=RESUME"],
                            capture_output=True, env=self.environment())
 
@@ -379,9 +379,9 @@ exec /lib/systemd/systemd --user --log-target=console
         assert until(self.is_up, 20), "systemd doesn't answer"
 
     def is_up(self) -> bool:
-        told = subprocess.run(["systemctl", "--user", "is-active", "default.target"],
+        found = subprocess.run(["systemctl", "--user", "is-active", "default.target"],
                               capture_output=True, text=True, env=self.environment())
-        return told.stdout == "active\n"
+        return found.stdout == "active\n"
 
     def close(self) -> None:
         super().close()

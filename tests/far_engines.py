@@ -130,9 +130,9 @@ def session(line: socket.socket) -> None:
     asked = b""
     while not asked.endswith(b"\0"):
         asked += line.recv(65536)
-    told = text(here("guard")).partition('command="')[2].partition('"')[0]
-    told = told.replace("/usr/local/bin/", here(""))
-    it = subprocess.Popen(["sh", "-c", f"{told}; exit"], stdin=subprocess.DEVNULL, cwd=here(""),
+    command = text(here("guard")).partition('command="')[2].partition('"')[0]
+    command = command.replace("/usr/local/bin/", here(""))
+    it = subprocess.Popen(["sh", "-c", f"{command}; exit"], stdin=subprocess.DEVNULL, cwd=here(""),
                           stdout=subprocess.PIPE, stderr=subprocess.STDOUT, env={
                               **os.environ, "HOME": here(""),
                               "SSH_ORIGINAL_COMMAND": asked[:-1].decode()})

@@ -31,12 +31,12 @@ from far_room import FarRoom, room_of, settings
 JOB = """#!/bin/sh
 exec 7>>"lock.$1" 2>/dev/null
 flock -n 7 || echo "$1 ${NIGHT_TRY:--} $$ beside 0 0" >> ran
-told() { echo "$key ${NIGHT_TRY:--} $$ $1 $(date +%s.%N 7>&-) $2" >> ran; }
+note() { echo "$key ${NIGHT_TRY:--} $$ $1 $(date +%s.%N 7>&-) $2" >> ran; }
 key=$1 n=0
-trap 'told stopped 143; exit 143' TERM
-told began -
+trap 'note stopped 143; exit 143' TERM
+note began -
 while [ $n -lt $2 ]; do n=$((n + 1)); sleep 0.1 7>&-; done
-told ended $3
+note ended $3
 exit $3
 """
 # Commands of each group: those that go on, those that fail and are tried again, those that are
@@ -67,8 +67,8 @@ class Ran:
 
 
 @dataclass
-class Told:
-    """What the looks into the store of a night showed, and what was done."""
+class Observed:
+    """What the inspections of a night's store showed, and what was done to it."""
 
     ends: dict[tuple[str, int], str] = field(default_factory=dict)
     oks: dict[str, float] = field(default_factory=dict)
@@ -116,7 +116,7 @@ class Night:
 
     def __init__(self, tries: Shared, room: FarRoom, kind: str, chance: random.Random) -> None:
         self.tries, self.room, self.kind, self.chance = tries, room, kind, chance
-        self.told = Told()
+        self.observed = Observed()
         kinds = [*OTHERS, *(room.real.hits() if room.real else [])]
         self.kills = kinds + chance.choices(kinds, k=KILLS - len(kinds))
         chance.shuffle(self.kills)
@@ -132,7 +132,7 @@ class Night:
             time.sleep(self.chance.uniform(0.5, 4))
             if self.run.poll() is not None:
                 last = (self.run.communicate()[0].splitlines() or [""])[-1]
-                self.told.statuses.append(self.run.returncode)
+                self.observed.statuses.append(self.run.returncode)
                 if not LAST.fullmatch(last):
                     self.start()
             elif self.kills:
@@ -160,11 +160,11 @@ class Night:
 
     def hit(self, what: str) -> None:
         """Kills something, or asks the driver to end."""
-        if not self.told.canceled and self.chance.random() < 0.3:
-            self.told.canceled = time.time()
+        if not self.observed.canceled and self.chance.random() < 0.3:
+            self.observed.canceled = time.time()
             self.room.run("s", "--cancel", "c", "not", "now", errors="errors2")
-            self.told.canceled = time.time() + 2
-        self.told.done[what] += 1
+            self.observed.canceled = time.time() + 2
+        self.observed.done[what] += 1
         below = children(self.run.pid)
         clients = [it for it in below if it not in nights_in(below)]
         if what in ("driver", "all"):
@@ -186,12 +186,12 @@ class Night:
         now = time.time()
         ended = {task: it for task, (_, it) in self.room.tasks().items()
                  if it not in ("running", "ready", "held", "interrupted")}
-        lost = {task: end for task, end in self.told.ends.items() if ended.get(task) != end}
+        lost = {task: end for task, end in self.observed.ends.items() if ended.get(task) != end}
         self.tries.is_same(f"{self.kind}: what was acked is kept", self.room.path, lost, {})
-        self.told.ends.update(ended)
+        self.observed.ends.update(ended)
         for (key, _), end in ended.items():
             if end == "success":
-                self.told.oks.setdefault(key, now)
+                self.observed.oks.setdefault(key, now)
 
     def judge(self) -> None:
         """Compares what ran with the store and the log."""
@@ -200,7 +200,7 @@ class Night:
         tries.is_same(f"{kind}: no key ran beside itself, by its lock", room.path,
                       [it for it in room.lines("ran") if " beside " in it], [])
         ends: dict[str, list[str]] = collections.defaultdict(list)
-        for (key, _), end in sorted(self.told.ends.items(), key=lambda it: it[0]):
+        for (key, _), end in sorted(self.observed.ends.items(), key=lambda it: it[0]):
             ends[key].append("0" if end == "success" else end.removeprefix("error "))
         for group, count in GROUPS.items():
             for at in range(count):
@@ -223,8 +223,8 @@ class Night:
         left = [it.status for it in ran]
         for end in ends:
             status = end.removeprefix("exit ")
-            if OF_SLURM.fullmatch(end) and status not in left and self.told.done["slurmctld"]:
-                self.told.given_up[end] += 1
+            if OF_SLURM.fullmatch(end) and status not in left and self.observed.done["slurmctld"]:
+                self.observed.given_up[end] += 1
             elif status.isdigit() and status != "255":
                 tries.holds(f"{kind}: an end of the store is that of a run", about,
                             status in left, end)
@@ -234,22 +234,22 @@ class Night:
                 pass
             else:
                 tries.holds(f"{kind}: an end that nobody brought about", about, False, end)
-        if key in self.told.oks:
+        if key in self.observed.oks:
             # (by ssh an earlier try that was on its way as the power failed may begin later)
-            when = self.told.oks[key] + SLACK
+            when = self.observed.oks[key] + SLACK
             last = max((int(it.tried) for it in ran if it.began <= when), default=0)
             last = last if kind.startswith("ssh") else 0
             tries.holds(f"{kind}: what is acked as ok doesn't run again", about,
                         all(it.began <= when or int(it.tried) < last for it in ran))
-        if key[0] == "c" and self.told.canceled:
+        if key[0] == "c" and self.observed.canceled:
             tries.holds(f"{kind}: what is canceled doesn't begin later", about,
-                        not ran or ran[-1].began <= self.told.canceled + 3)
+                        not ran or ran[-1].began <= self.observed.canceled + 3)
 
     def is_client(self) -> bool:
         """Whether what was killed has no other end: a client where nobody can be asked, or what it
         speaks with; the command, which systemd's client becomes; the script of a job."""
         its = {"ssh": ("client", "sshd's child"), "systemd-run": ("client",), "sbatch": ("alone",)}
-        return any(self.told.done[it] for it in its[self.kind.partition(":")[0]])
+        return any(self.observed.done[it] for it in its[self.kind.partition(":")[0]])
 
 
 def night(tries: Shared, way: str, seed: int, is_wrong: bool) -> None:
@@ -268,7 +268,7 @@ def night(tries: Shared, way: str, seed: int, is_wrong: bool) -> None:
         nodes = collections.Counter(re.findall(r" NodeList=(n\d) ", "\n".join(room.record())))
         print(f"{kind}, seed {seed}: {runs} runs of {sum(GROUPS.values())} commands in"
               f" {time.monotonic() - began:.0f} s; "
-              f"{', '.join(f'{count} {what}' for what, count in sorted(it.told.done.items()))}"
-              f"; failed by what slurmctld forgot: {dict(it.told.given_up)}"
+              f"{', '.join(f'{count} {what}' for what, count in sorted(it.observed.done.items()))}"
+              f"; failed by what slurmctld forgot: {dict(it.observed.given_up)}"
               f"; jobs by node: {dict(sorted(nodes.items()))}",
               flush=True)

@@ -28,4 +28,5 @@ class Batch:
         for reply, then in zip(replies, self.then):
             if then:
                 then(reply)
+        self.lines, self.then = [], []
         return int(replies[-1].split()[1])

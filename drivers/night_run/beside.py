@@ -281,11 +281,11 @@ class Umask:
     @contextlib.contextmanager
     def restored() -> Iterator[None]:
         """In it processes are begun with the caller's umask."""
-        os.umask(Umask.of_caller)
+        own = os.umask(Umask.of_caller)
         try:
             yield
         finally:
-            os.umask(0o077)
+            os.umask(own)
 
 
 # --- a folder and its files

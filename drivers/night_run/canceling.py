@@ -20,6 +20,7 @@ from . import Fault, Mistake, Name, cancels
 from .ends import canceled, text_of
 from .facts import book_of, facts_of
 from .files import Files
+from .guesses import no_command, no_group
 from .jobs import Jobs
 from .night import ALREADY_DONE, FULL, Session, refusal
 from .opening import advance, inspected, now_of, opened, withdraw
@@ -27,21 +28,21 @@ from .parsing import check_group, check_key
 from .past import read_past
 from .planner import Planner
 from .reading import Wrong, short
-from .report_words import moment
 from .rounds import Role, base_of, role_name
 from .settings import OF_ALL
 from .standing import CANCELLED
 from .state import JOB
+from .status_plan import names_of_plan
 from .strangers import keep_out
 from .telling import note
 from .tries import running_now
 
-BY_HAND = "canceled by hand"
+BY_HAND = "by hand"
 # How many seconds a driver has to obey.
 SECONDS = 60.0
 LOOK = 0.05
-# How the state of a scope that is done begins, with its deadline in seconds since 1970.
-DEADLINE = re.compile(r"^(done; deadline )([0-9]{1,12});")
+# The state of a scope that is done, as the store shows it.
+DONE = re.compile(r"done; deadline \S+; err context (canceled|deadline exceeded); cause (.+)")
 
 
 @dataclass(frozen=True)
@@ -82,12 +83,17 @@ def cancel(files: Files, jobs: str | None, word: str, *words: str) -> str:
     why = " ".join(words) or BY_HAND
     if text_of(why) != why:
         raise Mistake("WHY is 1 to 64 bytes of printable ASCII")
-    return f"{target}: {with_moment(cancelled(files, jobs, target, why))}"
+    return f"{target}: {in_words(cancelled(files, jobs, target, why))}"
 
 
-def with_moment(state: str) -> str:
-    """The state of a scope, with the moment of its deadline as the reports show it."""
-    return DEADLINE.sub(lambda it: f"{it[1]}{moment(int(it[2]))};", state)
+def in_words(state: str) -> str:
+    """The state of a scope as an operator reads it: why it was canceled first, or which deadline
+    had passed before."""
+    found = DONE.fullmatch(state)
+    if not found:
+        return state
+    how = "canceled" if found[1] == "canceled" else "its deadline has passed"
+    return f"{how}: {found[2]}"
 
 
 def cancelled(files: Files, jobs: str | None, target: Target, why: str) -> str:
@@ -98,9 +104,9 @@ def cancelled(files: Files, jobs: str | None, target: Target, why: str) -> str:
     end = time.monotonic() + SECONDS
     try:
         while time.monotonic() < end:
-            answer = cancels.answered(files, request)
+            answer = cancels.answered(files, request.name)
             if answer == cancels.NO_GROUP:
-                raise Mistake(f"{files.shown} has no group {target.group}")
+                raise Mistake(no_group(files.shown, target.group, names_of_plan(files)))
             if answer.startswith(cancels.REFUSED):
                 raise Mistake(answer.removeprefix(cancels.REFUSED))
             if answer:
@@ -110,7 +116,7 @@ def cancelled(files: Files, jobs: str | None, target: Target, why: str) -> str:
                 return Alone(files, jobs).cancel(target, why)
             time.sleep(LOOK)
     finally:
-        cancels.withdraw(files, request)
+        cancels.withdraw(files, request.name)
     if target.key:
         raise Fault(f"{target} was asked to end, and hasn't ended within {SECONDS:.0f} s")
     if files.lock.holder() is None:
@@ -134,7 +140,7 @@ class Alone:
         top = self.book.top
         scope = top if target.group == OF_ALL else self.book.scopes.get(target.group)
         if scope is None:
-            raise Mistake(f"{self.files.shown} has no group {target.group}")
+            raise Mistake(no_group(self.files.shown, target.group, names_of_plan(self.files)))
         if top and role_name(top.name, Role.ENDED) in self.state.by_name:
             raise Mistake(f"{self.files.shown}: night {self.night} has ended, and nothing of it is"
                           " left to cancel")
@@ -170,13 +176,13 @@ class Alone:
                           " cancels this command, by its file of commands")
         jobs = Jobs(self.jobs)
         if target.name not in jobs.all:
-            raise Mistake(cancels.no_command(target.group, target.key))
+            raise Mistake(no_command(target.group, target.key, jobs.all))
         facts = facts_of(self.state, self.past, {}, self.book, time.time(), {})
         found = Planner(jobs).standings(facts)[target.name]
         if found.phase == CANCELLED:
             return found.why
         if found.is_final:
-            raise Mistake(cancels.has_ended(target.group, target.key, found.why or found.phase))
+            raise Mistake(found.at_its_end(target.name))
         end, group = canceled(why), self.book.next_name(target.group)
         with self.opened() as session:
             withdraw(session, self.state)

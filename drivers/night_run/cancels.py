@@ -83,14 +83,6 @@ def is_key(group: str, key: str) -> str:
             f" cancel all of {group}, begin the reason with another word")
 
 
-def no_command(group: str, key: str) -> str:
-    return f"{group} has no command {key}"
-
-
-def has_ended(group: str, key: str, how: str) -> str:
-    return f"{group} {key} has ended: {how}"
-
-
 # --- the driver
 
 class Desk:
@@ -166,20 +158,21 @@ def ask(files: Files, group: str, key: str, why: str) -> Request:
     return made
 
 
-def answered(files: Files, request: Request) -> str:
-    """The answer to a request, which is removed together with it; empty if there is none yet."""
+def answered(files: Files, name: str, form: re.Pattern[str] = ANSWERED) -> str:
+    """The answer to the request of this name, by the form of its file; empty if there is none
+    yet."""
     try:
         with contextlib.closing(files.below(Part.CANCEL)) as folder:
-            text = folder.read(f"{request.name}{ANSWER}").decode("ascii", "replace")
+            text = folder.read(f"{name}{ANSWER}").decode("ascii", "replace")
     except FileNotFoundError:
         return ""
-    found = ANSWERED.fullmatch(text)
+    found = form.fullmatch(text)
     return found[1] if found else ""
 
 
-def withdraw(files: Files, request: Request) -> None:
-    """Removes a request, and its answer."""
+def withdraw(files: Files, name: str) -> None:
+    """Removes the request of this name, and its answer."""
     with contextlib.suppress(FileNotFoundError), \
             contextlib.closing(files.below(Part.CANCEL)) as folder:
-        folder.remove(request.name)
-        folder.remove(f"{request.name}{ANSWER}")
+        folder.remove(name)
+        folder.remove(f"{name}{ANSWER}")

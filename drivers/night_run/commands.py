@@ -25,7 +25,7 @@ from .means import NOTHING, Put, means
 from .mounts import Folders, NoAnswer
 from .processes import (boot, group_exists, groups_in, session_exists, session_lives, signal_groups,
                         signal_session, stat_of)
-from .telling import error_text, note_once
+from .telling import error_text, note_once, tell_once
 from .tries import Contents, Named, Tries, naming
 from .used import ASKING, PYTHON, Used, of_shell, printed
 
@@ -238,6 +238,7 @@ class Command(Running):
                 self.tries.forget(self.record)
             self.record = self.elsewhere = self.status = self.took = None
             self.pid = 0
+        look_for_room(self)
 
     def take_used(self, its: Contents) -> None:
         """Takes what the command took. Of one that runs elsewhere that is what it prints here, and
@@ -363,6 +364,14 @@ class Command(Running):
 
 # Those that commands run in.
 FOLDERS = Folders()
+
+
+def look_for_room(it: Command) -> None:
+    """Of a command that failed on a full disk: it may have had no room to print why."""
+    if it.status and it.tries and it.tries.files.outputs.are_full():
+        shown = it.tries.files.shown_of(Part.OUT)
+        tell_once(f"{shown}: its disk is full, so commands may have failed because of that, and"
+                  " what they printed may be cut off")
 
 
 def too_much(job: Job) -> End:

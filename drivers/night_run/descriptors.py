@@ -10,8 +10,8 @@ import resource
 
 from . import Fault
 
-# A night opens this many at a time, beside those of commands that an earlier driver left: folders and
-# files beside its store, and pipes to a `night` that begins.
+# A night opens this many at a time, besides those of commands that an earlier driver left: folders
+# and files beside its store, and pipes to a `night` that begins.
 NEEDED = 16
 
 

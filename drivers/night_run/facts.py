@@ -4,9 +4,10 @@ from __future__ import annotations
 
 import collections
 import datetime
+import re
 import time
 from collections.abc import Iterator, Mapping
-from dataclasses import dataclass, field
+from dataclasses import dataclass, field, replace
 
 from . import Name
 from .ends import End, Kind, canceled
@@ -18,6 +19,10 @@ from .state import ENDED, Scope, State, Task
 from .tonight import Tonight
 
 PASSED = "its deadline has passed"
+# A command that has failed this often has no retry left, whatever the file allows.
+MOST_FAILURES = 1000
+# The cause of a group whose deadline has passed; that of one that was canceled is another.
+OF_DEADLINE = re.compile(rf"(until|within) \S+$|{PASSED}$")
 
 
 @dataclass
@@ -33,7 +38,8 @@ class Facts:
     changed: set[Name] = field(default_factory=set)  # whose ends did since a planner got them
     day: datetime.date | None = None  # of the night; None if it makes no difference
     tonight: Tonight = field(default_factory=Tonight)  # what is wanted of the night
-    anew: set[str] = field(default_factory=set)  # groups that were done, and begin anew
+    reopened: set[str] = field(default_factory=set)  # groups that were done, and begin again
+    late: set[str] = field(default_factory=set)  # whose deadline passed after the night's end
 
     def ended(self, name: Name, end: End, now: float) -> None:
         """Takes in the end of a command."""
@@ -62,10 +68,15 @@ class Facts:
         self.interrupted.discard(name)
         self.changed.add(name)
 
-    def cancel_one(self, name: Name, cause: str, now: float) -> None:
-        """A command is canceled that never ran."""
-        self.ends[name], self.failed_at[name] = canceled(cause), now
-        self.changed.add(name)
+    def stay_canceled(self, causes: Mapping[Name, str], now: float) -> None:
+        """Commands stay canceled whose group begins again. One that had failed, with a retry left,
+        isn't tried again."""
+        for name, cause in causes.items():
+            if name not in self.ends:
+                self.ends[name], self.failed_at[name] = canceled(cause), now
+            elif not self.is_ok(name):
+                self.failures[name] = max(MOST_FAILURES, self.failures.get(name, 0))
+            self.changed.add(name)
 
     def left_out(self, name: Name) -> str:
         """By whom a command isn't to be begun any more; empty where it may be."""
@@ -81,6 +92,11 @@ class Facts:
 
     def cancel(self, group: str, cause: str) -> None:
         self.done.setdefault(group, cause)
+
+    def at_its_end(self) -> list[Facts]:
+        """The facts without the deadlines that passed after the night's end, if there are such."""
+        done = {group: why for group, why in self.done.items() if group not in self.late}
+        return [replace(self, done=done, changed=set())] if len(done) < len(self.done) else []
 
 
 @dataclass
@@ -103,6 +119,7 @@ class Book:
     day: datetime.date | None = None  # on which the night began, as far as it is known
     retried: set[int] = field(default_factory=set)
     tonight: Tonight = field(default_factory=Tonight)  # what is wanted of the night
+    ended: float | None = None  # when it ended first, if it has
 
     def set_deadline(self, base: str, scope: Scope, own: str | None, of_all: str | None) -> None:
         """Keeps which deadline a group is stopped by: at one moment that of all groups together
@@ -151,6 +168,7 @@ def book_of(state: State, past: Past, night: int) -> Book:
                 rounds=rounds, is_new=night > max(state.night() if state.scopes else 1, past.night))
     book.top = tops[-1] if tops else None
     book.day = next((day for it in tops if (day := state.day(it.name))), None)
+    book.ended = min((when for it in tops if (when := state.ended(it.name))), default=None)
     below = {it.number for it in state.scopes if state.night_of(it.number) == night}
     for scope in state.scopes:
         if scope.number in below and scope.kind == "cause" and base_of(scope.name) != OF_ALL:
@@ -208,28 +226,28 @@ def facts_of(state: State, past: Past, lines: Mapping[Tried, Line], book: Book, 
     for task, tried in numbered(state):
         if task.group in ours and not task.is_withdrawn and counts(facts, task.name, task.group):
             read_task(facts, task, lines.get(tried), now)
-    for name, cause in book.tonight.canceled.items():
-        if name not in facts.ends:
-            facts.cancel_one(name, cause, now)
+    facts.stay_canceled(book.tonight.canceled, now)
     for name, count in forgiven.items():
         left = facts.failures.get(name, 0) - count
         facts.failures[name] = max(0, left)
         if left <= 0 and not facts.is_ok(name):
             facts.ends.pop(name, None)
     read_done(facts, book, max(state.clock, now))
-    facts.anew = groups_anew(book, facts)
-    for group in facts.anew:
+    facts.reopened = reopened_groups(book, facts)
+    for group in facts.reopened:
         del facts.done[group]
+    facts.late -= facts.reopened
     return facts
 
 
-def groups_anew(book: Book, facts: Facts) -> set[str]:
-    """The groups that are done, and in which a command is to run again: they get another scope,
-    unless they have it already."""
+def reopened_groups(book: Book, facts: Facts) -> set[str]:
+    """The groups that were done as a command of them was to run again: they get another scope,
+    unless they have it already. One whose deadline has passed since then is done."""
     found = set()
     for (group, _), it in facts.tonight.redo.items():
         scope = book.scopes.get(group)
-        if group in facts.done and (scope is None or round_of(scope.name) < it.since):
+        is_old = scope is None or round_of(scope.name) < it.since
+        if it.is_reopened and is_old and group in facts.done:
             found.add(group)
     return found
 
@@ -274,10 +292,19 @@ def read_done(facts: Facts, book: Book, now: float) -> None:
     """Which groups are done, those whose deadline has passed by now among them."""
     facts.done.update(book.gone)
     for base, scope in book.scopes.items():
+        has_passed = scope.deadline is not None and scope.deadline <= now
         if scope.done:
             facts.cancel(base, scope.cause or "")
-        elif scope.deadline is not None and scope.deadline <= now:
+        elif has_passed:
             facts.cancel(base, book.deadlines.get(base, PASSED))
+        if has_passed and is_late(scope, facts.done[base], book):
+            facts.late.add(base)
+
+
+def is_late(scope: Scope, cause: str, book: Book) -> bool:
+    """Whether a deadline passed only after the end of its night, and so changes nothing."""
+    return (scope.deadline is not None and book.ended is not None
+            and scope.deadline > book.ended and bool(OF_DEADLINE.match(cause)))
 
 
 def when_ended(facts: Facts, lines: Mapping[Tried, Line], names: set[Name]) -> str:

@@ -30,6 +30,8 @@ from .telling import note_once
 MOST_NIGHTS = 30
 # How a command stands tonight that has no try, and has a cell all the same.
 STANDS = ("failed", "canceled", "not started", "interrupted", "running")
+# How one stands that was neither ok nor failed in the end.
+UNDONE = ("canceled", "not started", "interrupted")
 
 
 @dataclass(frozen=True)
@@ -93,6 +95,7 @@ class Night:
     seconds: float | None  # from then to the end of its last command
     commands: int  # that have a cell
     failed: int  # whose last try failed
+    undone: int  # that were canceled or interrupted, or never began
     tries: int
     output: int | None  # bytes that they printed
 
@@ -266,7 +269,8 @@ def cell_of(night: int, tries: Iterable[rows.Try]) -> Cell:
 def summed(number: int, began: float | None, seconds: float | None, its: list[Cell]) -> Night:
     outputs = [it.output for it in its if it.output is not None]
     return Night(number, began, seconds, len(its), sum(it.phase == "failed" for it in its),
-                 sum(it.tries for it in its), sum(outputs) if outputs else None)
+                 sum(it.phase in UNDONE for it in its), sum(it.tries for it in its),
+                 sum(outputs) if outputs else None)
 
 
 def total(its: Iterable[float | None]) -> float | None:

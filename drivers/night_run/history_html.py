@@ -16,7 +16,7 @@ from .report_html import Html, phase_class, tag
 from .report_style import STYLE
 from .report_words import span
 from .rows import PHASES
-from .used import size
+from .used import amount
 
 # A bar is so high at least that it is seen, in hundredths.
 LEAST = 4.0
@@ -28,7 +28,8 @@ def html(its: History) -> str:
                   '<meta name="viewport" content="width=device-width, initial-scale=1">'
                   '<meta http-equiv="Content-Security-Policy"'
                   " content=\"default-src 'none'; style-src 'unsafe-inline'\">")
-    body = [banner(its), tag("main", *sums(its), *sections(its)),
+    body = [banner(its), tag("main", *sums(its), *sections(its),
+                             style=f"--nights: {len(its.nights)}"),
             tag("footer", tag("p", f"As of {moment(its.now)}, by night-run.", class_="soft"))]
     style = tag("style", Html(STYLE + OWN))
     page = tag("html", tag("head", policy, tag("title", head(its)), style), tag("body", *body),
@@ -58,7 +59,7 @@ def sums(its: History) -> Iterator[Html]:
     charts = [
         sum_chart(its, "Time", lambda it: it.seconds, span, last.seconds),
         sum_chart(its, "Failures", lambda it: it.failed, lambda it: f"{it:.0f}", last.failed),
-        sum_chart(its, "Printed", lambda it: it.output, size, last.output)]
+        sum_chart(its, "Printed", lambda it: it.output, amount, last.output)]
     each = [tag("li", f"{it.number}: {moment(it.began)}, {night_said(it)}")
             for it in reversed(its.nights)]
     yield tag("section", tag("div", *charts, class_="sums"),

@@ -1,9 +1,11 @@
-"""How the page of a history looks, besides what it shares with that of a report."""
+"""How the page of a history looks, besides what it shares with that of a report. `--nights` is how
+many bars a chart has: a bar is 28 wide at most, so the median and the dates end where the bars do.
+"""
 
 STYLE = """
 .past .said { color: var(--soft); font-size: 14px; }
 .chart { display: flex; gap: 2px; align-items: flex-end; height: 56px; margin: 6px 0 2px;
-  max-width: 900px; position: relative; }
+  max-width: calc(30px * var(--nights)); position: relative; }
 .chart .night { flex: 1 1 0; min-width: 0; max-width: 28px; height: 100%; display: flex;
   flex-direction: column; justify-content: flex-end; background: var(--track);
   border-radius: 2px; padding-top: 7px; }
@@ -17,8 +19,8 @@ STYLE = """
 .legend .again { background: linear-gradient(var(--canceled) 0 3px, var(--track) 3px 5px,
   var(--ok) 5px); }
 .legend .median { height: 0; border-top: 1px dashed var(--ink); vertical-align: 4px; }
-.ends { display: flex; justify-content: space-between; max-width: 900px; font-size: 12px;
-  color: var(--soft); }
+.ends { display: flex; justify-content: space-between; font-size: 12px; color: var(--soft);
+  max-width: max(160px, 30px * var(--nights)); }
 .sums { display: grid; grid-template-columns: repeat(auto-fit, minmax(300px, 1fr)); gap: 4px 24px; }
 .listed { font-size: 14px; margin: 8px 0 0; padding: 0 0 0 18px; }
 :root { --lost: #f9dcdc; }

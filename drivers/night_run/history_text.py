@@ -6,7 +6,7 @@ from collections.abc import Iterator
 
 from .escapes import plain
 from .history import Cell, Command, History
-from .history_words import head, moment, night_said, period, said
+from .history_words import head, moment, night_said, period, said, used_said
 from .report_text import headed, wrapped
 
 # A mark for each night of a command; one that was ok after a failure has its own.
@@ -44,6 +44,8 @@ def command(its: History, it: Command) -> Iterator[str]:
     yield from wrapped(f"{it.group} {it.key}: {said(it)}")
     if it.cells:
         yield f"  {marks(its, it)}"
+    if it.tonight and (figures := used_said(it.tonight)):
+        yield from wrapped(f"  tonight: {figures}")
 
 
 def marks(its: History, it: Command) -> str:

@@ -6,7 +6,7 @@ import time
 
 from .history import Cell, Command, History, Night
 from .report_words import commands, span
-from .used import size
+from .used import Used, amount, in_words
 
 
 def head(its: History) -> str:
@@ -57,17 +57,24 @@ def tonight(it: Command) -> list[str]:
 
 
 def cell_said(it: Cell, of: Night | None) -> str:
-    """A night of a command: `night 3, 2026-11-24: ok in 1h02m, 2 tries`."""
+    """A night of a command: `night 3, 2026-11-24: ok in 1h02m, 2 tries`, and what they took."""
     when = f", {day(of.began)}" if of and of.began is not None else ""
     took = f" in {span(it.seconds)}" if it.seconds is not None else ""
     end = it.end if it.phase == "failed" and it.end else it.phase
     tries = f", {it.tries} tries" if it.tries > 1 else ""
-    return f"night {it.night}{when}: {end}{took}{tries}"
+    figures = used_said(it)
+    return f"night {it.night}{when}: {end}{took}{tries}" + (f"; {figures}" if figures else "")
+
+
+def used_said(it: Cell) -> str:
+    """What the tries of a night took: `12s of processor time, 1.3G of memory, 4.2K printed`."""
+    return ", ".join(in_words(Used(it.cpu, it.memory, it.output)))
 
 
 def night_said(it: Night) -> str:
     """A night as a whole: `2 of 60 commands failed, 4h10m, 1.2G printed`."""
     found = [f"{it.failed} of {commands(it.commands)} failed" if it.failed else
              f"{commands(it.commands)}, none failed"]
+    found += [f"{it.undone} not done"] if it.undone else []
     found += [] if it.seconds is None else [span(it.seconds)]
-    return ", ".join([*found, *([] if it.output is None else [f"{size(it.output)} printed"])])
+    return ", ".join([*found, *([] if it.output is None else [f"{amount(it.output)} printed"])])

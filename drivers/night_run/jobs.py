@@ -204,7 +204,8 @@ class Jobs:
             timeout.seconds if timeout else None, timeout.text if timeout else "",
             first(every, lambda it: it.folder),
             tuple({name: value for it in reversed(every)
-                   for name, value in (it.secrets | it.env).items()}.items()), any(it.keeps for it in every), group.way,
+                   for name, value in (it.secrets | it.env).items()}.items()),
+            any(it.keeps for it in every), group.way,
             () if group.way.via else (
                 first(every, lambda it: it if it.shell else None) or Settings()).shell,
             None if group.way.via else first(every, lambda it: it.user),
@@ -244,9 +245,11 @@ class Jobs:
         if slash and (where, key) in texts:
             return where, key
         if (group, word) in texts and is_group:
-            self.mistakes.add(at, f"after {word}: it is a group, and a key of {group};"
-                                  f" {group}/{word} is the key")
-        elif not is_group and (group, word) not in texts \
+            self.mistakes.add(at, f"after {word}: it is a group, and a key of {group}: write"
+                                  f" {group}/{word} for the key; to name the group, rename the key")
+            # (if it were taken for the key, a command of this key would wait for itself)
+            return word if word != group else (group, word)
+        if not is_group and (group, word) not in texts \
                 and not self.parsed.is_misread(group, word):
             self.mistakes.add(at, f"after {short(word)}: no such key of {group}, and no such group")
         return (group, word) if (group, word) in texts else word

@@ -31,10 +31,11 @@ from .night import WHOLE_SECONDS, of_session
 from .past import Past
 from .processes import (NO_COMMAND, PID, START, Process, Tried, age, boot, session_exists, is_held,
                         kill_ours, lives, ours_in, signal_session, signal_ours, stat_of)
-from .rounds import base_of
+from .rounds import base_of, round_of
 from .settings import OF_ALL
 from .state import State
 from .telling import note, note_once
+from .tonight import Again
 from .tries import Contents, Named, Tries, contents_of
 
 LINE = re.compile(rf"([a-z0-9_-]{{1,32}}) ([a-z0-9_-]{{1,32}}) ([0-9]{{1,6}}) (\S+) {PID} {START}")
@@ -165,6 +166,7 @@ class Leftovers:
 
     def __init__(self, files: Files, jobs: Jobs, tries: Tries, its: list[Leftover]) -> None:
         self.files, self.jobs, self.tries, self.its = files, jobs, tries, its
+        self.again: Mapping[Name, Again] = {}  # what is to run again, whatever came of it
 
     def __iter__(self) -> Iterator[Leftover]:
         return iter(list(self.its))
@@ -190,14 +192,17 @@ class Leftovers:
     def there(self) -> list[Leftover]:
         return [it for it in self.its if it.is_there()]
 
-    def settle(self, state: State, past: Past, ours: Container[str]) -> None:
+    def settle(self, state: State, past: Past, ours: Container[str],
+               again: Mapping[Name, Again]) -> None:
         """Drops those that are over and whose ends are recorded, or count for nothing. The end of
-        one counts where its group is one of these, of this night, and its store is this one."""
-        its, self.its = self.its, []
+        one counts where its group is one of these, of this night, its store is this one, and its
+        command isn't to run again since then."""
+        its, self.its, self.again = self.its, [], again
         for it in its:
             since = it.contents.since
             it.counts = it.record is not None and it.it.group in ours and since is not None \
-                and (since <= state.count or past.is_of_a_store_made_anew)
+                and (since <= state.count or past.is_of_a_replaced_store) \
+                and not self.is_to_run_again(it.it)
             is_over = not it.is_here
             if it.record and (not it.counts or is_recorded(it.it, state, past)):
                 if is_over:
@@ -208,6 +213,10 @@ class Leftovers:
             # (a command that isn't in the file now may be there again)
             if not is_over or it.job is not None:
                 self.its.append(it)
+
+    def is_to_run_again(self, it: Named) -> bool:
+        """Whether the command of a try is to run again since then, so that its end says nothing."""
+        return it.name in self.again and round_of(it.group) < self.again[it.name].since
 
     def take_up(self, far: Far, state: State, past: Past, ours: Container[str],
                 inherited: Mapping[str, str]) -> None:
@@ -223,7 +232,7 @@ class Leftovers:
             left = next((one for one in self.its if one.it == it), None)
             if left is None:
                 left = Leftover(it, self.files.path, job)
-                left.counts = counts and it.group in ours
+                left.counts = counts and it.group in ours and not self.is_to_run_again(it)
                 self.its.append(left)
                 note(f"{' '.join(name)} may still run elsewhere: {it}")
             given = Command(job, it.group, it.number, -1, "").environment(

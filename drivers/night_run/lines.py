@@ -5,10 +5,10 @@
                      GROUP and KEY, or below another one with +
     # ..             a comment; it is ignored, and so is an empty line
 
-A line ends with a line feed, before which a carriage return may stand. A line that an editor would
-show otherwise than it is read is a mistake: one with a carriage return in its middle, or with a
-backslash at its end. (In a command of several lines the shell reads a backslash at the end of a
-line, but for the last.)
+A file may begin with a mark of its byte order, as some editors put it there. A line ends with a
+line feed, before which a carriage return may stand. A line that an editor would show otherwise than
+it is read is a mistake: one with a carriage return in its middle, or with a backslash at its end.
+(In a command of several lines the shell reads a backslash at the end of a line, but for the last.)
 
 An included file is a regular one, and is to be trusted as the file of commands itself is. No file
 is read twice, so none includes itself.
@@ -16,6 +16,7 @@ is read twice, so none includes itself.
 
 from __future__ import annotations
 
+import codecs
 import errno
 import os
 import re
@@ -35,7 +36,7 @@ NO_SPACE = "a space stands after the +, as in + cd /srv"
 # How many seconds a file may take to be read.
 SECONDS = 60.0
 # How many mistakes of a file are printed, and how many files are read.
-MOST_TOLD, MOST_FILES = 20, 100
+MOST_MISTAKES, MOST_FILES = 20, 100
 
 
 @dataclass(frozen=True)
@@ -79,8 +80,9 @@ class Mistakes:
         """Reports them, if there are any."""
         if self.found:
             lines = [f"{at}: {why}" for at, why in sorted(self.found)]
-            more = [f"{self.path}: {len(lines) - MOST_TOLD} more mistakes"]
-            raise Mistake("\n".join(lines[:MOST_TOLD] + (more if lines[MOST_TOLD:] else [])))
+            left = len(lines) - MOST_MISTAKES
+            more = [f"{self.path}: {left} more mistakes"] if left > 0 else []
+            raise Mistake("\n".join(lines[:MOST_MISTAKES] + more))
 
 
 class Source:
@@ -220,4 +222,4 @@ def bytes_of(path: str, opening: Callable[[str], int] = open_commands) -> bytes:
 
 
 def decoded(data: bytes) -> str:
-    return data.decode("utf-8", "surrogateescape")
+    return data.removeprefix(codecs.BOM_UTF8).decode("utf-8", "surrogateescape")

@@ -23,11 +23,11 @@ import math
 import os
 import re
 import signal
-import subprocess
 import time
-from collections.abc import Iterator
+from collections.abc import Iterable, Iterator
 from dataclasses import dataclass
 
+from . import early
 from .beside import Umask
 from .descriptors import why
 from .lines import decoded, text_beside
@@ -158,28 +158,44 @@ def words_of(rest: str, at: At) -> Iterator[tuple[str, str]]:
 
 def printed_by(command: str) -> str:
     """What a command prints; Wrong where it doesn't end well, or in time."""
-    with memory("printed") as out, memory("told") as told:
+    with memory("printed") as out, memory("errors") as errors:
+        # (a signal that comes as it is begun counts once it is known which process that is)
+        held = signal.pthread_sigmask(signal.SIG_BLOCK, early.STEPS)
         try:
-            it = subprocess.Popen(["/bin/sh", "-c", command], stdin=subprocess.DEVNULL, stdout=out,
-                                  stderr=told, start_new_session=True, umask=Umask.of_caller)
-        except (OSError, ValueError) as error:
-            raise Wrong(f"the command of the list: "
-                        f"{why(error) if isinstance(error, OSError) else error}") from None
-        try:
-            reason = waited_for(it, out)
+            pid = begun(command, out, errors, held)
+            try:
+                signal.pthread_sigmask(signal.SIG_SETMASK, held)
+                reason = waited_for(pid, out)
+            finally:
+                signal_session(pid, signal.SIGKILL)
+                os.waitpid(pid, 0)
         finally:
-            signal_session(it.pid, signal.SIGKILL)
-            it.wait()
+            signal.pthread_sigmask(signal.SIG_SETMASK, held)
         if reason:
-            last = decoded(contents(told)).strip().rpartition("\n")[2][:MOST_SHOWN]
+            last = decoded(contents(errors)).strip().rpartition("\n")[2][:MOST_SHOWN]
             raise Wrong(f"the command of the list {reason}{last and f': {last}'}")
         return decoded(contents(out))
 
 
-def waited_for(it: subprocess.Popen[bytes], out: int) -> str:
+def begun(command: str, out: int, errors: int, mask: Iterable[int]) -> int:
+    """Begins a command in a session of its own, with this mask of signals."""
+    try:
+        with Umask.restored():
+            return os.posix_spawn(
+                "/bin/sh", ["/bin/sh", "-c", command], os.environ, setsid=True, setsigmask=mask,
+                setsigdef=[signal.SIGPIPE, signal.SIGXFSZ],
+                file_actions=[(os.POSIX_SPAWN_OPEN, 0, os.devnull, os.O_RDONLY, 0),
+                              (os.POSIX_SPAWN_DUP2, out, 1), (os.POSIX_SPAWN_DUP2, errors, 2)])
+    except (OSError, ValueError) as error:
+        raise Wrong(f"the command of the list: "
+                    f"{why(error) if isinstance(error, OSError) else error}") from None
+
+
+def waited_for(pid: int, out: int) -> str:
     """Waits for a command, and returns why its words don't count, or nothing."""
     late = time.monotonic() + SECONDS
-    while it.poll() is None:
+    how = os.WEXITED | os.WNOHANG | os.WNOWAIT
+    while (it := os.waitid(os.P_PID, pid, how)) is None:
         if time.monotonic() >= late:
             return f"was ended after {SECONDS:.0f} s"
         if os.fstat(out).st_size > MOST_BYTES:
@@ -187,9 +203,9 @@ def waited_for(it: subprocess.Popen[bytes], out: int) -> str:
         time.sleep(LOOK)
     if os.fstat(out).st_size > MOST_BYTES:
         return f"prints more than {MOST_BYTES >> 20} MB"
-    if it.returncode:
-        return f"ended with status {it.returncode}" if it.returncode > 0 \
-            else f"was ended by signal {-it.returncode}"
+    if it and it.si_status:
+        return f"ended with status {it.si_status}" if it.si_code == os.CLD_EXITED \
+            else f"was ended by signal {it.si_status}"
     return ""
 
 

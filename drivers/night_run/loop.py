@@ -39,6 +39,7 @@ from functools import partial
 
 from . import Fault, Name
 from .batches import Batch
+from .beside import Part
 from .commands import Command, NotNow
 from .ends import INTERRUPTED, End
 from .facts import Book, Facts, book_of, facts_of, groups_of
@@ -93,7 +94,7 @@ class Driver:
         self.begins_night = False
         self.next_night = 0  # that this run begins after this one, if it does
         self.forgiven: dict[Name, int] = {}  # of each command failures that don't count
-        self.anew: set[str] = set()  # done groups that get another scope
+        self.reopened: set[str] = set()  # done groups that get another scope
         self.commands: dict[Name, Command] = {}  # those that were begun, or are to be
         self.facts = Facts()
         self.book = Book(1, Round())
@@ -173,6 +174,8 @@ class Driver:
     def open_session(self) -> None:
         """Opens a session, and brings the store to what the file of commands asks for."""
         self.restarts.begin()
+        if self.files.stat(Part.FAILED) is not None:
+            self.files.sight.let_go()  # (`night` puts a copy in the store's place)
         before, self.before = self.before, None
         self.session = Session(self.files.path, self.signals.wake, self.meanwhile,
                                lambda: self.asked_to_end)
@@ -188,7 +191,7 @@ class Driver:
         self.take_in(state)
         if Scopes(self, state).make():
             self.night, self.begins_night = self.book.night, False
-            self.anew.clear()
+            self.reopened.clear()
             self.taker.tidy()
         set_limits(self.session, self.book, self.jobs, list(self.book.groups))
         self.cancel_groups()
@@ -211,14 +214,19 @@ class Driver:
         with contextlib.suppress(NightEnded):
             self.session.close()
         if not self.cannot_renew and not self.is_fruitless:
+            self.files.sight.let_go()
             self.past, is_renewed = renew(self.files, self.log, self.past, self.planner,
-                                          self.signals.wake, self.meanwhile)
+                                          self.signals.wake, self.meanwhile, self.catch_up)
             self.is_full, self.is_fruitless = False, True
             if is_renewed:
                 return
         if not self.cannot_renew:
             tell(f"{self.files.shown} is full: no more commands are started; run this again")
         self.is_full = self.cannot_renew = True
+
+    def catch_up(self, state: State, night: int) -> None:
+        """Adds the lines to the log that it lacks of a night."""
+        self.recorder.catch_up(state, night, self.commands)
 
     # --- the opening
 
@@ -239,7 +247,7 @@ class Driver:
             ours = set() if self.begins_night else groups_of(state, self.past, self.book.night)
             self.left.take_up(self.far, state, self.past, ours, self.inherited)
         self.facts.busy = self.left.names() | set(self.commands)
-        self.anew |= self.facts.anew
+        self.reopened |= self.facts.reopened
         top = self.book.top
         self.has_mark = bool(top and role_name(top.name, Role.ENDED) in state.by_name)
         self.has_looked = True
@@ -280,7 +288,8 @@ class Driver:
 
     def round(self) -> None:
         """Records ends, moves the clock, obeys cancels and deadlines, and begins what has a place:
-        one batch, and one flush, for all of it."""
+        one batch, and one flush, for all of it; but where an operator wants something, what comes
+        before that is acked first."""
         batch = Batch()
         self.drain()
         self.is_woken = False
@@ -288,8 +297,8 @@ class Driver:
         self.add_ends(batch)
         self.look_for_leftovers(batch)
         asked = self.canceler.add(batch)
-        self.taker.take()
         self.add_clock(batch)
+        self.taker.take(batch)
         begun = self.add_begins(batch)
         if batch.lines:
             self.acked = batch.send(self.session)
@@ -363,7 +372,7 @@ class Driver:
     def add_begins(self, batch: Batch) -> list[Command]:
         """Submits and starts what has a place; it begins once that is acked."""
         self.later = None
-        if self.asked_to_end or self.is_full or self.missing:
+        if self.asked_to_end or self.is_full or self.missing or self.taker.wants_scopes:
             return []
         try:
             found = self.planner.choose(self.facts, self.taker.most, time.time(), self.commands)

@@ -2,7 +2,7 @@
 
 If a reply doesn't come in time, that is a fault: the mark of a failed sync is made, and the run is
 killed, also one that a signal has stopped. If the disk holds the run up in a sync, it is waited for
-first.
+first. An `inspect` only reads, and needs no mark of that kind.
 """
 
 from __future__ import annotations
@@ -44,6 +44,8 @@ RENEWAL_SECONDS = 300.0
 KILLED_SECONDS = 1.0
 # So often in a row the store may be in use, a tenth of a second each.
 MOST_BUSY = 100
+# What may be done twice: to look, and to open a store and type nothing.
+TWICE = ("inspect", "script")
 # So often a format may be ended by a signal before that is a fault.
 MOST_KILLED = 5
 REFUSED = re.compile(r"refused ([0-9]+) ")
@@ -91,7 +93,7 @@ def program() -> str:
 def ran(*words: str, seconds: float = WHOLE_SECONDS,
         meanwhile: Callable[[], float] | None = None) -> str:
     """The output of `night` with these arguments. While the store is in use it is tried again, and
-    so is an inspection that a signal ended. It may take this many seconds, or as many as
+    so is what a signal ended that may be done twice. It may take this many seconds, or as many as
     `meanwhile` returns, which is called all the while."""
     for busy in range(MOST_BUSY):
         with starting():
@@ -101,12 +103,15 @@ def ran(*words: str, seconds: float = WHOLE_SECONDS,
         try:
             printed, errors = communicated(it, seconds, meanwhile)
         except subprocess.TimeoutExpired:
-            kill(it, words[-1])
+            if words[0] == "inspect":
+                give_up(it)
+            else:
+                kill(it, words[-1])
             raise NightEnded(-signal.SIGKILL, f"no end within {seconds:.0f} s") from None
         if not it.returncode:
             return printed
         ended = NightEnded(it.returncode, errors)
-        was_killed = it.returncode < 0 and words[0] == "inspect"
+        was_killed = it.returncode < 0 and words[0] in TWICE
         if not (ended.is_in_use() or was_killed) or busy == MOST_BUSY - 1:
             break
         time.sleep(0.1)
@@ -130,6 +135,16 @@ def kill(it: subprocess.Popen[Any], store: str) -> None:
     it.kill()
     with contextlib.suppress(subprocess.TimeoutExpired):
         it.wait(KILLED_SECONDS)
+
+
+def give_up(it: subprocess.Popen[Any]) -> None:
+    """Ends an `inspect` that is late. It leaves a mark itself while it syncs, so none is left here,
+    where the next opening would copy the store for nothing. While the disk holds it, it is let go
+    on: a signal would end it only after the sync, and before it could remove its mark."""
+    if not is_held(it.pid):
+        it.kill()
+        with contextlib.suppress(subprocess.TimeoutExpired):
+            it.wait(KILLED_SECONDS)
 
 
 def communicated(it: subprocess.Popen[str], seconds: float,

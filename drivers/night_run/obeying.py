@@ -12,9 +12,10 @@ from functools import partial
 from typing import TYPE_CHECKING
 
 from . import Name
-from .cancels import NO_GROUP, REFUSED, Desk, Request, has_ended, is_key, no_command
+from .cancels import NO_GROUP, REFUSED, Desk, Request, is_key
 from .commands import Command
 from .ends import End, canceled
+from .guesses import no_command
 from .rounds import base_of
 from .settings import OF_ALL
 from .standing import CANCELLED
@@ -52,7 +53,7 @@ class Canceler:
         names = self.driver.jobs.all
         if it.key:
             if (it.group, it.key) not in names:
-                return no_command(it.group, it.key)
+                return no_command(it.group, it.key, names)
             full = self.driver.is_full and (it.group, it.key) not in self.driver.facts.busy
             return f"{self.driver.files.shown} is full" if full else ""
         key = it.why.partition(" ")[0]
@@ -83,7 +84,7 @@ class Canceler:
         elif found.phase == CANCELLED:
             answers[it] = found.why
         else:
-            answers[it] = REFUSED + has_ended(it.group, it.key, found.why or found.phase)
+            answers[it] = REFUSED + found.at_its_end(name)
 
     def stop(self, name: Name, end: End) -> None:
         """Stops what runs of a command, also what an earlier driver began."""

@@ -13,6 +13,10 @@ if TYPE_CHECKING:
     from .files import Files
 
 
+# Fewer free bytes are next to none: a command that writes anything fails.
+NO_ROOM = 64 << 10
+
+
 class Outputs:
     """The outputs of a store, each by its name in the folder."""
 
@@ -47,6 +51,16 @@ class Outputs:
         except OSError:
             return None
         return found.st_size if found and stat.S_ISREG(found.st_mode) else None
+
+    def are_full(self) -> bool:
+        """Whether their disk has next to no room. Of one that counts no blocks that isn't known."""
+        try:
+            with contextlib.closing(self.files.below(Part.OUT)) as folder:
+                found = os.fstatvfs(folder.file)
+        except OSError:
+            return False
+        free = found.f_bavail if os.geteuid() else found.f_bfree
+        return found.f_blocks > 0 and free * found.f_frsize < NO_ROOM
 
     def open(self, output: str, flags: int = os.O_RDONLY) -> int:
         """A descriptor of an output. Where it is created, so is the folder if it is gone."""

@@ -36,7 +36,7 @@ Content-Transfer-Encoding: 8bit
 
 @dataclass(frozen=True)
 class Mail:
-    """What an owner is told."""
+    """What is reported to an owner."""
 
     owner: str
     subject: str
@@ -63,9 +63,10 @@ def mail(owner: str, report: rows.Report, its: list[rows.Row]) -> Mail:
     bad = tuple(it for it in its if it.phase in BAD)
     subject = (f"night-run: {plain(report.store)}, night {report.night}: {len(bad)} of"
                f" {commands(len(its))} not ok")
+    which = f"{len(bad)} of your {commands(len(its))}" if len(its) > 1 else "your command"
     return Mail(owner, subject, (
-        f"{plain(report.store)}, night {report.night}: {len(bad)} of your {commands(len(its))}"
-        " didn't end well.", "", *failures(replace(report, rows=bad))))
+        f"{plain(report.store)}, night {report.night}: {which} didn't end well.", "",
+        *failures(replace(report, rows=bad))))
 
 
 def sendmail() -> str:

@@ -49,7 +49,7 @@ class Past:
     notes: Notes = field(default_factory=Notes)  # what is wanted of nights, of a file of its own
 
     @property
-    def is_of_a_store_made_anew(self) -> bool:
+    def is_of_a_replaced_store(self) -> bool:
         """Whether the store replaced another one, and so counts its events from the start."""
         return not self.events and bool(self.round)
 

@@ -16,6 +16,7 @@ import re
 from collections.abc import Iterator
 from dataclasses import dataclass
 
+from . import cancels
 from .beside import Folder, Part
 from .cancels import ANSWER, opened, process_of
 from .files import Files
@@ -115,18 +116,4 @@ def ask(files: Files, wants: tuple[Want, ...], by: By) -> Petition:
 
 def answered(files: Files, it: Petition) -> str:
     """The answer to a request; empty if there is none yet."""
-    try:
-        with contextlib.closing(files.below(Part.CANCEL)) as folder:
-            text = folder.read(f"{it.name}{ANSWER}").decode("ascii", "replace")
-    except FileNotFoundError:
-        return ""
-    found = ANSWERED.fullmatch(text)
-    return found[1] if found else ""
-
-
-def withdraw(files: Files, it: Petition) -> None:
-    """Removes a request, and its answer."""
-    with contextlib.suppress(FileNotFoundError), \
-            contextlib.closing(files.below(Part.CANCEL)) as folder:
-        folder.remove(it.name)
-        folder.remove(f"{it.name}{ANSWER}")
+    return cancels.answered(files, it.name, ANSWERED)

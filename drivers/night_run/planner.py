@@ -71,7 +71,7 @@ class Planner:
         self.choice: Choice | None = None
 
     def fit(self) -> None:
-        """Gives a pool to each group that has a limit now. A group whose limit was set amid the
+        """Gives a pool to each group that has a limit now. A group whose limit was set during the
         night may have had none before: another process gets the plan then."""
         limited = [it for it in self.groups if self.jobs.limit(it) is not None]
         if self.asking and limited != list(self.pools):
@@ -93,10 +93,17 @@ class Planner:
         return self.choose(facts, len(facts.busy) + 1, now)
 
     def standings(self, facts: Facts) -> dict[Name, Standing]:
-        """How each command of the file stands, in the file's order."""
-        words = self.answer(facts, None, None, set())
-        assert isinstance(words, dict)
-        return Shown(self.jobs, facts, words).all()
+        """How each command of the file stands, in the file's order. What was decided when the night
+        ended stays so, though a deadline has passed since."""
+        found: dict[Name, Standing] = {}
+        for its in (*facts.at_its_end(), facts):
+            words = self.answer(its, None, None, set())
+            assert isinstance(words, dict)
+            decided = {name: it for name, it in found.items() if it.is_final}
+            found = Shown(self.jobs, its, words).all() | decided
+            if all(it.is_final for it in found.values()):
+                break
+        return found
 
     def answer(self, facts: Facts, most: int | None, now: float | None,
                held: set[Name]) -> Choice | dict[Name, str]:
@@ -189,11 +196,11 @@ class Planner:
         has_failed = end is not None and self.has_failed(facts, job, end)
         if name in facts.busy and not (has_failed and way_of(self.jobs, job.group) != "go-on"):
             return f"busy {at}"
-        if end is None and facts.is_left_out(name):
-            return f"cut {at}"
         is_due = job.is_due(facts.day) or name in facts.tonight.redo
         if end is None and name not in facts.busy and not is_due:
             return f"ok {at}"  # (what comes after it doesn't wait for it)
+        if end is None and facts.is_left_out(name):
+            return f"cut {at}"
         if end is None:
             return f"interrupted {at}" if name in facts.interrupted else f"fresh {at}"
         if end.is_ok:

@@ -6,21 +6,22 @@ from __future__ import annotations
 import datetime
 import enum
 import time
-from collections.abc import Mapping, Sequence
+from collections.abc import Collection, Mapping, Sequence
 from dataclasses import replace
 
 from . import Name
 from .changes import Night
 from .escapes import one_line
 from .facts import Facts, book_of, facts_of
+from .jobs import Jobs
 from .past import Past
 from .planner import Planner
 from .rounds import Role, role_name
 from .rows import NOT_DUE
-from .standing import CANCELLED, FAILED, RUNNING, WAITING, Standing
+from .standing import CANCELLED, FAILED, RUNNING, Standing
 from .state import State
-from .summary import retry
-from .taking import Opening, anew
+from .status_waits import Run, Waits
+from .taking import Opening, fresh_night
 from .views import View
 from .wants import Want, by_me
 
@@ -53,6 +54,17 @@ def forgiven(found: Mapping[Name, Standing], facts: Facts) -> dict[Name, int]:
             if it.phase in (FAILED, CANCELLED)}
 
 
+def groups_to_reopen(again: Collection[Name], facts: Facts, jobs: Jobs) -> set[str]:
+    """The groups that get another scope as these commands run again: theirs, if they are done, and
+    those whose deadline has passed since the night ended over a command that never began. It may
+    begin after all."""
+    found = {group for group, _ in again if group in facts.done}
+    if again:
+        found |= {group for group in facts.late if any(
+            it not in facts.ends for it in jobs.members.get(group, ()))}
+    return found
+
+
 def planned(planner: Planner, view: View, most: int, wish: Wish, wanted: Opening,
             own: tuple[Want, ...] = ()) -> list[str]:
     """What the file's lists came to, and what a run would do with each command. Those that it would
@@ -76,18 +88,19 @@ def commands(planner: Planner, view: View, most: int, wish: Wish, wanted: Openin
     if is_rest or is_first or wish in (Wish.REST, Wish.FAILED):
         view = with_wants(planner, view, wanted, own)
     if wish is Wish.FAILED:
-        return lines(planner, again(view), most)
+        return lines(planner, again(view, planner.jobs), most)
     if wish is Wish.REST or is_first:
         return lines(planner, view.facts, most)
     tonight = datetime.date.today() if planner.jobs.has_days else None
     night = view.book.night
-    wanted.take(night + 1, anew(planner.jobs, night + 1), own, by_me())
+    wanted.take(night + 1, fresh_night(planner.jobs, night + 1), own, by_me())
     facts = Facts(busy=set(view.facts.busy), day=tonight, tonight=wanted.notes.of(night + 1))
     if not is_rest:
         return lines(planner, facts, most)
     return [f"night {night}, the rest of it:", *lines(planner, view.facts, most),
             f"night {night + 1}:",
-            *(line(name, it) for name, it in planner.standings(facts).items())]
+            *(line(name, it, f"after the rest of night {night}")
+              for name, it in planner.standings(facts).items())]
 
 
 def with_wants(planner: Planner, view: View, wanted: Opening, own: tuple[Want, ...]) -> View:
@@ -95,7 +108,7 @@ def with_wants(planner: Planner, view: View, wanted: Opening, own: tuple[Want, .
     top = view.book.top
     has_ended = bool(top and role_name(top.name, Role.ENDED) in view.state.by_name)
     wanted.take(view.book.night, Night(planner.jobs, view.book, view.facts, view.standings,
-                                       has_ended), own, by_me())
+                                       has_ended, planner.standings), own, by_me())
     view.past.notes = wanted.notes
     book = replace(book_of(view.state, view.past, view.book.night), day=view.book.day)
     facts = facts_of(view.state, view.past, view.lines, book, time.time(), {})
@@ -103,27 +116,32 @@ def with_wants(planner: Planner, view: View, wanted: Opening, own: tuple[Want, .
     return replace(view, book=book, facts=facts, standings=planner.standings(facts))
 
 
-def again(view: View) -> Facts:
+def again(view: View, jobs: Jobs) -> Facts:
     """The facts once failures are forgiven, and the groups that are made again for that."""
     its = forgiven(view.standings, view.facts)
+    groups = groups_to_reopen(its, view.facts, jobs)
     facts = facts_of(view.state, view.past, view.lines, view.book, time.time(), its)
     facts.busy = set(view.facts.busy)
-    for group, _ in its:
+    for group in groups:
         facts.done.pop(group, None)
     return facts
 
 
 def lines(planner: Planner, facts: Facts, most: int) -> list[str]:
-    its = facts.tonight
+    its, now = facts.tonight, time.time()
     planner.jobs.limits = its.limits
-    found = planner.standings(facts)
-    at_once = planner.choose(facts, 0 if its.paused else its.most or most, time.time())
-    made = [f"begin {' '.join(it)}: {one_line(planner.jobs.all[it].command)}"
-            for it in at_once.names]
-    return made + [line(name, it) for name, it in found.items() if name not in at_once.names]
+    found, most = planner.standings(facts), its.most or most
+    at_once = planner.choose(facts, 0 if its.paused else most, now).names
+    waits = Waits(planner.jobs, facts, {
+        name: Standing(RUNNING) if name in at_once else it for name, it in found.items()},
+        Run(now, most, True, its.paused is not None))
+    return [*(f"begin {' '.join(it)}: {one_line(planner.jobs.all[it].command)}" for it in at_once),
+            *(line(name, it, waits.one(name).why) for name, it in found.items()
+              if name not in at_once)]
 
 
-def line(name: Name, it: Standing) -> str:
-    what = it.phase if it.is_final or it.phase == RUNNING else "later"
-    why = retry(it.why) if it.phase == WAITING and it.why else it.why
+def line(name: Name, it: Standing, wait: str) -> str:
+    """How a command stands, or what it waits for."""
+    is_begun = it.is_final or it.phase == RUNNING
+    what, why = (it.phase, it.why) if is_begun else ("later", wait)
     return f"{what} {' '.join(name)}" + (f": {why}" if why else "")

@@ -6,6 +6,7 @@ from __future__ import annotations
 import contextlib
 import functools
 import os
+import resource
 import signal
 from collections.abc import Iterable, Iterator
 from dataclasses import dataclass
@@ -86,6 +87,16 @@ def is_held(pid: int) -> bool:
         threads = (stat_of(pid, it) for it in os.listdir(f"/proc/{pid}/task"))
         return any(it is not None and it.phase == "D" for it in threads)
     return False
+
+
+def most_memory() -> int:
+    """The most memory that this program had, in KB. (Where the system doesn't say that, it counts
+    what this process had before it became this program, too.)"""
+    with contextlib.suppress(OSError, ValueError, IndexError):
+        with open("/proc/self/status", encoding="ascii", errors="replace") as file:
+            found = [line.split()[1] for line in file if line.startswith("VmHWM:")]
+        return int(found[0])
+    return resource.getrusage(resource.RUSAGE_SELF).ru_maxrss
 
 
 def age(it: Process) -> float:

@@ -125,4 +125,5 @@ class Words:
 
     def once(self, what: str, is_set: bool) -> None:
         if is_set:
-            raise Wrong(f"{self.whose} has a {what} already")
+            article = "an" if what[0] in "aeio" else "a"
+            raise Wrong(f"{self.whose} has {article} {what} already")

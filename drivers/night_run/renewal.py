@@ -10,34 +10,41 @@ more than the store, and groups that take no more tasks; the next run makes othe
 from __future__ import annotations
 
 import contextlib
+import errno
 import os
 import time
 from collections.abc import Callable, Iterator, Mapping
 
 from . import Fault, Name
 from .ends import End
-from .facts import Book, book_of, ended_in, facts_of
+from .facts import Book, book_of, facts_of
 from .beside import Part
 from .files import SIZES, Files
-from .jobs import Jobs
-from .log import Log, line_of
+from .holding import SECONDS, Holding
+from .log import Log
 from .night import MOST_KILLED, RENEWAL_SECONDS, NightEnded, Session, ran
 from .opening import advance, give_back, inspected, now_of, opened
 from .past import Past, write_past
 from .planner import Planner
 from .rounds import base_of, named
+from .signals import Signals
+from .standing import groups_left
 from .state import ENDED, State
 from .telling import error_text, note, tell
 
 
+# Adds the lines to the log that it lacks of a night, with the begins of what runs on.
+CatchUp = Callable[[State, int], None]
+
+
 def renew(files: Files, log: Log, past: Past, planner: Planner, wake: int,
-          meanwhile: Callable[[], float]) -> tuple[Past, bool]:
+          meanwhile: Callable[[], float], catch_up: CatchUp) -> tuple[Past, bool]:
     """Renews the store. What STORE.ended says then, and whether the store could be renewed."""
     try:
         session, state = opened(files, inspected(files), wake, meanwhile)
         with ended(session):
             advance(session, now_of(state))
-            past = keep(files, log, past, planner.jobs, state, state.count)
+            past = keep(files, log, past, state, state.count, catch_up)
             give_back(session, state, past.night, needed(log, past, planner, state))
         printed = ran("renew", "--in-place", files.path, seconds=RENEWAL_SECONDS,
                    meanwhile=meanwhile).rstrip("\n")
@@ -65,15 +72,16 @@ def needed(log: Log, past: Past, planner: Planner, state: State) -> set[str]:
     """The groups of the file in which something is left to do."""
     book = book_of(state, past, past.night)
     facts = facts_of(state, past, log.lines, book, time.time(), {})
-    return {group for (group, _), it in planner.standings(facts).items() if not it.is_final}
+    return groups_left(planner.standings(facts))
 
 
-def keep(files: Files, log: Log, past: Past, jobs: Jobs, state: State, events: int) -> Past:
-    """Keeps how each command of the night has ended."""
+def keep(files: Files, log: Log, past: Past, state: State, events: int,
+         catch_up: CatchUp) -> Past:
+    """Keeps how each command of the night has ended. Of a try that was cut off, or that lives on,
+    only the log knows from then on."""
     night = max(state.night(), past.night)
     book = book_of(state, past, night)
-    log.add((tried, line_of(None, None, task.end, text(jobs, task.name)))
-            for task, tried in ended_in(state, night) if task.end)
+    catch_up(state.reopened(), night)
     log.sync()
     ends = ends_of(past if past.night == night else Past(), state, book)
     made = Past(events, night, max([past.round, *(it.number for it in book.rounds.values())]),
@@ -81,13 +89,9 @@ def keep(files: Files, log: Log, past: Past, jobs: Jobs, state: State, events: i
     facts = facts_of(state, past, log.lines, book, time.time(), {})
     made.failures = {name: count for name, count in facts.failures.items() if count}
     shown = {group for group, _, _ in made.ends}
-    made.had = [it for it in rounds_had(book) if it not in shown and it not in made.done]
+    made.had = [it for it in names_had(book, state) if it not in shown and it not in made.done]
     write_past(files, made)
     return made
-
-
-def text(jobs: Jobs, name: Name) -> str:
-    return jobs.all[name].command if name in jobs.all else "-"
 
 
 def ends_of(past: Past, state: State, book: Book) -> dict[Name, tuple[str, str, End]]:
@@ -109,9 +113,13 @@ def done_in(book: Book, state: State) -> dict[str, str]:
     return {name: cause for name, cause in found.items() if cause}
 
 
-def rounds_had(book: Book) -> list[str]:
-    """The last name that each group of the night had."""
-    return [named(base, number) for base, number in book.rounds.items() if base in book.scopes]
+def names_had(book: Book, state: State) -> list[str]:
+    """The last name that each group of the night had, and each name in which a command was cut off,
+    or lives on: its end counts."""
+    last = [named(base, number) for base, number in book.rounds.items() if base in book.scopes]
+    ours = state.groups_of(book.night)
+    left = [it.group for it in state.tasks if it.group in ours and it.phase not in ENDED]
+    return list(dict.fromkeys([*last, *left]))
 
 
 def make(files: Files) -> None:
@@ -138,11 +146,32 @@ def format_new(files: Files) -> None:
                 raise
 
 
-def make_anew(files: Files, log: Log, past: Past, jobs: Jobs, state: State, ahead: int) -> Past:
+def replace_store(files: Files, log: Log, past: Past, state: State, ahead: int, catch_up: CatchUp,
+                  signals: Signals) -> Past:
     """Makes another store in the place of one whose clock is ahead, since no clock of a store goes
-    back: each deadline there would have passed. What has ended is kept."""
+    back: each deadline there would have passed. What has ended is kept. On a full disk it waits for
+    room, without which no command begins either, or until a signal comes."""
     note(f"{files.shown}: its clock is {ahead} s ahead of the machine's; a new store replaces"
          f" it, and {files.shown}.ended keeps how commands have ended")
-    past = keep(files, log, past, jobs, state, 0)
-    make(files)
-    return past
+    holding = Holding()
+    while True:
+        try:
+            kept = keep(files, log, past, state, 0, catch_up)
+            make(files)
+            return kept
+        except (OSError, NightEnded) as error:
+            why = lack_of_room(error)
+            if not why:
+                raise
+        holding.hold(f"{files.shown}: {why}")
+        signals.wait(SECONDS)
+        signals.drain()
+        if signals.steps:
+            raise KeyboardInterrupt
+
+
+def lack_of_room(error: OSError | NightEnded) -> str:
+    """That a disk was full, or somebody's share of it; empty where it was something else."""
+    its = (os.strerror(it) for it in (errno.ENOSPC, errno.EDQUOT))
+    found = (error.strerror if isinstance(error, OSError) else error.errors) or ""
+    return next((it for it in its if it in found), "")

@@ -16,7 +16,7 @@ from .rows import Report, Row
 
 COLUMNS = 72
 # How many failures are shown with their last lines, and how many names that share a reason.
-MOST_TOLD, MOST_NAMED = 20, 12
+MOST_SHOWN, MOST_NAMED = 20, 12
 # What didn't end well, besides failures, or was left out.
 OTHERS = ("canceled", "not started", "interrupted", "left out")
 
@@ -34,7 +34,7 @@ def lines(report: Report) -> Iterator[str]:
     if failed:
         yield from headed("Failed")
         for at, row in enumerate(failed):
-            yield from failure(row) if at < MOST_TOLD else wrapped(named(row))
+            yield from failure(row) if at < MOST_SHOWN else wrapped(named(row))
     others = list(unlucky(report))
     if others:
         yield from headed("Not done")

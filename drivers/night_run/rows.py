@@ -12,10 +12,10 @@ from dataclasses import dataclass, field
 
 from .used import Used
 
-# How a command stands, in the order in which a report shows it. `waiting` has yet to be started,
-# `not started` never will be, and `interrupted` was cut off and runs again in the next run. What is
-# `not needed` waited for a failure that didn't come, what is `not due` is for other days, and what is
-# `left out` was left out by hand.
+# How a command stands, in the order in which a report shows it. A command that is `waiting` has yet
+# to be started, one that is `not started` never will be, and one that is `interrupted` was cut off
+# and runs again in the next run. A command that is `not needed` waited for a failure that didn't
+# come, one that is `not due` is for other days, and one that is `left out` was left out by hand.
 NOT_NEEDED, NOT_DUE, LEFT_OUT = "not needed", "not due", "left out"
 PHASES = ("ok", "failed", "canceled", "not started", "interrupted", "running", "waiting",
           NOT_NEEDED, NOT_DUE, LEFT_OUT)

@@ -10,8 +10,10 @@ from . import Fault
 from .opening import Maker, StoreFull
 from .rounds import round_of
 from .settings import OF_ALL
+from .standing import groups_left
 from .state import State
 from .telling import note
+from .tonight import Tonight
 
 if TYPE_CHECKING:
     from .loop import Driver
@@ -27,10 +29,11 @@ class Scopes:
     def make(self) -> bool:
         """Makes those that are needed; whether any is."""
         driver, book = self.driver, self.driver.book
-        found = driver.planner.standings(driver.facts)
-        wanted = {group for (group, _), it in found.items()
-                  if not it.is_final or group in driver.anew}
-        if not (wanted or driver.begins_night or self.homeless()):
+        wanted = groups_left(driver.planner.standings(driver.facts))
+        wanted |= driver.reopened & driver.jobs.members.keys()
+        # (something is wanted of this night, and not of the next one: so there is one)
+        is_wanted = book.top is None and book.tonight != Tonight()
+        if not (wanted or driver.begins_night or self.homeless() or is_wanted):
             return False
         old = book.top
         self.maker.top()
@@ -61,8 +64,8 @@ class Scopes:
         is_gone = is_wanted and scope is None and group not in driver.book.gone
         is_other = is_wanted and scope is not None and group not in driver.facts.done and (
             moved or self.maker.is_other(scope, group))
-        if is_gone or is_other or group in driver.anew:
-            if scope and is_other and group not in driver.anew \
+        if is_gone or is_other or group in driver.reopened:
+            if scope and is_other and group not in driver.reopened \
                     and self.maker.is_other(scope, group):
                 self.tell(group)
             self.maker.group(group)

@@ -39,7 +39,6 @@ SETTINGS has a row for each. To add one: a field of Settings, a function that re
 from __future__ import annotations
 
 import datetime
-import difflib
 import enum
 import re
 from collections.abc import Callable
@@ -47,6 +46,7 @@ from dataclasses import dataclass, field, replace
 
 from .days import BEGINS, OF_WEEK, Days, read_days
 from .envfiles import VARIABLE, variables_of
+from .guesses import like
 from .limits import FORMS, READ, Limits
 from .reading import TIME, At, Missing, Words, Wrong, seconds_of, short
 from .users import User, user_of
@@ -385,12 +385,6 @@ def ends_names(left: list[str], is_name: bool) -> bool:
     return it.follows is None or not is_name and bool(it.follows.match(" ".join(left[1:3])))
 
 
-def like(word: str) -> str:
-    """A question after a setting that is most like this word, if there is one."""
-    its = difflib.get_close_matches(word, BY_WORD, 1)
-    return f"; did you mean {its[0]}?" if its else ""
-
-
 def read_settings(its: Settings, words: Words, of: Of) -> None:
     """Reads the settings of one command, of a group, or of all groups together, from the words of
     a line."""
@@ -400,7 +394,7 @@ def read_settings(its: Settings, words: Words, of: Of) -> None:
         word = words.take()
         setting = BY_WORD.get(word)
         if setting is None:
-            raise Wrong(f"no setting is called {short(word)}{like(word)}")
+            raise Wrong(f"no setting is called {short(word)}{like(word, BY_WORD)}")
         try:
             setting.read(words, its)
         except Missing as what:

@@ -22,6 +22,11 @@ class Sight:
         found = os.stat(self.path)
         self.seen = found.st_dev, found.st_ino
 
+    def let_go(self) -> None:
+        """Until it is kept again, the store may be any file that has its name: `night` may put
+        another one there."""
+        self.seen = None
+
     def why(self) -> str:
         """Why it isn't in its place now; empty while it is, and before it was kept in sight."""
         try:

@@ -31,6 +31,17 @@ class Standing:
     def is_final(self) -> bool:
         return self.phase in FINAL
 
+    def at_its_end(self, name: Name) -> str:
+        """Why nothing can be done to this command: how it ended, or why it never begins."""
+        if self.phase in (NEVER, NOT_NEEDED):
+            return f"{' '.join(name)} is {self.phase}, because {self.why}"
+        return f"{' '.join(name)} has ended: {self.why or self.phase}"
+
+
+def groups_left(standings: Mapping[Name, Standing]) -> set[str]:
+    """The groups of the file in which something is left to do."""
+    return {group for (group, _), it in standings.items() if not it.is_final}
+
 
 class Shown:
     """Shows how commands stand, by the words of `night plan` for each."""

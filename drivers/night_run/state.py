@@ -127,6 +127,17 @@ class State:
             return datetime.date.fromisoformat(found.value or "") if found else None
         return None
 
+    def ended(self, top: str) -> float | None:
+        """When the night with this scope of all groups together ended, if it has."""
+        found = self.by_name.get(role_name(top, Role.ENDED))
+        with contextlib.suppress(ValueError):
+            words = (found.value or "").removeprefix("ended ") if found else ""
+            # (strptime would load a module, which may not be read any more once this process has
+            # become the user whose night it is)
+            made = datetime.datetime.fromisoformat(words)
+            return made.timestamp() if made.tzinfo else None
+        return None
+
     def has_own_deadline(self, number: int) -> bool:
         parent = self.scopes[number].parent
         return parent is not None and self.scopes[parent].kind == "deadline"

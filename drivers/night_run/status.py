@@ -8,24 +8,27 @@ import collections
 import contextlib
 import time
 from collections.abc import Iterable, Iterator, Mapping
-from dataclasses import dataclass
+from dataclasses import dataclass, replace
 
 from . import Name, rows
 from .beside import Part
 from .files import Files
-from .jobs import Job, Jobs, Need
+from .jobs import Jobs
 from .nights import read_nights
 from .opening import check
 from .planner import Planner
 from .processes import Process, age, lives
-from .report_words import clock, end_of
+from .report_words import end_of
 from .rounds import base_of
-from .standing import CANCELLED, FAILED, FINAL, INTERRUPTED, NEVER, RUNNING, WAITING, Standing
-from .status_forecast import Forecast, Moment, Room, forecast, is_open, retry_due
+from .standing import CANCELLED, FAILED, FINAL, NEVER, RUNNING, Standing
+from .status_forecast import Forecast, Moment, forecast
 from .status_plan import Plan, known_alone, parsed_plan, plan_text
 from .status_times import Times, Usual, usual_times
+from .status_waits import Run, Waiting, Waits
+from .status_wanted import Wanted, wanted_of
 from .tries import NAME, Named, process_in
 from .views import View, look, moment, row, tries_of
+from .wants import By
 
 # What didn't end well and runs no more tonight, in the order in which it is shown.
 UNWELL = (FAILED, CANCELLED, NEVER)
@@ -48,16 +51,6 @@ class Running:
 
 
 @dataclass(frozen=True)
-class Waiting:
-    """A command that waits, and what it waits for."""
-
-    group: str
-    key: str
-    why: str
-    due: float | None  # when its retry is due
-
-
-@dataclass(frozen=True)
 class Status:
     """A night at one moment."""
 
@@ -76,6 +69,8 @@ class Status:
     waiting: tuple[Waiting, ...]
     forecast: Forecast | None
     nights: int  # how many earlier nights have usual times
+    paused: By | None = None  # who paused it, and when
+    wanted: Wanted = Wanted()
 
     @property
     def total(self) -> int:
@@ -138,14 +133,16 @@ class Watcher:
 
     def status(self, plan: Plan, view: View) -> Status:
         files, now, night = self.files, time.time(), view.book.night
+        wanted = view.book.tonight
+        plan = replace(plan, most=wanted.most or plan.most)
         times, tries = self.times_of(night, plan.jobs), tries_of(view)
         made = [row(files, view, plan.jobs.all[name].command, name, tries.get(name, []))
                 for name, it in view.standings.items() if it.phase in (RUNNING, *UNWELL)]
         its = processes(files)
         running = tuple(running_of(it, its.get((it.group, it.key)), times, now) for it in made
                         if it.phase == RUNNING)
-        holder, begun = files.lock.holder(), read_nights(files).begun.get(night)
-        waits = Waits(plan, view, holder is not None, now)
+        holder, begun = view.holder, read_nights(files).begun.get(night)
+        waits = waits_of(plan, view, holder is not None, now)
         moments = [it for one in tries.values() for _, it in one]
         first, last = min([*begins(moments), now]), max(ends(moments), default=None)
         return Status(
@@ -154,7 +151,8 @@ class Watcher:
             now - age(holder) if holder else None, plan.most, plan.path,
             counted(view.standings), running,
             tuple(it for phase in UNWELL for it in made if it.phase == phase),
-            tuple(waits.all()), forecast_of(plan, view, times, running, waits, now), times.nights)
+            tuple(waits.all()), forecast_of(plan, view, times, running, waits, now), times.nights,
+            wanted.paused, wanted_of(view.past.notes, night, plan.jobs))
 
 
 class Kept:
@@ -215,68 +213,10 @@ def running_of(it: rows.Row, process: Process | None, times: Times, now: float) 
                    process.pid if process else None, it.output)
 
 
-# --- what is waited for
-
-class Waits:
-    """What each command waits for that hasn't begun."""
-
-    def __init__(self, plan: Plan, view: View, is_active: bool, now: float) -> None:
-        self.plan, self.jobs, self.facts, self.now = plan, plan.jobs, view.facts, now
-        self.phases = {name: it.phase for name, it in view.standings.items()}
-        self.is_active = is_active
-        self.room = Room(self.jobs, (plan.most or 0))
-        for name, phase in self.phases.items():
-            if phase == RUNNING:
-                self.room.take(self.jobs.all[name])
-        self.whys = {name: it.why for name, it in view.standings.items()}
-
-    def all(self) -> list[Waiting]:
-        """Those that could begin at once come first, in the order in which they will."""
-        its = [self.one(name) for name, phase in self.phases.items()
-               if phase in (WAITING, INTERRUPTED)]
-        ranks = {name: at for at, name in enumerate(self.jobs.all)}
-
-        def rank(it: Waiting) -> tuple[bool, bool, int, int, int]:
-            job = self.jobs.all[it.group, it.key]
-            return (self.is_blocked(job), it.due is not None, -self.jobs.priority(it.group),
-                    -job.priority, ranks[job.name])
-        return sorted(its, key=rank)
-
-    def is_blocked(self, job: Job) -> bool:
-        return any(is_open(self.jobs, self.phases, it) for it in job.after)
-
-    def one(self, name: Name) -> Waiting:
-        job, due = self.jobs.all[name], self.due(name)
-        why = self.reason(job, due)
-        if self.phases[name] == INTERRUPTED:
-            why = f"interrupted; {why}"
-        return Waiting(*name, why, due)
-
-    def due(self, name: Name) -> float | None:
-        """When the retry of a command is due that has failed; None if none is waited for."""
-        return retry_due(self.jobs.all[name], self.facts) if self.phases[name] == WAITING else None
-
-    def reason(self, job: Job, due: float | None) -> str:
-        open_ones = [it for it in job.after if is_open(self.jobs, self.phases, it)]
-        if open_ones:
-            return f"after {', '.join(map(named, open_ones))}"
-        if due is not None and due > self.now:
-            return f"for its retry at {clock(due)}, after {self.whys[job.name]}"
-        if not self.is_active:
-            return "for the next run"
-        if not self.room.limits.get(job.group, 1) > 0:
-            return f"for the limit {self.jobs.limit(job.group)} of {job.group}"
-        for pool, amount in job.uses:
-            free = self.room.pools.get(pool, 0)
-            if free < amount:
-                return f"for {amount} of the pool {pool}, of which {max(0, free)} is free"
-        has_no_place = self.plan.most is not None and self.room.places <= 0
-        return f"for a place (-j {self.plan.most})" if has_no_place else "about to be started"
-
-
-def named(need: Need) -> str:
-    of = need.of if isinstance(need.of, str) else "/".join(need.of)
-    return {"failed": f"a failure of {of}", "ended": f"the end of {of}"}.get(need.when, of)
+def waits_of(plan: Plan, view: View, is_active: bool, now: float) -> Waits:
+    """What each command of a night waits for."""
+    return Waits(plan.jobs, view.facts, view.standings, Run(
+        now, plan.most, is_active, view.book.tonight.paused is not None))
 
 
 def forecast_of(plan: Plan, view: View, times: Times, running: Iterable[Running], waits: Waits,

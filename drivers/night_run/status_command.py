@@ -1,8 +1,9 @@
 """What `--status` prints, once or again and again, and as JSON.
 
-With `--watch` a terminal shows one screen, which is drawn anew every two seconds and whenever the
-terminal gets another size. No mode of the terminal is changed, so nothing has to be put right after
-an end of any kind. Where standard output is no terminal each screen follows the last one.
+With `--watch` a terminal shows one screen, which is drawn again every two seconds and whenever the
+terminal gets another size, also while the machine is late with an answer (`status_looker`). No mode
+of the terminal is changed, so nothing has to be put right after an end of any kind. Where standard
+output is no terminal each screen follows the last one.
 """
 
 from __future__ import annotations
@@ -14,21 +15,19 @@ import os
 import shutil
 import signal
 import time
-from collections.abc import Iterator
+from collections.abc import Callable, Iterator
 
-from . import Fault, Mistake
 from .beside import write_all
 from .escapes import plain_lines
-from .exits import why_ended
 from .files import Files
 from .jobs import Jobs
-from .night import NightEnded
 from .status import Status, Watcher
 from .status_forecast import Forecast
-from .status_screen import Size, screen, wrapped
+from .status_looker import Looker, Seen
+from .status_screen import Size, as_of, screen, wrapped
 
-# Seconds between two looks.
-OFTEN = 2.0
+# Seconds between two looks; so often whether a look is over is seen.
+OFTEN, SOON = 2.0, 0.05
 # Moves to the first column of the first line; clears the rest of a line, and all below it.
 HOME, REST, BELOW = "\x1b[H", "\x1b[K", "\x1b[J"
 CLEAR = f"{HOME}\x1b[2J"
@@ -71,22 +70,24 @@ def as_forecast(it: Forecast) -> dict[str, object]:
 
 def watch(files: Files, jobs: Jobs | None) -> None:
     """Shows the status until Ctrl-C, or until nobody reads it any more."""
-    with contextlib.closing(Watcher(files, jobs)) as watcher, interrupted(), \
-            contextlib.suppress(BrokenPipeError):
-        is_first = True
+    signal.pthread_sigmask(signal.SIG_BLOCK, {signal.SIGWINCH})
+    with interrupted(), contextlib.suppress(BrokenPipeError):
+        looker, is_first = Looker(files, jobs), True
         while True:
-            size = size_of(once=False)
-            show(lines_now(watcher, size), is_first)
+            looker.ask()
+            wait(looker.left(), looker.is_idle)
+            show(lines_now(looker.seen, looker.is_late(), size_of(once=False)), is_first)
             is_first = False
             wait(OFTEN)
 
 
-def lines_now(watcher: Watcher, size: Size) -> list[str]:
-    """The screen of this moment. What can't be read now may be readable the next time."""
-    try:
-        return screen(watcher.look(), size)
-    except (Fault, Mistake, NightEnded, OSError) as error:
-        return wrapped(f"{watcher.files.shown}: {why_ended(error)}", size.columns)
+def lines_now(seen: Seen, is_late: bool, size: Size) -> list[str]:
+    """The screen of the last look. If another one is late, the first line says so."""
+    above = wrapped(as_of(seen.at, time.time()), size.columns) if is_late else []
+    if isinstance(seen.it, str):
+        return above + wrapped(seen.it, size.columns)
+    left = None if size.lines is None else max(1, size.lines - len(above))
+    return above + screen(seen.it, Size(size.columns, left))
 
 
 def show(lines: list[str], is_first: bool) -> None:
@@ -98,12 +99,11 @@ def show(lines: list[str], is_first: bool) -> None:
     write_all(1, drawn.encode("utf-8", "backslashreplace"))
 
 
-def wait(seconds: float) -> None:
-    """Sleeps, or until the terminal gets another size."""
-    signal.pthread_sigmask(signal.SIG_BLOCK, {signal.SIGWINCH})
+def wait(seconds: float, is_over: Callable[[], bool] | None = None) -> None:
+    """Sleeps until then, or until this is so or the terminal gets another size."""
     end = time.monotonic() + seconds
-    while (left := end - time.monotonic()) > 0:
-        if signal.sigtimedwait({signal.SIGWINCH}, min(left, 0.5)):
+    while (left := end - time.monotonic()) > 0 and not (is_over and is_over()):
+        if signal.sigtimedwait({signal.SIGWINCH}, min(left, SOON if is_over else 0.5)):
             return
 
 

@@ -26,6 +26,8 @@ from .status_times import Usual
 
 # No wait before a retry is longer, in seconds, or grows more often.
 MOST_WAIT, MOST_GROWTH = 49 * 86_400, 32
+# What takes fewer seconds than this is over in a moment.
+A_MOMENT = 1.0
 # The phases of what has yet to end.
 OPEN = (RUNNING, WAITING, INTERRUPTED)
 WELL = (OK, NOT_NEEDED, NOT_DUE)
@@ -54,6 +56,14 @@ class Forecast:
     unknown: tuple[Name, ...]
     late: tuple[Name, ...]
     last: Name | None
+
+    def is_vague(self, now: float) -> bool:
+        """Whether all that is left, but for a moment, takes nobody knows how long."""
+        return self.is_least and self.at - now < A_MOMENT
+
+    def may_end(self, now: float) -> bool:
+        """Whether all that is left, but for a moment, runs longer than ever."""
+        return self.is_vague(now) and not self.unknown
 
 
 def forecast(jobs: Jobs, usual: Mapping[Name, Usual], it: Moment) -> Forecast | None:
@@ -258,6 +268,12 @@ class Room:
 
     def give_back(self, job: Job) -> None:
         self.take(job, -1)
+
+    def take_place(self, group: str) -> None:
+        """The place of what runs and isn't in the file."""
+        self.places -= 1
+        if group in self.limits:
+            self.limits[group] -= 1
 
 
 class Ready:

@@ -20,6 +20,7 @@ from .files import Files
 from .jobs import Jobs
 from .planner import Planner
 from .report_words import span
+from .rows import LEFT_OUT, NOT_DUE
 from .standing import CANCELLED, FAILED, NEVER, OK, RUNNING, WAITING
 from .status_forecast import Forecast, Moment, forecast, retry_due
 from .status_screen import ending
@@ -48,9 +49,12 @@ class Line:
         if self.oracle.is_idle():
             self.oracle.ask(driver.night, moment_of(driver, self.planner, time.time()))
         shown = so_far(facts.ends.values(), len(jobs.all), len(driver.commands))
-        found = self.oracle.found
-        if found and driver.commands:
-            shown += f"; {ending(found, time.time())}"
+        found, is_paused = self.oracle.found, driver.book.tonight.paused is not None
+        shown += "; paused" if is_paused else ""
+        now = time.time()
+        if found and driver.commands and not is_paused and (
+                found.may_end(now) or not found.is_vague(now)):
+            shown += f"; {ending(found, now)}"
         its = sorted(seconds_of(driver.commands).items(), key=lambda it: -it[1])[:MOST_NAMED]
         named = ", ".join(f"{'/'.join(name)} {span(seconds)}" for name, seconds in its)
         return f"{shown}; {named}" if named else shown
@@ -73,7 +77,8 @@ def moment_of(driver: Driver, planner: Planner, now: float) -> Moment:
            and (at := retry_due(jobs.all[name], facts)) is not None}
     deadlines = {group: float(it.deadline) for group, it in driver.book.scopes.items()
                  if it.deadline is not None and group not in facts.done and group in jobs.members}
-    return Moment(now, driver.most, phases, seconds_of(driver.commands), due, deadlines)
+    most = driver.taker.its.most or driver.most
+    return Moment(now, most, phases, seconds_of(driver.commands), due, deadlines)
 
 
 def phases_of(jobs: Jobs, facts: Facts, planner: Planner) -> dict[Name, str]:
@@ -82,8 +87,13 @@ def phases_of(jobs: Jobs, facts: Facts, planner: Planner) -> dict[Name, str]:
     stopped: set[str] = set()
     for name, job in jobs.all.items():
         end = facts.ends.get(name)
+        is_due = job.is_due(facts.day) or name in facts.tonight.redo
         if name in facts.busy:
             found[name] = RUNNING
+        elif end is None and not is_due:
+            found[name] = NOT_DUE
+        elif facts.is_left_out(name):
+            found[name] = LEFT_OUT
         elif end is None or end.is_ok:
             found[name] = OK if end else WAITING
         elif planner.has_failed(facts, job, end):

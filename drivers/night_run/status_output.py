@@ -17,6 +17,7 @@ from .beside import write_all
 from .canceling import target_of
 from .escapes import plain
 from .files import Files
+from .guesses import no_command
 from .jobs import Jobs
 from .processes import lives
 from .rows import Row
@@ -51,7 +52,8 @@ class Asked:
         """How the command stands now."""
         plan = self.watcher.plan()
         if plan is None or self.name not in plan.jobs.all:
-            raise Mistake(f"{self.files.shown} has no command {'/'.join(self.name)}")
+            its = plan.jobs.all if plan else ()
+            raise Mistake(no_command(*self.name, its))
         view = look(self.files, self.watcher.planner_of(plan.jobs))
         return row(self.files, view, plan.jobs.all[self.name].command, self.name,
                    tries_of(view).get(self.name, []))

@@ -88,6 +88,12 @@ def parsed_plan(files: Files, text: str) -> Plan | None:
     return None
 
 
+def names_of_plan(files: Files) -> set[Name]:
+    """The commands of the last run. (To read their file now may run commands.)"""
+    plan = parsed_plan(files, plan_text(files))
+    return set(plan.jobs.all) if plan else set()
+
+
 # --- its lines
 
 def lines(jobs: Jobs, most: int) -> Iterator[str]:

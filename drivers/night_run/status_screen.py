@@ -18,9 +18,12 @@ from . import rows
 from .escapes import plain
 from .report_words import clock, commands, in_words, line_shown, span
 from .standing import FAILED, FINAL
-from .status import Running, Status, Waiting
+from .status import Running, Status
 from .status_forecast import Forecast
 from .status_times import Usual
+from .status_waits import Waiting
+from .wants import By
+from .status_wanted import listed, lists
 
 # Below this width the columns of a command that runs stand below its name.
 NARROW = 60
@@ -72,6 +75,7 @@ More = Callable[[Shown, Section], Shown]
 def screen(it: Status, size: Size) -> list[str]:
     """The lines of a status."""
     head = [line for text in heads(it) for line in wrapped(text, size.columns)]
+    head += [listed(title, its, size.columns) for title, its in lists(it.wanted) if its]
     most, width = size.lines or MOST_SHOWN, name_width(it, size.columns)
     sections = [it for it in (
         Section("RUNNING", columns_head(width, size.columns), len(it.running),
@@ -147,6 +151,14 @@ def lines_of(section: Section, it: Shown) -> Iterator[str]:
 
 # --- the head
 
+def as_of(at: float | None, now: float) -> str:
+    """That a screen is of an earlier moment, since nothing newer is known."""
+    if at is None:
+        return "no answer yet"
+    ago = f", {span(now - at)} ago" if now > at else ""
+    return f"as of {clock(at)}{ago}; no newer state yet"
+
+
 def heads(it: Status) -> Iterator[str]:
     """What is so of the whole night, in a few sentences."""
     store = plain(it.store)
@@ -159,6 +171,8 @@ def heads(it: Status) -> Iterator[str]:
         f": {in_words(final)}" if final else ""), *([in_words(rest)] if rest else [])]
     yield f"{store}, night {it.night}: {'; '.join(shown)}"
     yield began_words(it)
+    if it.paused and not it.is_over:
+        yield paused_words(it, it.paused)
     yield end_words(it)
     if not it.path:
         yield ("The command file isn't known, so commands that haven't begun aren't shown: name it"
@@ -173,6 +187,12 @@ def began_words(it: Status) -> str:
     elif not it.is_over:
         its.append("no night-run is active")
     return "; ".join([*its, f"now {clock(it.now)}"])
+
+
+def paused_words(it: Status, by: By) -> str:
+    """Who paused it, and what ends the pause."""
+    return (f"paused by {by.who} at {day(by.at, it.now)}, so nothing is started; to go on:"
+            f" night-run {plain(it.store)} --resume")
 
 
 def ago(it: Status) -> str:
@@ -190,24 +210,49 @@ def end_words(it: Status) -> str:
     found = it.forecast
     if found is None:
         return "when it will end isn't known: no earlier night has times of what is left"
-    by = f", by the last {nights(it.nights)}"
-    if it.driver is None:
+    is_alone = it.driver is None or it.paused is not None
+    if found.may_end(it.now):
+        return f"{'what is left ' if is_alone else ''}{ending(found, it.now)}: {late_words(it)}"
+    if found.is_vague(it.now):
+        return f"when it will end isn't known: {uncounted(found)}"
+    by = f", going by the last {nights(it.nights)}"
+    if is_alone:
         how = "at least" if found.is_least else "about"
         return f"what is left takes {how} {span(found.at - it.now)}{by}{least_words(found)}"
     last = f", with {'/'.join(found.last)}" if found.last else ""
-    return f"{ending(found, it.now)}{last}{by}{least_words(found)}"
+    left = f", in {span(max(0.0, found.at - it.now))}"
+    return f"{ending(found, it.now)}{left}{last}{by}{least_words(found)}"
 
 
 def ending(it: Forecast, now: float) -> str:
     """When a night will end."""
+    if it.may_end(now):
+        return "may end at any moment"
     return f"{'ends after' if it.is_least else 'ends at about'} {day(it.at, now)}"
+
+
+def late_words(it: Status) -> str:
+    """Which commands run longer than ever."""
+    late = it.forecast.late if it.forecast else ()
+    names = "/".join(late[0]) if len(late) == 1 else commands(len(late))
+    return f"{names} {'has' if len(late) == 1 else 'have'} run {longer_than(it.nights)}"
+
+
+def longer_than(count: int) -> str:
+    """That something took longer than in this many nights."""
+    return f"longer than in {'any of the last' if count > 1 else 'the last'} {nights(count)}"
 
 
 def least_words(it: Forecast) -> str:
     """Which times the forecast lacks."""
-    its = [f"{commands(len(it.unknown))} that no earlier night has a time of"] if it.unknown else []
-    its += [f"{commands(len(it.late))} that run longer than ever"] if it.late else []
-    return f"; not counted: {' and '.join(its)}" if its else ""
+    return f"; not counted: {uncounted(it)}" if it.is_least else ""
+
+
+def uncounted(it: Forecast) -> str:
+    """The commands whose times a forecast lacks."""
+    its = [f"{commands(len(it.unknown))} without a time in earlier nights"] if it.unknown else []
+    its += [f"{commands(len(it.late))} running longer than ever"] if it.late else []
+    return " and ".join(its)
 
 
 def nights(count: int) -> str:
@@ -249,6 +294,9 @@ def running_block(one: Running, width: int, size: Size) -> Block:
         lines = [name, " " * width + row]
     else:
         lines = [name.ljust(width) + row]
+    usual = one.usual
+    if usual and one.seconds is not None and one.seconds > usual.longest:
+        lines += wrapped(f"  {longer_than(usual.nights)}", size.columns)
     tries = f"try {one.tries}: " if one.tries > 1 else ""
     return Block(lines, [f"  {tries}{plain(one.output)}"] if one.output else [])
 

@@ -7,10 +7,9 @@ from collections.abc import Iterable, Mapping
 
 from . import Name, rows
 from .ends import End
-from .escapes import plain
 from .jobs import Jobs
 from .log import Line, Tried, text_of_line
-from .report_words import commands
+from .report_words import commands, line_shown
 from .rounds import base_of
 from .rows import LEFT_OUT, NOT_DUE, NOT_NEEDED, WELL, WHOLE
 from .standing import CANCELLED, FAILED, NEVER, NOT_KNOWN, OK, WAITING
@@ -61,7 +60,7 @@ def failures(report: rows.Report) -> list[str]:
         is_shown = it.output and it.phase in (FAILED, CANCELLED)
         where = f"; {it.output}" if is_shown else ""
         lines.append(f"{it.group} {it.key}: {how_it_stands(it)}{where}")
-        lines += [f"    {plain(line)}" for line in (it.tail if is_shown else ())]
+        lines += [f"    {line_shown(line)}" for line in (it.tail if is_shown else ())]
     return lines
 
 
@@ -69,7 +68,8 @@ def changed(jobs: Jobs, report: rows.Report, lines: Mapping[Tried, Line]) -> lis
     """The commands whose text differs from the one that ended ok."""
     had = {(base_of(group), key): line.command
            for (group, key, _), line in lines.items() if line.end.is_ok and line.command != "-"}
-    return [f"{it.group} {it.key}: its command has changed since it ended; --again runs it"
+    return [f"{it.group} {it.key}: its command has changed since it ended; --redo"
+            f" {it.group}/{it.key} runs it again"
             for it in report.rows if it.phase == OK
             and had.get((it.group, it.key), None) not in (None, text_of_line(it.command))]
 

@@ -7,30 +7,36 @@ answered. So after an answer it holds, whatever is killed.
 
 from __future__ import annotations
 
+import datetime
+import itertools
 import time
 from dataclasses import replace
 from typing import TYPE_CHECKING
 
 from .changes import Change, Night, Refused
 from .ends import canceled
-from .facts import Book, Facts, groups_anew
+from .facts import Book, Facts, reopened_groups
 from .past import Past
 from .petitions import FAILED, REFUSED, Petition, Petitions
 from .report_words import moment
 from .rounds import Round
-from .standing import WAITING, Standing
+from .rows import NOT_DUE
+from .settings import OF_ALL
+from .standing import WAITING, Standing, groups_left
 from .telling import error_text, note, tell
 from .tonight import Tonight, write_notes
-from .wants import By, Want
+from .wants import By, Verb, Want
 
 if TYPE_CHECKING:
+    from .batches import Batch
     from .files import Files
     from .jobs import Jobs
     from .loop import Driver
 
 
 class ScopesWanted(Exception):
-    """A group that was done begins anew: the next session makes its scope."""
+    """A group without a scope that it can have tasks in has something to do: the next session makes
+    one."""
 
 
 class Taker:
@@ -54,9 +60,12 @@ class Taker:
         """How many commands may run at a time now."""
         return 0 if self.is_paused else self.its.most or self.driver.most
 
-    def take(self) -> None:
-        """Takes what is wanted now, and answers."""
+    def take(self, batch: Batch) -> None:
+        """Takes what is wanted now, and answers. What this batch has is acked first: a command may
+        be to run again whose end it has."""
         requests = self.desk.requests()
+        if requests and batch.lines:
+            self.driver.acked = batch.send(self.driver.session)
         # (one whose answer couldn't be written is there again, and isn't taken twice)
         self.answers = {it.name: self.answers[it.name] for it in requests
                         if it.name in self.answers}
@@ -77,7 +86,8 @@ class Taker:
         """The answer, once what is wanted holds."""
         driver = self.driver
         night = Night(driver.jobs, driver.book, driver.facts,
-                      driver.planner.standings(driver.facts), driver.has_mark)
+                      driver.planner.standings(driver.facts), driver.has_mark,
+                      driver.planner.standings)
         change = Change(night, self.its, by)
         answer = change.take(wants)
         nights = {driver.book.night: change.its}
@@ -90,7 +100,7 @@ class Taker:
     def of_next(self, wants: tuple[Want, ...], by: By) -> Tonight:
         """The same of the night that this run begins after the rest of this one."""
         driver, number = self.driver, self.driver.next_night
-        change = Change(anew(driver.jobs, number), driver.past.notes.of(number), by)
+        change = Change(fresh_night(driver.jobs, number), driver.past.notes.of(number), by)
         change.take(wants)
         return change.its
 
@@ -102,9 +112,7 @@ class Taker:
             if before.redo.get(name) != since:
                 driver.facts.forget(name)
                 driver.forgiven.pop(name, None)
-        for name, cause in its.canceled.items():
-            if name not in driver.facts.ends:
-                driver.facts.cancel_one(name, cause, time.time())
+        driver.facts.stay_canceled(its.canceled, time.time())
         driver.facts.changed |= driver.jobs.all.keys()
         driver.book.close_old()
         self.set_limits(its.limits)
@@ -112,10 +120,16 @@ class Taker:
             by = driver.facts.left_out(it.name)
             if by and not it.has_begun and not it.is_never:
                 it.never(canceled(by))
-        again = groups_anew(driver.book, driver.facts)
-        driver.anew |= again
-        self.wants_scopes |= bool(again)
+        again = reopened_groups(driver.book, driver.facts)
+        driver.reopened |= again
+        self.wants_scopes |= not driver.is_full and bool(again or self.groups_without_scope())
         driver.is_woken = True
+
+    def groups_without_scope(self) -> set[str]:
+        """The groups that have something to do now, and had nothing as the session was opened: all
+        of it was left out, or not due."""
+        driver = self.driver
+        return groups_left(driver.planner.standings(driver.facts)) - driver.book.scopes.keys()
 
     def set_limits(self, limits: dict[str, int]) -> None:
         """A group whose limit was set begins in a group of the store that has none."""
@@ -156,9 +170,26 @@ def keep(files: Files, past: Past, nights: dict[int, Tonight]) -> None:
     past.notes = notes
 
 
-def anew(jobs: Jobs, number: int) -> Night:
-    """A night of which nothing has begun."""
-    return Night(jobs, Book(number, Round()), Facts(), dict.fromkeys(jobs.all, Standing(WAITING)))
+def parts_of(wants: tuple[Want, ...], night: Night) -> list[tuple[Want, ...]]:
+    """A request in smaller parts: by its verbs, or each want by itself. The commands of an `--only`
+    stay together as far as they are known, since another `--only` replaces the first."""
+    verbs = list(dict.fromkeys(it.verb for it in wants))
+    if verbs[1:]:
+        return [tuple(it for it in wants if it.verb is verb) for verb in verbs]
+    known = tuple(it for it in wants if it.verb is Verb.ONLY and is_known(it.word, night.jobs))
+    return [*([known] if known else []), *((it,) for it in wants if it not in known)]
+
+
+def is_known(word: str, jobs: Jobs) -> bool:
+    group, slash, key = word.partition("/")
+    return (group, key) in jobs.all if slash else group == OF_ALL or group in jobs.members
+
+
+def fresh_night(jobs: Jobs, number: int) -> Night:
+    """A night of which nothing has begun, and which begins today."""
+    day = datetime.date.today() if jobs.has_days else None
+    return Night(jobs, Book(number, Round()), Facts(day=day), {
+        name: Standing(WAITING if job.is_due(day) else NOT_DUE) for name, job in jobs.all.items()})
 
 
 # --- as a run begins
@@ -170,22 +201,32 @@ class Opening:
     def __init__(self, files: Files, jobs: Jobs, past: Past) -> None:
         self.files, self.jobs, self.past, self.before = files, jobs, past, past.notes
         self.notes = past.notes.copied()
-        self.missed: list[str] = []  # why requests of before aren't taken
+        self.missed: list[tuple[Verb, str]] = []  # earlier requests that aren't taken, and why
 
     def take(self, number: int, night: Night, own: tuple[Want, ...], by: By,
              may_miss: bool = False) -> None:
         """Takes them for one night. Refused where one of the command line can't be taken, and
         mustn't be missed."""
-        for want, who in self.before.next:
-            try:
-                self.change(number, night, (want,), who)
-            except Refused as why:
-                self.missed.append(f"--{want.text} by {who.who} is passed over: {why}")
+        for who, its in itertools.groupby(self.before.next, key=lambda it: it[1]):
+            self.take_before(number, night, tuple(want for want, _ in its), who)
         try:
             self.change(number, night, own, by)
         except Refused:
             if not may_miss:
                 raise
+
+    def take_before(self, number: int, night: Night, wants: tuple[Want, ...], who: By) -> None:
+        """Takes an earlier request; if it can't be taken as a whole, those of its parts that can.
+        Otherwise more would run than was asked for."""
+        try:
+            self.change(number, night, wants, who)
+        except Refused as why:
+            if len(wants) == 1:
+                self.missed.append(
+                    (wants[0].verb, f"--{wants[0].text} by {who.who} is passed over: {why}"))
+                return
+            for its in parts_of(wants, night):
+                self.take_before(number, night, its, who)
 
     def change(self, number: int, night: Night, wants: tuple[Want, ...], by: By) -> None:
         change = Change(night, self.notes.of(number), by)
@@ -212,12 +253,25 @@ class Opening:
         if self.notes != self.before:
             write_notes(self.files, self.notes, night)
         self.past.notes = self.notes
-        for it in self.missed:
+        for _, it in self.missed:
             tell(it)
+
+    def leave(self) -> None:
+        """The run has nothing to do. What isn't to be started again tonight is reported; all else
+        waits for the next run."""
+        self.past.notes = self.before
+        missed = [it for verb, it in self.missed if verb is Verb.REDO]
+        for it in missed:
+            tell(it)
+        left = [f"--{want.text}" for want, _ in self.before.next
+                if not any(it.startswith(f"--{want.text} by ") for it in missed)]
+        if left:
+            note(f"{self.files.shown}: {' '.join(left)} {'wait' if left[1:] else 'waits'} for the"
+                 " next run that has something to do")
 
     def tell(self, number: int) -> None:
         """Reports a pause, in which a run may wait for long."""
         by = self.notes.of(number).paused
         if by:
-            tell(f"{self.files.shown}: paused by {by.who}, {moment(by.at)}; night-run"
-                 f" {self.files.shown} --resume goes on")
+            tell(f"{self.files.shown}: paused by {by.who}, {moment(by.at)}; to go on: night-run"
+                 f" {self.files.shown} --resume")

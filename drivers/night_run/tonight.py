@@ -3,13 +3,16 @@ that night, however often a driver is killed. Its lines are
 
     night N skip GROUP KEY by WHO at MOMENT            not begun any more
     night N only GROUP KEY by WHO at MOMENT            begun, as nothing is without such a line
-    night N redo GROUP KEY since ROUND by WHO at MOMENT
-                                                       its ends count from this round on
-    night N canceled GROUP KEY CAUSE                   canceled with its group, which begins anew
+    night N redo GROUP KEY since ROUND [anew] by WHO at MOMENT
+                                                       its ends count from this round on; its group
+                                                       was done, and begins again
+    night N canceled GROUP KEY CAUSE                   canceled with its group, which begins again,
+                                                       or had failed, and isn't tried again
     night N set NAME=VALUE by WHO at MOMENT            j, or GROUP.limit
     night N pause by WHO at MOMENT                     nothing is begun
     night N open                                       it had ended, and something of it runs again
-    next WANT by WHO at MOMENT                         a want that the next run is to take
+    next WANT by WHO at MOMENT                         a want that the next run is to take; those of
+                                                       one moment were asked for in one line
 
 The file is there only while it has a line. A night doesn't begin over one that can't be read, or
 that has a line of another form: what was to be left out would run.
@@ -32,7 +35,7 @@ NIGHT = re.compile(r"night ([1-9][0-9]{0,8}) ([a-z]+)(?: (.+))?")
 NEXT = re.compile(r"next (.+) by ([!-~]{1,32}) at ([0-9]{1,12})")
 BY = re.compile(r"(?:(.+) )?by ([!-~]{1,32}) at ([0-9]{1,12})")
 NAMED = re.compile(r"([a-z0-9_-]{1,20}) ([a-z0-9_-]{1,32})(?: (.+))?")
-SINCE = re.compile(r"since ([0-9]{1,9})-([0-9]{1,9})")
+SINCE = re.compile(r"since ([0-9]{1,9})-([0-9]{1,9})( anew)?")
 SET = re.compile(r"(j|([a-z0-9_-]{1,20})\.limit)=([0-9]{1,4})")
 
 
@@ -42,6 +45,7 @@ class Again:
 
     since: Round
     by: By
+    is_reopened: bool = False  # whether its group was done, and so gets another scope
 
 
 @dataclass
@@ -81,7 +85,8 @@ class Tonight:
         for name, by in self.only.items():
             yield f"only {' '.join(name)} {by.text}"
         for name, it in self.redo.items():
-            yield f"redo {' '.join(name)} since {it.since.number}-{it.since.again} {it.by.text}"
+            since = f"{it.since.number}-{it.since.again}{' anew' if it.is_reopened else ''}"
+            yield f"redo {' '.join(name)} since {since} {it.by.text}"
         for name, cause in self.canceled.items():
             yield f"canceled {' '.join(name)} {cause}"
         for what, (value, by) in self.sets.items():
@@ -122,7 +127,7 @@ class Tonight:
             return True
         since = SINCE.fullmatch(named[3] or "")
         if what == "redo" and since:
-            self.redo[name] = Again(Round(int(since[1]), int(since[2])), by)
+            self.redo[name] = Again(Round(int(since[1]), int(since[2])), by, bool(since[3]))
         return what == "redo" and bool(since)
 
 

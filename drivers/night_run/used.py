@@ -4,7 +4,8 @@ The system knows the first two of processes that have ended and were waited for.
 begins a command waits for it, and no shell can ask for its memory. So a shell whose command took a
 second or more, or whose driver has gone, becomes Python at its end (`ASKING`), which asks, and
 writes a line into the file of the try (`tries`). Of a shorter one the driver learns what the system
-says of the shell; there a driver's own memory counts, so less than that isn't known.
+says of the shell; there a driver's own memory counts, so less than that isn't known. (That of the
+program that began the driver doesn't, though the system counts it as the driver's.)
 """
 
 from __future__ import annotations
@@ -13,6 +14,8 @@ import re
 import resource
 import sys
 from dataclasses import dataclass, replace
+
+from .processes import most_memory
 
 # What a shell becomes. It is given the status of the command and how that was limited. Its line has
 # its place in the file, or isn't written.
@@ -72,9 +75,8 @@ def of_line(line: str) -> Used | None:
 
 def of_shell(its: resource.struct_rusage, limits: str) -> Used:
     """What the system says of a shell that has ended by itself, and of all that it waited for. The
-    memory that the driver has had itself isn't told from that of the shell."""
-    own = resource.getrusage(resource.RUSAGE_SELF).ru_maxrss
-    memory = its.ru_maxrss << 10 if its.ru_maxrss > own else None
+    memory that the driver had itself can't be distinguished from that of the shell."""
+    memory = its.ru_maxrss << 10 if its.ru_maxrss > most_memory() else None
     return Used(its.ru_utime + its.ru_stime, memory, None, limits)
 
 
@@ -94,11 +96,17 @@ def size(count: float) -> str:
     return f"{count:.0f}{unit}" if not unit or count >= 99.95 else f"{count:.1f}{unit}"
 
 
+def amount(count: float) -> str:
+    """A number of bytes as a sentence has it: `1 byte`, `512 bytes`, or with a unit, as above."""
+    words = size(count)
+    return words if not words.isdigit() else f"{words} byte{'' if words == '1' else 's'}"
+
+
 def in_words(its: Used) -> list[str]:
     """What is known of it, such as `12s of processor time`, `1.3G of memory` and `4.2K printed`."""
     found = [] if its.cpu is None else [f"{seconds(its.cpu)} of processor time"]
-    found += [] if its.memory is None else [f"{size(its.memory)} of memory"]
-    return found + ([] if its.output is None else [f"{size(its.output)} printed"])
+    found += [] if its.memory is None else [f"{amount(its.memory)} of memory"]
+    return found + ([] if its.output is None else [f"{amount(its.output)} printed"])
 
 
 def seconds(count: float) -> str:

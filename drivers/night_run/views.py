@@ -10,7 +10,7 @@ from dataclasses import dataclass, field, replace
 from . import Fault, Name, rows
 from .beside import Part
 from .ends import INTERRUPTED
-from .facts import Book, Facts, book_of, facts_of, logged_groups, numbered
+from .facts import Book, Facts, book_of, facts_of, is_late, logged_groups, numbered
 from .files import Files
 from .jobs import Jobs
 from .log import Line, Tried, read_log
@@ -18,7 +18,7 @@ from .nights import know_day, read_nights
 from .opening import check, inspected
 from .past import Past, read_past
 from .planner import Planner
-from .processes import this_process
+from .processes import Process, this_process
 from .rounds import base_of
 from .settings import OF_ALL
 from .standing import NOT_KNOWN, Standing
@@ -27,7 +27,7 @@ from .tries import Named, running_now
 
 # How many of the last lines of an output are shown, out of how many of its last bytes.
 LINES, BYTES = 3, 4096
-# So often what two files say is read again, as one of them has changed meanwhile.
+# How often two files are read again because one of them has changed meanwhile; so is a night.
 MOMENTS = 20
 EMPTY = State(0, 0, {}, (), (), ())
 
@@ -43,11 +43,23 @@ class View:
     facts: Facts
     standings: Mapping[Name, Standing]
     running: Mapping[Named, float] = field(default_factory=dict)  # and when each of them began
+    holder: Process | None = None  # the driver that runs it
 
 
 def look(files: Files, planner: Planner, past: Past | None = None) -> View:
     """Reads a night. A store that isn't there has nothing. A driver knows the ends of a renewed
-    store itself."""
+    store itself. If the night's driver ends meanwhile, the night is read again: what the store says
+    of the commands that ran is of the moment before."""
+    for _ in range(MOMENTS):
+        holder = files.lock.holder()
+        found = read(files, planner, past, holder)
+        if holder is None or holder == files.lock.holder():
+            break
+    return found
+
+
+def read(files: Files, planner: Planner, past: Past | None, holder: Process | None) -> View:
+    """Reads a night, which this driver runs."""
     if past is None:
         past, state = moment(files)
     else:
@@ -60,8 +72,8 @@ def look(files: Files, planner: Planner, past: Past | None = None) -> View:
     planner.jobs.limits = book.tonight.limits
     facts = facts_of(state, past, lines, book, time.time(), {})
     running = running_now(files)
-    facts.busy = busy_in(files, state, book, running)
-    return View(state, past, lines, book, facts, planner.standings(facts), running)
+    facts.busy = busy_in(book, running, holder)
+    return View(state, past, lines, book, facts, planner.standings(facts), running, holder)
 
 
 def moment(files: Files) -> tuple[Past, State]:
@@ -74,11 +86,10 @@ def moment(files: Files) -> tuple[Past, State]:
     raise Fault(f"{files.shown_of(Part.ENDED)} changes again and again")
 
 
-def busy_in(files: Files, state: State, book: Book, running: Iterable[Named]) -> set[Name]:
+def busy_in(book: Book, running: Iterable[Named], holder: Process | None) -> set[Name]:
     """What runs: tasks that have a driver, and commands that a killed one left."""
     found = {name for name in (it.name for it in running)
              if name not in book.last or book.last[name].phase in ("running", "interrupted")}
-    holder = files.lock.holder()
     if holder and holder != this_process():
         found |= {name for name, task in book.last.items() if task.phase == "running"}
     return found
@@ -174,11 +185,13 @@ def add_try(found: dict[Name, list[tuple[str, rows.Try]]], tried: Tried, it: row
 
 
 def groups(jobs: Jobs, view: View) -> tuple[rows.Group, ...]:
-    """All groups together, and each group of the file."""
-    top, done = view.book.top, view.facts.done
-    of_all = rows.Group(OF_ALL, bool(top and top.done), top.cause or "" if top else "",
-                        top.deadline if top else None, None)
-    made = [of_all]
+    """All groups together, and each group of the file. A deadline that passed after the night's end
+    isn't shown as passed."""
+    top = view.book.top
+    done = {name: why for name, why in view.facts.done.items() if name not in view.facts.late}
+    is_done = bool(top and top.done and not is_late(top, top.cause or "", view.book))
+    made = [rows.Group(OF_ALL, is_done, top.cause or "" if top and is_done else "",
+                       top.deadline if top else None, None)]
     for name in jobs.members:
         scope = view.book.scopes.get(name)
         made.append(rows.Group(name, name in done, done.get(name, ""),

@@ -7,15 +7,16 @@ import errno
 import os
 import time
 
-from . import Fault, Mistake, Name, petitions
+from . import Fault, Mistake, Name, cancels, petitions
 from .files import Files
+from .guesses import no_command, no_group
 from .opening import inspected
 from .past import read_past
 from .report_words import moment
 from .settings import OF_ALL
-from .status_plan import parsed_plan, plan_text
+from .status_plan import names_of_plan
 from .tonight import Notes, Tonight, write_notes
-from .wants import NAMING, By, Verb, Want
+from .wants import NAMING, NOT_PAUSED, By, Verb, Want
 
 # How many seconds a driver has to answer, and how often that is looked for.
 SECONDS, LOOK = 60.0, 0.05
@@ -39,7 +40,7 @@ def want(files: Files, wants: tuple[Want, ...], by: By) -> str:
                 return checked(answer) if answer else Alone(files, by).leave(wants)
             time.sleep(LOOK)
     finally:
-        petitions.withdraw(files, it)
+        cancels.withdraw(files, it.name)
     raise Fault(f"the active night-run hasn't read {files.shown}.cancel within {SECONDS:.0f} s:"
                 " nothing is changed")
 
@@ -56,14 +57,17 @@ class Alone:
     """A request where no driver runs."""
 
     def __init__(self, files: Files, by: By) -> None:
-        self.files, self.by = files, by
+        self.files = files
         past = read_past(files)
         self.night = max(inspected(files).night(), past.night)
         self.notes: Notes = past.notes.copied()
+        # (what has one moment in the file was asked for in one line)
+        last = max((it.at for _, it in self.notes.next), default=-1)
+        self.by = By(by.who, max(by.at, last + 1))
 
     def leave(self, wants: tuple[Want, ...]) -> str:
         """Leaves it for the next run."""
-        names = self.names() if any(it.verb in (*NAMING, Verb.SET) for it in wants) else set()
+        names = names_of_plan(self.files) if any(it.verb in (*NAMING, Verb.SET) for it in wants) else set()
         for it in wants:
             self.check(it, names)
         if any(it.verb is Verb.ONLY for it in wants):
@@ -71,11 +75,6 @@ class Alone:
         answers = [self.add(it) for it in wants]
         write_notes(self.files, self.notes, self.night)
         return "\n".join(answers)
-
-    def names(self) -> set[Name]:
-        """The commands of the last run. (To read their file now may run commands.)"""
-        plan = parsed_plan(self.files, plan_text(self.files))
-        return set(plan.jobs.all) if plan else set()
 
     def check(self, it: Want, names: set[Name]) -> None:
         """Refuses what isn't known: a slip would leave nothing out."""
@@ -86,9 +85,9 @@ class Alone:
             return
         is_known = (group, key) in names if slash else any(group == one for one, _ in names)
         if not is_known:
-            what = f"{group} has no command {key}" if slash else \
-                f"{self.files.shown} has no group {group}"
-            raise Mistake(f"{what}, as far as the last run shows")
+            how = ", as far as the last run shows"
+            raise Mistake(no_command(group, key, names, how) if slash else
+                          no_group(self.files.shown, group, names, how))
 
     def drop(self, verb: Verb, word: str = "") -> None:
         """Drops what was left for the next run, of this verb."""
@@ -102,14 +101,14 @@ class Alone:
             self.drop(Verb.SET, it.word)
         if all(one != it for one, _ in self.notes.next):
             self.notes.next.append((it, self.by))
-        return f"{it.text}: the next run takes it"
+        return f"{it.text}: no night-run is active, so the next run does it"
 
     def resume(self) -> str:
         its = self.notes.of(self.night)
         was = its.paused or any(it.verb is Verb.PAUSE for it, _ in self.notes.next)
         self.drop(Verb.PAUSE)
         its.paused = None
-        return "the next run goes on" if was else "it is not paused"
+        return "the next run isn't paused" if was else NOT_PAUSED
 
 
 # --- what a list shows of it

@@ -27,7 +27,7 @@ from .reading import short
 
 MOST_LIMIT, MOST_AT_A_TIME = 64, 9999
 WHAT = re.compile(r"[a-z0-9_-]{1,20}(?:/[a-z0-9_-]{1,32})?")
-SETTING = re.compile(r"(j|[a-z0-9_-]{1,20}\.limit)=([1-9][0-9]{0,3})")
+SETTING = re.compile(r"(j|[a-z0-9_-]{1,20}\.limit)=(0|[1-9][0-9]{0,8})")
 WHO = re.compile(r"[!-~]{1,32}")
 
 
@@ -42,6 +42,8 @@ class Verb(enum.Enum):
     SET = "set"
 
 
+# The answer to a `resume` of a night that isn't paused.
+NOT_PAUSED = "the night isn't paused"
 # Those that stand alone, and those that name commands.
 ALONE, NAMING = (Verb.PAUSE, Verb.RESUME), (Verb.ONLY, Verb.REDO, Verb.SKIP)
 
@@ -94,7 +96,7 @@ def wrong(it: Want) -> str:
     if not found:
         return "a setting is j=N or GROUP.limit=N"
     most = MOST_AT_A_TIME if found[1] == "j" else MOST_LIMIT
-    return "" if int(found[2]) <= most else f"{found[1]} is 1 to {most}"
+    return "" if 1 <= int(found[2]) <= most else f"{found[1]} is 1 to {most}"
 
 
 def given(words: argparse.Namespace) -> Iterator[tuple[Verb, list[str]]]:

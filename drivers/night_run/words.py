@@ -37,9 +37,10 @@ from .nights import know_day
 from .owners import mails_of
 from .past import Past, Unreadable, read_past
 from .planner import Planner
-from .plans import Wish, forgiven, is_left, planned
-from .renewal import make, make_anew, renew
-from .report_words import last_end
+from .plans import Wish, groups_to_reopen, forgiven, is_left, planned
+from .renewal import make, replace_store, renew
+from .processes import age
+from .report_words import last_end, span
 from .rest import Rest
 from .rounds import Role, role_name
 from .signals import Signals
@@ -47,7 +48,7 @@ from .state import State
 from .status_plan import write_plan
 from .summary import (changed, failed_count, failures, is_well, is_whole, left_count, list_lines,
                       names_not_there, nothing_to_do, total)
-from .taking import Opening, anew
+from .taking import Opening, fresh_night
 from .telling import note
 from .tries import Tries
 from .version import version
@@ -119,8 +120,8 @@ Settings, one or more in a line:
 
 A command inherits the environment of night-run, and finds NIGHT_STORE, NIGHT_GROUP, NIGHT_KEY and
 NIGHT_TRY there. Its standard input is empty, and its output goes to STORE.out/GROUP.KEY.TRY.
-STORE.log lists each try: when it ran, for how long, how it ended, and what it used. Press Ctrl-C once to let the
-running commands finish, and twice to stop them. SIGTERM stops them at once.
+STORE.log lists each try: when it ran, for how long, how it ended, and what it used. Press Ctrl-C
+once to let the running commands finish, and twice to stop them. SIGTERM stops them at once.
 
 The exit status is 0 if every command is ok (or what you asked for was printed or done), 1 if one
 isn't, 2 if the options or the file have a mistake, and 3 if night-run couldn't do its work, for
@@ -164,7 +165,10 @@ class Reader(argparse.ArgumentParser):
         raise Asked(message)
 
     def error(self, message: str) -> NoReturn:
-        raise Unusable(f"{self.format_usage()}{self.prog}: error: {message}")
+        """One line, which no usage of many lines pushes out of sight: it is read at night, and
+        mailed by cron. Only who gives no word at all gets the usage."""
+        usage = "" if sys.argv[1:] else self.format_usage()
+        raise Unusable(f"{usage}{self.prog}: {message}; {self.prog} --help shows all options")
 
 
 def read_words(given: list[str]) -> argparse.Namespace:
@@ -403,9 +407,9 @@ def shown(files: Files, planner: Planner, words: argparse.Namespace) -> list[str
         from . import report as forms
         return [forms.made(words.report, files, made).rstrip("\n")]
     if words.dry_run:
-        told = lines_of(view.past.notes, view.book.night)
+        requests = lines_of(view.past.notes, view.book.night)
         wanted = Opening(files, planner.jobs, view.past)
-        return planned(planner, view, words.most, wish_of(words), wanted, words.wants) + told
+        return planned(planner, view, words.most, wish_of(words), wanted, words.wants) + requests
     if words.json:
         return [json.dumps([as_json(it) for it in made.rows], indent=1)]
     return list_lines(made) + lines_of(view.past.notes, view.book.night)
@@ -493,7 +497,10 @@ class Run:
             self.files.look_for_log()
             foreign.look(self.files)
         if not self.files.lock.take():
-            raise Fault(f"{self.files.shown}: in use by another night-run")
+            its = " ".join(f"--{it.text}" for it in self.words.wants)
+            hint = f"; without the command file, that one is asked: night-run {self.files.shown}" \
+                f" {its}" if its else ""
+            raise Fault(f"{self.files.shown}: in use by another night-run{holder(self.files)}{hint}")
         self.is_alone = True
         if not self.files.exists():
             self.files.look_for_log()  # (it may have gone meanwhile)
@@ -592,8 +599,8 @@ class Run:
         """The state of the store. One whose sync failed is mended by an opening first."""
         self.files.forget_pages()
         if self.files.is_marked():
-            note(f"{self.files.shown}.failed is there, because a sync failed; `night` copies the"
-                 " store first")
+            note(f"{self.files.shown}.failed is there: a sync failed, or a `night` was killed that"
+                 " may have been in one; `night` copies the store first")
             ran("script", self.files.path, seconds=RENEWAL_SECONDS)
         return inspected(self.files)
 
@@ -603,15 +610,16 @@ class Run:
         book = book_of(state, self.past, night)
         know_day(self.files, book, self.jobs)
         facts = facts_of(state, self.past, self.log.lines, book, time.time(), {})
+        facts.busy = {it.name for it in driver.left.there()}
         found = self.planner.standings(facts)
         driver.night = night
-        is_over = all(it.is_final for it in found.values())
+        was_over = all(it.is_final for it in found.values())
         has_mark = bool(book.top and role_name(book.top.name, Role.ENDED) in state.by_name)
         has_one = bool(state.scopes[1:] or self.past.round)
         driver.begins_night = has_one and (
             self.words.again or self.words.nightly and not self.rest.is_due)
-        wanted = self.take_wants(Night(self.jobs, book, facts, found, has_mark),
-                                 driver.begins_night)
+        wanted = self.take_wants(Night(self.jobs, book, facts, found, has_mark,
+                                       self.planner.standings), driver.begins_night)
         self.past.notes = wanted.notes
         book = dataclasses.replace(book_of(state, self.past, night), day=book.day)
         facts = facts_of(state, self.past, self.log.lines, book, time.time(), {})
@@ -621,12 +629,13 @@ class Run:
             note(f"night {night} wasn't finished: the rest of it comes first")
         if self.words.failed:
             driver.forgiven = forgiven(found, facts)
-            driver.anew = {group for group, _ in driver.forgiven if group in facts.done}
+            driver.reopened = groups_to_reopen(driver.forgiven, facts, self.jobs)
         ours = set() if driver.begins_night else groups_of(state, self.past, night)
-        driver.left.settle(state, self.past, ours)
-        self.tell_missing(facts.interrupted)
-        has_work = not is_over or driver.begins_night or self.rest.is_due or bool(
-            driver.forgiven or driver.left) or not has_mark and self.has_unwritten_end(book, facts)
+        driver.left.settle(state, self.past, ours, self.past.notes.of(night).redo)
+        tell_missing(self.files, self.jobs, facts.interrupted)
+        # (what is wanted may leave nothing to do, which is to be recorded, too)
+        has_work = not (was_over and is_over) or driver.begins_night or self.rest.is_due or bool(
+            driver.forgiven or driver.left) or not has_mark and has_unwritten_end(self.jobs, book, facts)
         has_work = has_work or not has_one  # (of the first night nothing may be due)
         if self.jobs.has_days and (driver.begins_night or not book.top) and not clock.is_set():
             raise Fault(f"this machine's clock shows {clock.shown()}, and so isn't set: nobody"
@@ -636,7 +645,7 @@ class Run:
             wanted.tell(night + driver.begins_night)
             driver.before = self.renewed(driver, state)
         else:
-            self.past.notes = wanted.before
+            wanted.leave()
         return has_work
 
     def take_wants(self, it: Night, begins_night: bool) -> Opening:
@@ -650,18 +659,10 @@ class Run:
                 wanted.go_on(number)
             wanted.take(number, it, self.words.wants, by, may_miss=self.rest.is_due)
         if begins_night or self.rest.is_due:
-            wanted.take(number + 1, anew(self.jobs, number + 1), self.words.wants, by)
+            wanted.take(number + 1, fresh_night(self.jobs, number + 1), self.words.wants, by)
         if self.words.failed:
             wanted.forget_canceled(number)
         return wanted
-
-    def has_unwritten_end(self, book: Book, facts: Facts) -> bool:
-        """Whether a deadline has passed over something that is left, and the store doesn't
-        have it yet."""
-        return any(group in facts.done and not scope.done and any(
-            it not in facts.ends and self.jobs.all[it].is_due(facts.day)
-            for it in self.jobs.members.get(group, ()))
-            for group, scope in book.scopes.items())
 
     def renewed(self, driver: Driver, state: State) -> State | None:
         """Renews a store that is nearly full, and makes another one where its clock is ahead. The
@@ -671,21 +672,15 @@ class Run:
             note(f"this machine's clock shows {clock.shown()}, and so isn't set: the deadlines of"
                  " this night wait until it is")
         elif ahead > MOST_AHEAD:
-            driver.past = make_anew(self.files, self.log, self.past, self.jobs, state, ahead)
+            driver.past = replace_store(self.files, self.log, self.past, state, ahead,
+                                        driver.catch_up, self.signals)
             self.files.lock.sign()
             return None
         if state.is_nearly_full():
             driver.past, _ = renew(self.files, self.log, self.past, self.planner, self.signals.wake,
-                                   driver.meanwhile)
+                                   driver.meanwhile, driver.catch_up)
             return None
         return None if self.files.is_marked() else state
-
-    def tell_missing(self, left: set[Name]) -> None:
-        its = names_not_there(self.jobs, left)
-        if its:
-            shown = ", ".join(" ".join(it) for it in its[:5]) + (", .." if its[5:] else "")
-            note(f"{self.jobs.path}: no longer has commands that {self.files.shown} has yet to"
-                 f" finish ({len(its)}): {shown}")
 
     def idle(self) -> Outcome:
         """Nothing is left to do in this night."""
@@ -717,3 +712,25 @@ class Run:
             status, lines=lines, failed=failed_count(made), left=left_count(made),
             has_run=has_run, is_silent=is_silent, mails=mails_of(self.jobs, made), alarm=alarm,
             is_given=is_given), made.night)
+
+
+def holder(files: Files) -> str:
+    """Which other night-run has the store, and for how long, as far as that is known."""
+    it = files.lock.holder()
+    return f", process {it.pid}, for {span(age(it))}" if it else ""
+
+
+def has_unwritten_end(jobs: Jobs, book: Book, facts: Facts) -> bool:
+    """Whether a deadline has passed over something that is left, and the store doesn't have it
+    yet."""
+    return any(group in facts.done and not scope.done and any(
+        it not in facts.ends and jobs.all[it].is_due(facts.day)
+        for it in jobs.members.get(group, ())) for group, scope in book.scopes.items())
+
+
+def tell_missing(files: Files, jobs: Jobs, left: set[Name]) -> None:
+    its = names_not_there(jobs, left)
+    if its:
+        shown = ", ".join(" ".join(it) for it in its[:5]) + (", .." if its[5:] else "")
+        note(f"{jobs.path}: no longer has commands that {files.shown} has yet to finish"
+             f" ({len(its)}): {shown}")
