@@ -1,9 +1,11 @@
 /* A library before a driver: the time of day is this many seconds later as the file says that
-   NIGHTS_CLOCK names, in each process. The monotonic clock stays. */
+   NIGHTS_CLOCK names, in each process, and so is when a file was written. The monotonic clock
+   stays. */
 #define _GNU_SOURCE
 #include <dlfcn.h>
 #include <stdio.h>
 #include <stdlib.h>
+#include <sys/stat.h>
 #include <sys/time.h>
 #include <time.h>
 
@@ -38,4 +40,20 @@ int gettimeofday(struct timeval *found, void *zone) {
   clock_gettime(CLOCK_REALTIME, &it);
   found->tv_sec = it.tv_sec, found->tv_usec = it.tv_nsec / 1000;
   return 0;
+}
+
+int fstat(int file, struct stat *found) {
+  static int (*real)(int, struct stat *);
+  if (!real) real = dlsym(RTLD_NEXT, "fstat");
+  int status = real(file, found);
+  if (!status) found->st_mtim.tv_sec += ahead();
+  return status;
+}
+
+int fstat64(int file, struct stat64 *found) {
+  static int (*real)(int, struct stat64 *);
+  if (!real) real = dlsym(RTLD_NEXT, "fstat64");
+  int status = real(file, found);
+  if (!status) found->st_mtim.tv_sec += ahead();
+  return status;
 }

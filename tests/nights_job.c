@@ -1,11 +1,12 @@
-/* A command with an oracle of its own: it writes what happens to it into ROOM/told, a line each,
+/* A command with an oracle of its own: it writes what happens to it into ROOM/trace, a line each,
    and locks say whether more run beside it than may.
 
        nights_job ROOM GROUP KEY MILLISECONDS STATUS FAILS FLAGS
 
    It runs so long and ends with this status, and with 3 in its first FAILS tries. Flags: i ignores
    SIGTERM, z answers it with status 0, c closes what it inherits, b leaves a process in its group,
-   h one that ignores SIGTERM, d one in a session of its own; - is none. A line is
+   h one that ignores SIGTERM, d one in a session of its own, w waits while ROOM has a file `hold`;
+   - is none. A line is
    `WHAT GROUP KEY PID MICROSECONDS ..` by the monotonic clock:
 
        B .. PROCESS-GROUP TRIES NIGHT_TRY FOLDER WORD OUTPUT NICE KILOBYTES
@@ -34,7 +35,7 @@
 #define LEFT_SECONDS 100
 
 static const char *group, *key, *flags;
-static int told, held[MOST_LOCKS], locks;
+static int trace, held[MOST_LOCKS], locks;
 
 static int has(char flag) { return strchr(flags, flag) != NULL; }
 
@@ -44,7 +45,7 @@ static void tell(const char *what, const char *rest) {
   clock_gettime(CLOCK_MONOTONIC, &now);
   int length = snprintf(line, sizeof line, "%s %s %s %d %lld%s\n", what, group, key, (int)getpid(),
                         now.tv_sec * 1000000LL + now.tv_nsec / 1000, rest);
-  if (write(told, line, length) != length) _exit(99);
+  if (write(trace, line, length) != length) _exit(99);
 }
 
 /* Whether this lock could be taken. It is held until this process ends. */
@@ -164,7 +165,7 @@ int main(int count, char **words) {
   group = words[2], key = words[3], flags = words[7];
   if (has('c'))
     for (int at = 3; at < 256; at++) close(at);
-  told = open("told", O_WRONLY | O_APPEND | O_CREAT | O_CLOEXEC, 0666);
+  trace = open("trace", O_WRONLY | O_APPEND | O_CREAT | O_CLOEXEC, 0666);
   /* (what comes before its begin was written is answered after that) */
   term(SIG_BLOCK);
   signal(SIGTERM, on_term);
@@ -174,6 +175,7 @@ int main(int count, char **words) {
   term(SIG_UNBLOCK);
   for (const char *at = flags; *at; at++)
     if (*at == 'b' || *at == 'h' || *at == 'd') leave(*at);
+  while (has('w') && !access("hold", F_OK)) sleep_for(20);
   if (atol(words[4])) sleep_for(atol(words[4]));
   int status = many <= atoi(words[6]) ? 3 : atoi(words[5]);
   term(SIG_BLOCK);

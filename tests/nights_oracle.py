@@ -3,6 +3,7 @@ done to them, and whether all of it is as a driver's invariants say. Times are t
 monotonic clock, in seconds."""
 
 import bisect
+import functools
 import os
 import re
 import time
@@ -10,7 +11,9 @@ from collections import Counter, defaultdict
 from collections.abc import Callable, Iterator
 from dataclasses import dataclass, field
 
-from nights_plan import KILOBYTES, MEMORY, NICE, Group, Plan
+from nights_plan import KILOBYTES, MEMORY, NICE, SECRET, Group, Plan
+from nights_wants import (LEAVE, Asked, Wanted, beside_later_ones, redo_refused, refused_wrongly,
+                          requests_kept, skipped_again, wanted_of, with_needs)
 
 # A cancel is obeyed, and a deadline is, within this many seconds.
 PROMPT = 2.0
@@ -21,9 +24,10 @@ BESIDE = {"key": "4: {key} began at {at:.3f} beside another try of it",
           "left": "4: {key} began at {at:.3f} beside what a try of it had left",
           "group": "2: {key} began at {at:.3f}, and {group} was at its limit",
           "all": "2: {key} began at {at:.3f}, and so many as may were alive"}
-# Stops that leave the commands alone: the driver, with its `night`, is killed, or is asked to begin
-# no more.
-LEAVE = ("driver", "both", "rest", "int")
+# Stops before which a driver was asked to end, and to stop what runs.
+ASKED_TO_STOP = ("asked", "it hung")
+# What is as nice as can be gets no nicer.
+MOST_NICE = 19
 # The end of a task that was submitted and is not to begin.
 WITHDRAWN = "withdrawn"
 
@@ -32,6 +36,7 @@ WITHDRAWN = "withdrawn"
 class Try:
     """A command that began: its place, its leader, and what became of it."""
 
+    group: str
     key: str
     pid: int
     process_group: int
@@ -83,7 +88,7 @@ class Run:
 @dataclass(frozen=True)
 class Cancel:
     """A cancel from a second process, of these groups; `written` is when its request was seen
-    beside the store. Of a group whose deadline had passed it is none."""
+    beside the store. It was late if the deadline of its group had passed."""
 
     group: str
     groups: tuple[str, ...]
@@ -91,7 +96,7 @@ class Cancel:
     done: float
     status: int
     had_driver: bool
-    was_done: bool
+    was_late: bool
     written: float | None = None
 
 
@@ -102,6 +107,28 @@ class Left:
     key: str
     pid: int
     flag: str
+
+
+@dataclass(frozen=True)
+class Beside:
+    """Something that a command found when it began, and that may not exist then: one of BESIDE."""
+
+    what: str
+    group: str
+    key: str
+    at: float
+
+    def __str__(self) -> str:
+        return BESIDE[self.what].format(group=self.group, key=self.key, at=self.at)
+
+
+@dataclass
+class Trace:
+    """What commands wrote: their tries, what they left, and what they saw beside them."""
+
+    tries: list[Try] = field(default_factory=list)
+    left: list[Left] = field(default_factory=list)
+    beside: list[Beside] = field(default_factory=list)
 
 
 @dataclass
@@ -118,11 +145,29 @@ class Seen:
     runs: list[Run] = field(default_factory=list)
     cancels: list[Cancel] = field(default_factory=list)
     canceled: list[tuple[float, str]] = field(default_factory=list)
+    asked: list[Asked] = field(default_factory=list)
     slack: Callable[[float, float], float] = lambda one, other: 0.0
 
     def all_tries(self) -> list[Try]:
         return sorted((it for tries in self.tries.values() for it in tries),
                       key=lambda it: it.began)
+
+    @functools.cached_property
+    def wanted(self) -> Wanted:
+        """What was wanted at each moment; once all is read."""
+        return wanted_of(self)
+
+    @property
+    def most(self) -> int:
+        """How many commands may run at a time at most."""
+        return max([self.plan.most, *(int(one.word[2:]) for it in self.asked for one in it.wants
+                                      if one.word.startswith("j="))])
+
+    def started(self, it: Try) -> float:
+        return started(self, it)
+
+    def night_of(self, at: float) -> float:
+        return night_of(self, at)
 
 
 def lines_of(path: str) -> Iterator[list[str]]:
@@ -132,25 +177,35 @@ def lines_of(path: str) -> Iterator[list[str]]:
                 yield line.rstrip("\n").split(" ")
 
 
-def read_told(seen: Seen, path: str) -> None:
-    """Reads what the commands wrote."""
-    by_pid: dict[tuple[str, int], Try] = {}
+def trace_in(path: str) -> Trace:
+    """Reads what commands wrote to this file."""
+    trace, by_pid = Trace(), dict[tuple[str, int], Try]()
     for what, group, key, pid, moment, *rest in lines_of(path):
         at, name = int(moment) / 1e6, (key, int(pid))
         if what == "B":
-            by_pid[name] = Try(key, int(pid), int(rest[0]), at, int(rest[1]), rest[2], rest[3],
-                               rest[4], rest[5], int(rest[6]), int(rest[7]))
-            seen.tries[key].append(by_pid[name])
+            by_pid[name] = Try(group, key, int(pid), int(rest[0]), at, int(rest[1]), rest[2],
+                               rest[3], rest[4], rest[5], int(rest[6]), int(rest[7]))
+            trace.tries.append(by_pid[name])
         elif what == "E":
             by_pid[name].ended, by_pid[name].status = at, int(rest[0])
         elif what == "T" and name in by_pid:
             by_pid[name].terms.append(at)
         elif what == "G":
-            seen.left.append(Left(key, int(pid), rest[0]))
+            trace.left.append(Left(key, int(pid), rest[0]))
         elif what == "V":
-            may = rest[0] == "left" and seen.plan.groups[group].keeps
-            if not may:
-                seen.beside.append(BESIDE[rest[0]].format(group=group, key=key, at=at))
+            trace.beside.append(Beside(rest[0], group, key, at))
+    return trace
+
+
+def read_trace(seen: Seen, path: str) -> None:
+    """Reads what the commands of a night wrote. What a command leaves may live where its group
+    keeps it."""
+    trace = trace_in(path)
+    for it in trace.tries:
+        seen.tries[it.key].append(it)
+    seen.left += trace.left
+    seen.beside += [str(it) for it in trace.beside
+                    if it.what != "left" or not seen.plan.groups[it.group].keeps]
 
 
 def read_acked(seen: Seen, path: str) -> None:
@@ -175,9 +230,10 @@ def read_acked(seen: Seen, path: str) -> None:
 def complaints(seen: Seen) -> list[str]:
     """What is not as it must be: the number of the invariant, and what was seen."""
     found = [*starts_acked(seen), *seen.beside]
-    for check in (places, cancels_obeyed, deadlines_kept, timeouts_kept, ended_once, stopped_not_ok,
-                  run_twice, ordered, stopped_on_failure, outputs_own, in_places,
-                  limited):
+    for check in (places, group_places, pool_places, cancels_obeyed, deadlines_kept, timeouts_kept,
+                  ended_once, stopped_not_ok, run_twice, ordered, stopped_on_failure, cleaned_up,
+                  cleanups_go_on, outputs_own, in_places, limited, requests_kept, redo_refused,
+                  refused_wrongly, skipped_again, beside_later_ones):
         found += check(seen)
     return found
 
@@ -197,11 +253,51 @@ def starts_acked(seen: Seen) -> Iterator[str]:
 def places(seen: Seen) -> Iterator[str]:
     """In each stretch between two stops the commands that began and whose end isn't acked. Where
     only a `night` was killed, an end from before that may be durable, and nobody has learned it."""
+    for at, live, _ in begins_of(seen):
+        most, is_set = limit_at(seen, at, "j", seen.plan.most)
+        if most is not None and live > most:
+            yield (f"{'set' if is_set else '2'}: {live} commands live or are unrecorded at"
+                   f" {at:.3f}, and not {most} at most")
+            return
+
+
+def group_places(seen: Seen) -> Iterator[str]:
+    """The same of each group."""
+    for group in seen.plan.groups.values():
+        for at, live, _ in begins_of(seen, group.name):
+            most, is_set = limit_at(seen, at, group.name, group.limit)
+            if most is not None and live > most:
+                yield (f"{'set' if is_set else '2'}: {live} commands of {group.name} live or are"
+                       f" unrecorded at {at:.3f}, and not {most} at most")
+                break
+
+
+def pool_places(seen: Seen) -> Iterator[str]:
+    """The same of the pool: no more of it is taken than there is."""
+    uses = seen.plan.uses
+    for at, live, _ in lives_of(seen, [it for it in seen.all_tries() if it.key in uses]):
+        taken = sum(uses[key] for key in live)
+        if taken > seen.plan.tape:
+            yield (f"pool: {sorted(live)} live or are unrecorded at {at:.3f}, and take {taken} of"
+                   f" {seen.plan.tape}")
+            break
+
+
+def begins_of(seen: Seen, group: str = "") -> Iterator[tuple[float, int, str]]:
+    """Each begin of a command, of a group or of all, with how many of them live then."""
+    its = [it for it in seen.all_tries() if not group or seen.plan.commands[it.key].group == group]
+    for at, live, key in lives_of(seen, its):
+        yield at, len(live), key
+
+
+def lives_of(seen: Seen, its: list[Try]) -> Iterator[tuple[float, set[str], str]]:
+    """Each begin of these tries, with the commands that live then."""
+    keys = {it.key for it in its}
     events: list[tuple[float, int, str]] = [(it.at, 0, "") for it in seen.stops]
-    events += [(at, 1, it.key) for at in seen.hits for it in seen.all_tries()
+    events += [(at, 1, it.key) for at in seen.hits for it in its
                if it.ended is not None and it.ended < at]
-    events += [(started(seen, it), 2, it.key) for it in seen.all_tries()]
-    events += [(it.at, 1, it.key) for acks in seen.acked.values() for it in acks if it.end]
+    events += [(started(seen, it), 2, it.key) for it in its]
+    events += [(it.at, 1, key) for key in keys for it in seen.acked[key] if it.end]
     live: set[str] = set()
     for at, what, key in sorted(events):
         if what == 0:
@@ -210,24 +306,26 @@ def places(seen: Seen) -> Iterator[str]:
             live.discard(key)
         else:
             live.add(key)
-            if len(live) > seen.plan.most:
-                yield (f"2: {len(live)} commands live or are unrecorded at {at:.3f}, and not"
-                       f" {seen.plan.most} at most")
-                return
+            yield at, live, key
+
+
+def limit_at(seen: Seen, at: float, name: str, usual: int | None) -> tuple[int | None, bool]:
+    """A limit at a moment, and whether it was set; None where there may be none."""
+    found = [dict(it.limits).get(name, usual) for it in seen.wanted.at(at)]
+    known = [it for it in found if it is not None]
+    return max(known) if len(known) == len(found) else None, found != [usual] * len(found)
 
 
 # --- 3: a round takes a bounded time
 
 def cancels_obeyed(seen: Seen) -> Iterator[str]:
     for it in seen.cancels:
-        if it.written is not None and not it.was_done:
-            # (that it was written may be seen late, after it was obeyed)
-            obeyed = next((at for at, group in seen.canceled
-                           if group == it.group and at > it.asked), it.done)
-            begun = starts_in(seen, it.written, obeyed)
+        obeyed = obeyed_at(seen, it)
+        if it.written is not None and obeyed is not None:
+            begun = starts_in(seen, seen.all_tries(), it.written, obeyed)
             is_slow = obeyed - it.written > PROMPT + seen.slack(it.written, obeyed)
             # (a driver that ends meanwhile has let it wait, too)
-            if is_slow and it.had_driver or begun > ROUNDS * seen.plan.most:
+            if is_slow and it.had_driver or begun > ROUNDS * seen.most:
                 yield (f"3: the cancel of {it.group} was obeyed {obeyed - it.written:.2f} s later,"
                        f" after {begun} commands had been begun")
         if it.status:
@@ -236,26 +334,39 @@ def cancels_obeyed(seen: Seen) -> Iterator[str]:
                    float("inf"))
         # (a start is acked before the cancel or never, so this holds however slow the machine is)
         late = [one for one in seen.all_tries() if it.done < started(seen, one) < end
-                and seen.plan.commands[one.key].group in it.groups]
+                and seen.plan.commands[one.key].group in it.groups
+                and not seen.plan.cleans_up(one.key)
+                and not seen.wanted.redone(one.key, it.asked, started(seen, one))]
         if late:
             yield (f"3: {len(late)} commands of {it.group} began after its cancel, {late[-1].key}"
                    f" {late[-1].began - it.done:.2f} s later")
 
 
-def starts_in(seen: Seen, one: float, other: float, group: str = "") -> int:
-    """How many tries, of this group or of all, had their starts acked between these moments. (A
-    start that is acked with its end, of a try that outlived its driver, begins nothing.)"""
-    return sum(one < started(seen, it) < other for it in seen.all_tries()
-               if not group or seen.plan.commands[it.key].group == group)
+def obeyed_at(seen: Seen, it: Cancel) -> float | None:
+    """When a cancel was obeyed, at the latest as it was answered; None where its group was done
+    already. (That it was written may be seen late, after it was obeyed.)"""
+    at = next((at for at, group in seen.canceled
+               if group == it.group and it.asked < at < it.done), None)
+    night = epoch_of(seen, it.asked)
+    was_done = it.was_late or any(group in (it.group, "night") and night < one <= it.asked
+                                  for one, group in seen.canceled)
+    return at if at is not None else None if was_done else it.done
+
+
+def starts_in(seen: Seen, its: list[Try], one: float, other: float) -> int:
+    """How many of these tries had their starts acked between these moments. (A start that is acked
+    with its end, of a try that outlived its driver, begins nothing.)"""
+    return sum(one < started(seen, it) < other for it in its)
 
 
 def deadlines_kept(seen: Seen) -> Iterator[str]:
     for group in seen.plan.groups.values():
         for moment, until in deadlines_of(seen, group):
-            begun = starts_in(seen, moment + 1, until, group.name)
-            if begun > ROUNDS * seen.plan.most:
+            its = [it for it in tries_of(seen, group.name) if not seen.plan.cleans_up(it.key)]
+            begun = starts_in(seen, its, moment + 1, until)
+            if begun > ROUNDS * seen.most:
                 yield f"3: {begun} commands of {group.name} began after its deadline"
-            for it in tries_of(seen, group.name):
+            for it in its:
                 began = started(seen, it)
                 if began > until:
                     continue
@@ -281,7 +392,10 @@ def deadlines_of(seen: Seen, group: Group) -> Iterator[tuple[float, float]]:
                      if seen.plan.commands[key].group == group.name and one < it.at < other),
                     default=None)
         if first is not None:
-            yield first + group.within + 1, other
+            # (a group of which something is to run again gets another one)
+            again = [it.asked for it in seen.wanted.again if one < it.asked < other
+                     and any(seen.plan.commands[key].group == group.name for key in it.keys)]
+            yield first + group.within + 1, min([other, *again])
 
 
 def timeouts_kept(seen: Seen) -> Iterator[str]:
@@ -304,7 +418,7 @@ def ended_once(seen: Seen) -> Iterator[str]:
             opened = next((run.is_first_of for run in reversed(seen.runs)
                            if run.is_first_of and one.began < run.began < other.began), "")
             end = end_between(seen, key, one.began, other.began)
-            if opened == "night":
+            if opened == "night" or seen.wanted.redone(key, one.began, started(seen, other)):
                 used = 0
             elif end == "ok":
                 yield f"5: {key} began again at {other.began:.3f}, and it had ended ok"
@@ -336,7 +450,8 @@ def run_twice(seen: Seen) -> Iterator[str]:
     again: Counter[int] = Counter()
     for key, tries in seen.tries.items():
         for one, other in zip(tries, tries[1:]):
-            if end_between(seen, key, one.began, other.began) is not None:
+            is_again = seen.wanted.redone(key, one.began, started(seen, other))
+            if is_again or end_between(seen, key, one.began, other.began) is not None:
                 continue
             between = [(number, it) for number, it in enumerate(seen.stops)
                        if started(seen, one) <= it.at < other.began]
@@ -369,10 +484,11 @@ def stopped_on_failure(seen: Seen) -> Iterator[str]:
         if not group.stops:
             continue
         for it in tries_of(seen, group.name):
-            since = epoch_of(seen, it.began)
+            since, at = epoch_of(seen, it.began), started(seen, it)
             failed = next((key for key in seen.acked if seen.plan.commands[key].group == group.name
-                           and has_failed(seen, key, since, started(seen, it))), None)
-            if failed and failed != it.key:
+                           and has_failed(seen, key, max(
+                               since, seen.wanted.since_at_most(key, at)), at)), None)
+            if failed and failed != it.key and not seen.plan.cleans_up(it.key):
                 yield f"stop on failure: {it.key} began at {it.began:.3f}, after {failed} failed"
                 break
 
@@ -381,6 +497,54 @@ def has_failed(seen: Seen, key: str, since: float, until: float) -> bool:
     """Whether a key had failed for good between these moments."""
     ends = [it.end for it in seen.acked[key] if it.end is not None and since < it.at < until]
     return len(ends) > seen.plan.retries_of(key) and all(it.startswith("exit") for it in ends)
+
+
+# --- cleanups
+
+def cleaned_up(seen: Seen) -> Iterator[str]:
+    """A cleanup begins once everything that it comes after has ended. Such a command doesn't live
+    then, and doesn't begin afterwards, except when somebody asks for it again."""
+    for it in seen.all_tries():
+        for key in seen.plan.cleaned_by(it.key):
+            late = next((one for one in seen.tries[key] if hadnt_ended(seen, one, it)), None)
+            if late:
+                yield (f"cleanup: {it.key} began at {it.began:.3f}, and {key} hadn't ended: {late}")
+
+
+def hadnt_ended(seen: Seen, one: Try, cleanup: Try) -> bool:
+    """Whether a try shows that its command hadn't ended when a cleanup after it began."""
+    at, began = started(seen, cleanup), started(seen, one)
+    if began < at:
+        return any(at < it for it in (*one.terms, *([one.ended] if one.ended else ())))
+    return epoch_of(seen, one.began) == epoch_of(seen, cleanup.began) \
+        and not may_come_back(seen, one.key, at, began)
+
+
+def may_come_back(seen: Seen, key: str, one: float, other: float) -> bool:
+    """Whether a command that had ended by the first moment may begin by the second one: it is
+    wanted again; or it was left out, or not due, or not started because its group had stopped, as
+    may also be so of a command that it comes after."""
+    its = with_needs(seen.plan, [key], seen.plan.not_due)
+    stopped = {it.key for it in seen.plan.commands.values() if seen.plan.groups[it.group].stops
+               and any(seen.plan.commands[name].group == it.group for name in its)}
+    return any(world.leaves_out(name) for world in seen.wanted.at(one) for name in its) or any(
+        seen.wanted.redone(name, one, other) for name in its | stopped)
+
+
+def cleanups_go_on(seen: Seen) -> Iterator[str]:
+    """Only its own timeout stops a cleanup that runs, or a signal to its driver."""
+    for it in (it for it in seen.all_tries() if it.terms and seen.plan.cleans_up(it.key)):
+        timeout, moment = seen.plan.timeout_of(it.key), it.terms[0]
+        is_overdue = timeout is not None and moment >= started(seen, it) + timeout - 0.1
+        if not is_overdue and not is_asked_to_stop(seen, moment):
+            yield f"cleanup: {it.key} began at {it.began:.3f}, and was stopped at {moment:.3f}"
+
+
+def is_asked_to_stop(seen: Seen, moment: float) -> bool:
+    """Whether the driver of this moment was asked to end, and to stop what runs."""
+    stop = next((it for it in seen.stops if it.at >= moment), None)
+    return stop is not None and stop.how in ASKED_TO_STOP \
+        and not any(moment < it.began < stop.at for it in seen.runs)
 
 
 def outputs_own(seen: Seen) -> Iterator[str]:
@@ -407,7 +571,8 @@ def in_places(seen: Seen) -> Iterator[str]:
         command = seen.plan.commands[it.key]
         if command.folder and it.folder != command.folder:
             yield f"in: {it.key} ran in {it.folder}"
-        if command.word and it.word != command.word:
+        word = command.word or (SECRET if command.group in seen.plan.secret else "")
+        if word and it.word != word:
             yield f"env: {it.key} had the word {it.word}"
 
 
@@ -418,7 +583,7 @@ def limited(seen: Seen) -> Iterator[str]:
     for it in seen.all_tries():
         command = seen.plan.commands[it.key]
         its = f"{command.limits} {seen.plan.groups[command.group].limits}"
-        if it.nice != usual + (1 if NICE in its else 0):
+        if it.nice != min(usual + (1 if NICE in its else 0), MOST_NICE):
             yield f"limits: {it.key} had the niceness {it.nice}"
         if it.kilobytes != (KILOBYTES if MEMORY in its else 0) and not has_systemd:
             yield f"limits: {it.key} had {it.kilobytes} kB of memory"

@@ -5,8 +5,22 @@ import sys
 import threading
 import time
 
-# What a process that does nothing takes on a free machine is about a fiftieth of this.
-LEAST, TIMES = 0.5, 12.0
+# What a process that does nothing takes on a free machine is about a fiftieth of LEAST, and less
+# than USUAL.
+LEAST, TIMES, USUAL = 0.5, 12.0, 0.1
+
+
+def start_nothing() -> tuple[float, float]:
+    """When a process that does nothing was begun, and when it had ended."""
+    began = time.monotonic()
+    subprocess.run([sys.executable, "-ISc", "pass"], stdin=subprocess.DEVNULL, check=False)
+    return began, time.monotonic()
+
+
+def slowness() -> float:
+    """How many times as long as usual something may take at this moment; at least 1."""
+    began, ended = start_nothing()
+    return max(1.0, (ended - began) / USUAL)
 
 
 class Pace(threading.Thread):
@@ -19,9 +33,7 @@ class Pace(threading.Thread):
 
     def run(self) -> None:
         while not self.is_over.wait(1.0):
-            began = time.monotonic()
-            subprocess.run([sys.executable, "-ISc", "pass"], stdin=subprocess.DEVNULL, check=False)
-            self.samples.append((began, time.monotonic()))
+            self.samples.append(start_nothing())
 
     def slack(self, one: float, other: float) -> float:
         """How much later than it should something may be seen between these moments."""

@@ -8,6 +8,8 @@ from typing import Any
 
 # The limits of a command that it can see, and what it sees of the second one.
 NICE, MEMORY, KILOBYTES = "nice 1", "memory 900M", 900 << 10
+# The value of WORD in the file of variables, which stands nowhere but in the environment.
+SECRET = "hush-42"
 # The shapes of nights: how often each is taken.
 SHAPES = {"mixed": 8, "many": 4, "stops": 3, "names": 3, "damage": 2, "clock": 1}
 
@@ -24,6 +26,7 @@ class Command:
     flags: str = ""
     form: str = "exec {}"
     after: tuple[str, ...] = ()
+    ended: tuple[str, ...] = ()  # it is a cleanup, which begins once these have ended
     retries: int | None = None
     wait: int = 0
     timeout: int | None = None
@@ -38,9 +41,7 @@ class Command:
         return self.form.format(" ".join(map(str, words)))
 
     def settings(self) -> list[str]:
-        found = []
-        if self.after:
-            found.append("after " + " ".join(self.after))
+        found = after_settings(self.after, self.ended)
         if self.retries is not None:
             found.append(f"retries {self.retries}" + (f" wait {self.wait}s" if self.wait else ""))
         if self.timeout is not None:
@@ -63,6 +64,7 @@ class Group:
     until: int | None = None
     within: int | None = None
     after: tuple[str, ...] = ()
+    ended: tuple[str, ...] = ()  # those without a setting of their own are cleanups
     retries: int | None = None
     timeout: int | None = None
     stops: bool = False
@@ -78,8 +80,7 @@ class Group:
             found.append(f"until {moment}")
         if self.within is not None:
             found.append(f"within {self.within}s")
-        if self.after:
-            found.append("after " + " ".join(self.after))
+        found += after_settings(self.after, self.ended)
         if self.retries is not None:
             found.append(f"retries {self.retries}")
         if self.timeout is not None:
@@ -113,6 +114,15 @@ class Plan:
     # The retries of all commands, and the keys that are due on other days.
     retries: int | None = None
     not_due: frozenset[str] = frozenset()
+    # How many tasks of an earlier group a small store has, so that it is renewed during the night.
+    filled: int = 0
+    # The size of a pool, and how much of it commands take; the groups that get the file of
+    # variables, and who owns which group; and lines with these and other settings.
+    tape: int = 0
+    uses: dict[str, int] = field(default_factory=dict)
+    secret: frozenset[str] = frozenset()
+    owners: dict[str, str] = field(default_factory=dict)  # of groups
+    more: tuple[str, ...] = ()
 
     def files(self, dice: random.Random, program: str, room: str) -> dict[str, str]:
         """The file of commands, and what it includes."""
@@ -139,7 +149,7 @@ class Plan:
             if command.settings():
                 lines.insert(dice.randrange(len(lines) + 1),
                              f"{command.group} {command.key}: {' '.join(command.settings())}")
-        return lines
+        return [*lines, *self.more]
 
     def lists(self, dice: random.Random, program: str, room: str) -> list[str]:
         """The lines of commands, of which those that differ in their keys alone are made by a list,
@@ -172,15 +182,38 @@ class Plan:
         return own if own is not None else self.groups[command.group].timeout
 
     def before(self, key: str) -> set[str]:
-        """The keys after which this one comes."""
+        """The keys that have to be ok before this one, of those that are due."""
+        return self.all_before(key) - self.not_due
+
+    def all_before(self, key: str) -> set[str]:
+        """The keys that have to be ok before this one, by the file."""
+        return self.keys_of(self.order_of(key).after)
+
+    def cleaned_by(self, key: str) -> set[str]:
+        """The keys that have to have ended before this one, if it is a cleanup."""
+        return self.keys_of(self.order_of(key).ended)
+
+    def cleans_up(self, key: str) -> bool:
+        return bool(self.order_of(key).ended)
+
+    def order_of(self, key: str) -> Command | Group:
+        """Whose `after` counts for a command: its own replaces that of its group."""
         command = self.commands[key]
+        return command if command.after or command.ended else self.groups[command.group]
+
+    def keys_of(self, names: tuple[str, ...]) -> set[str]:
         found: set[str] = set()
-        for name in (command.after or self.groups[command.group].after):
+        for name in names:
             if name in self.groups:
                 found |= {it.key for it in self.commands.values() if it.group == name}
             else:
                 found.add(name.rpartition("/")[2])
-        return found - self.not_due
+        return found
+
+
+def after_settings(after: tuple[str, ...], ended: tuple[str, ...]) -> list[str]:
+    return [f"{words} {' '.join(names)}" for words, names in (("after", after),
+                                                              ("after ended", ended)) if names]
 
 
 def text_of(lines: list[str]) -> str:
@@ -214,7 +247,37 @@ def make_plan(dice: random.Random, knows: bool, shape: str = "") -> Plan:
             plan.not_due = frozenset(dice.sample(sorted(plan.commands), len(plan.commands) // 5))
     plan.disturbances = dice.randint(1, 3) if shape == "many" else dice.randint(0, 5)
     plan.slow = dice.choice((0, 0, 0, 0, 3, 20))
+    if knows:
+        add_more(plan)
     return plan
+
+
+def add_more(plan: Plan) -> None:
+    """A pool, priorities, owners, and a file of variables. (Its dice are its own, so the rest of a
+    night is that of its seed.)"""
+    dice = random.Random(" ".join((plan.shape, str(plan.grace), *sorted(plan.commands))))
+    lines = []
+    if dice.random() < 0.5:
+        plan.tape = dice.randint(1, 4)
+        plan.uses = {key: dice.randint(1, plan.tape) for key in sorted(plan.commands)
+                     if dice.random() < 0.3}
+        lines += [f"night: pool tape {plan.tape}"] if plan.uses else []
+        lines += [f"{plan.commands[key].group} {key}: uses tape {amount}"
+                  for key, amount in plan.uses.items()]
+    for name in plan.groups:
+        its = [it for it in plan.commands.values() if it.group == name]
+        lines += [f"{it.group} {it.key}: priority {dice.randint(0, 9)}" for it in its
+                  if dice.random() < 0.1]
+        if not its:
+            continue
+        lines += [f"{name}: priority {dice.randint(0, 9)}"] if dice.random() < 0.3 else []
+        if dice.random() < 0.3:
+            plan.owners[name] = f"{name.strip('-')}@example.org"
+            lines.append(f"{name}: owner {plan.owners[name]}")
+        if not any(it.word for it in its) and dice.random() < 0.3:
+            plan.secret |= {name}
+            lines.append(f"{name}: env file variables")
+    plan.more = tuple(lines)
 
 
 def mixed(dice: random.Random, names: list[str]) -> list[Command]:
@@ -279,6 +342,8 @@ def set_group(dice: random.Random, plan: Plan, group: Group, knows: bool) -> Non
     earlier = [it for it in list(plan.groups)[:list(plan.groups).index(group.name)] if it in used]
     if earlier and dice.random() < 0.15:
         group.after = tuple(dice.sample(earlier, 1))
+    elif earlier and dice.random() < 0.1:
+        group.ended = tuple(dice.sample(earlier, 1))
 
 
 def add_settings(dice: random.Random, plan: Plan) -> None:
@@ -290,10 +355,9 @@ def add_settings(dice: random.Random, plan: Plan) -> None:
         chance = 0.03 if plan.shape == "many" else 0.2
         may = [other for other in seen if order.index(other.group) <= order.index(it.group)]
         if may and dice.random() < chance:
-            picked = dice.sample(may, min(len(may), dice.choice((1, 1, 2, 3))))
-            it = replace(it, after=tuple(
-                other.key if other.group == it.group else f"{other.group}/{other.key}"
-                for other in picked))
+            it = replace(it, after=some_of(dice, may, it.group))
+        elif may and dice.random() < chance:
+            it = replace(it, ended=some_of(dice, may, it.group))
         if dice.random() < chance:
             it = replace(it, retries=dice.randint(0, 3), wait=dice.choice((0, 0, 1)))
         if plan.shape == "stops" and dice.random() < 0.3:
@@ -306,13 +370,20 @@ def add_settings(dice: random.Random, plan: Plan) -> None:
         seen.append(it)
 
 
+def some_of(dice: random.Random, commands: list[Command], group: str) -> tuple[str, ...]:
+    """The names of some of these commands, as a setting of this group has them."""
+    picked = dice.sample(commands, min(len(commands), dice.choice((1, 1, 2, 3))))
+    return tuple(it.key if it.group == group else f"{it.group}/{it.key}" for it in picked)
+
+
 def limits_of(dice: random.Random) -> str:
     """Limits that keep no command from its work."""
     every = [NICE, "ionice idle", MEMORY, "cpu 150%", "output 40M"]
     return " ".join(dice.sample(every, dice.randint(1, 3)))
 
 
-# --- brief nights, each for one kind of wrong driver
+# --- brief nights, each for one kind of wrong driver. (A request takes a second or three on a busy
+# machine, so the commands that it is about take longer.)
 
 def brief(shape: str, most: int, commands: list[Command], *kinds: str, slow: int = 0,
           rests: tuple[str, ...] = ()) -> Plan:
@@ -337,6 +408,21 @@ def places() -> Plan:
 def limits() -> Plan:
     plan = brief("limits", 6, alike(12, 60) + alike(6, 60, "b"))
     plan.groups["a"].limit = 2
+    return plan
+
+
+def taped() -> Plan:
+    """Commands that take turns at two of something."""
+    plan = brief("taped", 6, alike(12, 60))
+    plan.tape, plan.uses = 2, dict.fromkeys(plan.commands, 1)
+    plan.more = ("night: pool tape 2", *(f"a {key}: uses tape 1" for key in plan.commands))
+    return plan
+
+
+def owned() -> Plan:
+    """Commands that fail, and whose owner hears of that."""
+    plan = brief("owned", 3, alike(3, 5, status=1) + alike(3, 5, "b"))
+    plan.owners, plan.more = {"a": "a@example.org"}, ("a: owner a@example.org",)
     return plan
 
 
@@ -413,6 +499,104 @@ def due() -> Plan:
     return plan
 
 
+def due_after_all() -> Plan:
+    """One is wanted that isn't due, and is the only one of its group."""
+    plan = brief("due_after_all", 2, [*alike(8, 600), Command("b", "b0", 20)], "want redo b/b0")
+    plan.not_due = frozenset(("b0",))
+    return plan
+
+
+def skipped() -> Plan:
+    """One is left out long before its turn."""
+    return brief("skipped", 2, alike(16, 800), "want skip a/a014", "both", "driver")
+
+
+def retried() -> Plan:
+    """Those that fail are left out, with retries left."""
+    return brief("retried", 3, alike(3, 5, status=1, retries=2, wait=2) + alike(4, 900, "b"),
+                 "want skip a")
+
+
+def alone() -> Plan:
+    """One is wanted alone, and what it comes after."""
+    commands = [*alike(4, 50), *(Command("b", f"b{at}", 1000, after=(f"b{at - 1}",) if at else ())
+                                 for at in range(6))]
+    return brief("alone", 2, commands, "want only b/b5", "driver")
+
+
+def redone() -> Plan:
+    """One is wanted again that is ok, and so is one that comes after it."""
+    commands = [Command("a", "a0", 10), Command("a", "a1", 10, after=("a0",)), *alike(30, 150, "b")]
+    return brief("redone", 2, commands, "wait 1", "want redo a/a0", "both")
+
+
+def redone_early() -> Plan:
+    """One is wanted again while it runs."""
+    return brief("redone_early", 3, alike(4, 3000), "want redo a/a000")
+
+
+def redone_at_its_end() -> Plan:
+    """Each is wanted again just before it ends, as far as that can be hit."""
+    commands = [Command("a", f"a{at}", 950 + 480 * at) for at in range(4)]
+    return brief("redone_at_its_end", 5, [*commands, Command("b", "b0", 20000)],
+                 *(f"want redo a/{it.key}" for it in commands * 3))
+
+
+def redone_beside() -> Plan:
+    """One is wanted again while one that comes after it outlives its driver."""
+    commands = [Command("a", "a0", 10), Command("a", "a1", 9000, after=("a0",)),
+                *alike(20, 300, "b")]
+    return brief("redone_beside", 2, commands, "wait 1", "driver", rests=("want redo a/a0",))
+
+
+def redone_renewed() -> Plan:
+    """One is wanted again, and waits for another one of its group while the store is renewed."""
+    plan = brief("redone_renewed", 5, [Command("a", "a0", 0), Command("a", "a1", 15000),
+                                       *alike(620, 0, "b")], "wait 1", "want redo a/a0")
+    plan.groups["a"].limit, plan.filled = 1, 1500
+    return plan
+
+
+def paused() -> Plan:
+    """A pause while commands wait for their retries."""
+    return brief("paused", 4, alike(3, 5, fails=2, retries=3, wait=5) + alike(8, 1000, "b"),
+                 "pause 6")
+
+
+def tidied() -> Plan:
+    """Cleanups that begin after the deadline of their group, and after a cancel of it. They outlive
+    a driver."""
+    commands = [Command("a", "a0", 9000), Command("a", "a1", 20),
+                Command("a", "a2", 6000, ended=("a1", "a0")), Command("a", "a3", 20, ended=("a2",)),
+                Command("b", "b0", 9000), Command("b", "b1", 6000, ended=("b0",)),
+                *alike(60, 300, "c")]
+    plan = brief("tidied", 6, commands, "cancel b", "wait 2", "driver")
+    plan.groups["a"].within = 1
+    return plan
+
+
+def alone_tidied() -> Plan:
+    """One is wanted alone, and its cleanup comes with it."""
+    commands = [*alike(4, 50), Command("b", "b0", 5000), Command("b", "b1", 150, after=("b0",)),
+                Command("c", "c0", 20, ended=("b/b1",))]
+    return brief("alone_tidied", 2, commands, "want only b/b1", "driver")
+
+
+def redone_tidied() -> Plan:
+    """One is wanted again that is ok, and so is its cleanup."""
+    commands = [Command("a", "a0", 10), Command("c", "c0", 10, ended=("a/a0",)),
+                *alike(30, 150, "b")]
+    return brief("redone_tidied", 3, commands, "wait 1", "want redo a/a0", "both")
+
+
+def lowered() -> Plan:
+    """Limits are lowered, and a driver is killed then."""
+    return brief("lowered", 6, alike(40, 400) + alike(20, 400, "b"), "want set a.limit=1 set j=3",
+                 "both")
+
+
 BRIEF: dict[str, Callable[[], Plan]] = {it.__name__: it for it in (
-    acks, places, limits, late, alive, zero, termed, failing, twice, background, spoilt, looked,
-    chained, stopping, due)}
+    acks, places, limits, taped, owned, late, alive, zero, termed, failing, twice, background,
+    spoilt, looked, chained, stopping, due, due_after_all, skipped, retried, alone, redone,
+    redone_early, redone_at_its_end, redone_beside, redone_renewed, paused, lowered, tidied,
+    alone_tidied, redone_tidied)}

@@ -9,18 +9,26 @@ import shutil
 import signal
 import subprocess
 import time
+from collections.abc import Iterable
 from dataclasses import dataclass
 
 from nights_oracle import Seen, Stop, complaints, end_between, epoch_of, night_of
-from nights_plan import Command, Group, make_plan
+from nights_plan import SECRET, Command, Group, make_plan
+from nights_requests import Asker, read_wants
 from nights_room import SECONDS_TO_END, Room, Tools, command_line, hit, kill, processes
+from nights_wants import EVER, Want, World, with_needs
 from running import own_name
 
 # What is done to a driver, and how often.
 KILLS = {"driver": 6, "both": 4, "night": 3, "rest": 2, "all": 2}
 ASKED = {"int": 2, "term": 2, "int twice": 1, "hup": 1}
 OTHERS = {"cancel": 3, "second": 1, "halt": 1}
-ENDED = ("ok", "failed", "canceled", "not started")
+# What is wanted of a night besides its file.
+WANTED = {"want": 6, "many": 1, "pause": 2, "killed": 2}
+ENDED = ("ok", "failed", "canceled", "not started", "left out")
+WELL = ("ok", "not due", "left out")
+# How a cleanup may stand at the end of a night.
+CLEANED = (*WELL, "failed")
 # A moment that is long past the end of any night here.
 YEARS = 3 * 365 * 86400
 
@@ -60,7 +68,10 @@ class Night:
     def __init__(self, room: Room) -> None:
         self.room, self.plan, self.dice, self.tools = room, room.plan, room.dice, room.tools
         self.left, self.cause = self.plan.disturbances, "night"
+        self.own: tuple[Want, ...] = ()  # of the next run, if it is known
         self.begun = 0
+        self.followed = EVER  # when another driver was begun that had the store after this one
+        self.asker = Asker(room)
         if self.plan.shape == "clock":
             self.room.environment.update(LD_PRELOAD=f"{self.tools.folder}/clock.so",
                                          NIGHTS_CLOCK=f"{room.path}/clock")
@@ -73,6 +84,8 @@ class Night:
             self.to_its_end([])
             if self.tools.knows and self.dice.random() < 0.3:
                 self.tries_failed_ones()
+            if self.tools.knows_wants and self.dice.random() < 0.4:
+                self.redoes_some()
             if self.tools.knows and self.dice.random() < 0.4:
                 self.left, self.cause = self.dice.randint(0, 2), "night"
                 self.to_its_end([self.dice.choice(("--again", "--nightly"))])
@@ -86,7 +99,7 @@ class Night:
 
     def to_its_end(self, words: list[str]) -> None:
         """Runs drivers until the night has ended, and compares it."""
-        self.begun = begun = self.room.told_size()
+        self.begun = begun = self.room.trace_size()
         night = self.night() if words else 0
         while self.left > 0:
             if self.run_disturbed(words):
@@ -94,11 +107,14 @@ class Night:
                 break
             self.rest()
             # (--nightly does the rest of a night that was made, and begins another one)
-            if self.room.told_size() > begun or words and self.night() > night:
+            if self.room.trace_size() > begun or words and self.night() > night:
                 words = []
         self.restore()
         began = time.monotonic()
-        status, output = self.room.end(self.room.start(*words), began, self.opens())
+        driver = self.room.start(*words)
+        time.sleep(self.dice.choice((0, 0.1, 0.5)) if self.asker.may_be_paused else 0)
+        self.asker.resume()
+        status, output = self.room.end(driver, began, self.opens())
         self.compare(status, output)
         self.runs_nothing(status)
         if self.plan.shape == "clock":
@@ -112,7 +128,7 @@ class Night:
 
     def has_begun(self) -> bool:
         """Whether something of this night has begun, so that it is what a cancel is of."""
-        return self.room.told_size() > self.begun
+        return self.room.trace_size() > self.begun
 
     def opens(self) -> str:
         """Whether the next run is the first one of a night."""
@@ -124,25 +140,50 @@ class Night:
         room, began = self.room, time.monotonic()
         # (of two with --again the second may begin a night more, once the first has ended)
         is_twin = self.dice.random() < 0.08 and not words
-        driver = room.start(*words)
+        own = () if is_twin else self.own_words()
+        driver = room.start(*words, *(word for it in own for word in it.words))
         twin = room.start(*words, errors="errors.twin") if is_twin else None
-        opened = self.opens()
+        opened, self.followed = self.opens(), EVER
         if twin:
             driver = self.one_of(driver, twin)
         ending = ""
+        self.wait_for_begin(driver, bool(own))
         while driver.poll() is None and self.left > 0 and not ending:
             self.wait_for_moment(driver)
             self.left -= 1
             if driver.poll() is None:
                 ending = self.disturb(driver)
         if not ending:
+            self.asker.resume()
             status, _ = room.end(driver, began, opened)
-            room.holds(status in (0, 1), f"8: a driver ended with status {status}:"
-                       f" {room.text('errors')[-400:]}")
-            return status in (0, 1)
-        room.end(driver, began, opened, SECONDS_TO_END)
-        self.stop(ending)
-        return False
+            # (a line that leaves out what has ended is a mistake)
+            room.holds(status in (0, 1) or status == 2 and bool(own), "8: a driver ended with"
+                       f" status {status}: {room.text('errors')[-400:]}")
+        else:
+            status, _ = room.end(driver, began, opened, SECONDS_TO_END)
+            self.stop(ending)
+        if own:
+            self.asker.ran(own, began, min(time.monotonic(), self.followed), status)
+        return not ending and status in (0, 1)
+
+    def own_words(self) -> tuple[Want, ...]:
+        """What is wanted in the line of the next run."""
+        if self.own:
+            own, self.own = self.own, ()
+        elif self.plan.is_brief or not self.tools.knows_wants or self.asker.may_be_paused \
+                or self.dice.random() > 0.15:
+            own = ()
+        else:
+            own = self.asker.any()
+        self.room.bound_by(own)
+        return own
+
+    def wait_for_begin(self, driver: subprocess.Popen[str], is_asked: bool) -> None:
+        """Waits until a run has begun something, which has taken what its line wants then."""
+        size, end = self.room.trace_size(), time.monotonic() + 10
+        while is_asked and driver.poll() is None and time.monotonic() < end \
+                and self.room.trace_size() == size:
+            time.sleep(0.004)
 
     def one_of(self, driver: subprocess.Popen[str],
                twin: subprocess.Popen[str]) -> subprocess.Popen[str]:
@@ -162,12 +203,12 @@ class Night:
     def wait_for_moment(self, driver: subprocess.Popen[str]) -> None:
         """Waits until some more commands have written something, or for a time."""
         most = 2 if self.plan.is_brief else 2 * len(self.plan.commands)
-        size = self.room.told_size() + 90 * self.dice.randint(1, most)
+        size = self.room.trace_size() + 90 * self.dice.randint(1, most)
         if self.dice.random() < 0.35 and not self.plan.is_brief:
             end, size = time.monotonic() + self.dice.uniform(0, 1.5), 1 << 60
         else:
             end = time.monotonic() + (120 if self.plan.is_brief else 4)
-        while driver.poll() is None and time.monotonic() < end and self.room.told_size() < size:
+        while driver.poll() is None and time.monotonic() < end and self.room.trace_size() < size:
             time.sleep(0.004)
         time.sleep(self.dice.choice((0, 0, 0.003, 0.02)))
 
@@ -175,7 +216,7 @@ class Night:
 
     def disturb(self, driver: subprocess.Popen[str]) -> str:
         """Does something to a driver. What it was, if it was to end by that."""
-        kinds = {**KILLS, **ASKED, **OTHERS}
+        kinds = {**KILLS, **ASKED, **OTHERS, **(WANTED if self.tools.knows_wants else {})}
         if self.plan.shape in ("damage", "clock"):
             kinds[self.plan.shape] = 15
         what, _, of = self.dice.choices(list(kinds), list(kinds.values()))[0].partition(" ")
@@ -189,6 +230,8 @@ class Night:
         if what in ASKED:
             self.ask_to_end(driver, what)
             return "int" if what == "int" else "asked"
+        if what == "killed":
+            return self.ask_and_kill(driver)
         getattr(self, f"do_{what}")(driver, of)
         return ""
 
@@ -196,7 +239,7 @@ class Night:
         if how == "night":
             self.room.seen.hits.append(time.monotonic())
         else:
-            self.room.seen.stops.append(Stop(time.monotonic(), how, self.plan.most))
+            self.room.seen.stops.append(Stop(time.monotonic(), how, self.room.most))
 
     def ask_to_end(self, driver: subprocess.Popen[str], what: str) -> None:
         which = {"term": signal.SIGTERM, "hup": signal.SIGHUP}.get(what, signal.SIGINT)
@@ -214,6 +257,34 @@ class Night:
             self.room.holds(it.status in (0, 2) or not it.had_driver,
                             f"3: a cancel of {group} beside a driver ended with {it.status}")
 
+    def do_want(self, _: subprocess.Popen[str], of: str) -> None:
+        if self.asker.has_store():
+            self.asker.ask(read_wants(of) or self.asker.any())
+
+    def do_wait(self, _: subprocess.Popen[str], of: str) -> None:
+        time.sleep(float(of))
+
+    def do_many(self, _: subprocess.Popen[str], __: str) -> None:
+        if self.asker.has_store():
+            self.asker.ask_at_once()
+
+    def do_pause(self, _: subprocess.Popen[str], of: str) -> None:
+        if self.asker.has_store():
+            seconds = float(of) if of else self.dice.uniform(0, 1)
+            self.asker.pause(seconds, is_over=bool(of) or self.dice.random() < 0.7)
+
+    def ask_and_kill(self, driver: subprocess.Popen[str]) -> str:
+        """Kills a driver while it is asked for something. How."""
+        if not self.asker.has_store():
+            return ""
+        it = self.asker.start(self.asker.any())
+        time.sleep(self.dice.choice((0, 0.05, 0.1, 0.2, 0.4)))
+        how = self.dice.choice(("driver", "both", "rest", "all"))
+        hit(driver, how)
+        self.stop(how)
+        it.answer()
+        return how
+
     def do_second(self, driver: subprocess.Popen[str], _: str) -> None:
         """Another driver, which doesn't get the store; or this one has ended by then."""
         # (on a busy machine it could be first)
@@ -222,6 +293,7 @@ class Night:
         began = time.monotonic()
         other = self.room.start(errors="errors.second")
         status, _ = self.room.end(other, began, "")
+        self.followed = began if status != 3 else self.followed
         self.room.holds(status == 3 or self.is_over(driver),
                         f"4: a second driver ended with status {status}")
 
@@ -286,10 +358,11 @@ class Night:
         """What is done while no driver runs."""
         dice, room = self.dice, self.room
         kinds = {"": 13, "look": 4, "cancel": 1, "gone": 2 if self.plan.shape == "names" else 0,
-                 "damage": 8 if self.plan.shape == "damage" else 0}
-        what = dice.choice(self.plan.rests) if self.plan.rests else "" if self.plan.is_brief \
-            else dice.choices(list(kinds), list(kinds.values()))[0]
-        room.note(f"rest: {what}")
+                 "damage": 8 if self.plan.shape == "damage" else 0,
+                 "want": 5 if self.tools.knows_wants and self.asker.has_store() else 0}
+        what, _, of = (dice.choice(self.plan.rests) if self.plan.rests else "" if self.plan.is_brief
+                       else dice.choices(list(kinds), list(kinds.values()))[0]).partition(" ")
+        room.note(f"rest: {what} {of}")
         if what == "look" and self.is_quiet():
             self.look_only()
         elif what == "gone" and os.path.isdir(f"{room.path}/s.out"):
@@ -298,6 +371,9 @@ class Night:
             room.cancel(dice.choice(list(self.plan.groups)), lambda: False)
         elif what == "damage":
             self.spoil(dice.choice(("s.cancel", "s.log")), dice.choice(("bytes", "cut", "gone")))
+        elif what == "want":
+            is_pause = not of and dice.random() < 0.15
+            self.asker.ask([Want("pause")] if is_pause else read_wants(of) or self.asker.any())
         if dice.random() < 0.3:
             time.sleep(dice.uniform(0, 0.8))
 
@@ -326,8 +402,9 @@ class Night:
         if self.tools.knows:
             kinds += [("--list", "--json"), ("--dry-run",), ("--report", "text")]
         for it in kinds:
-            status, output, told = room.run("s", "JOBS", *it)
-            room.holds(status == 0, f"9: {' '.join(it)} ended with status {status}: {told[-300:]}")
+            status, output, errors = room.run("s", "JOBS", *it)
+            room.holds(status == 0,
+                       f"9: {' '.join(it)} ended with status {status}: {errors[-300:]}")
             room.holds(": running" not in output or it != ("--list",),
                        f"9: {' '.join(it)} says that one runs: {output[-300:]}")
         if not self.is_near_deadline():
@@ -366,22 +443,30 @@ class Night:
         phases = self.phases()
         for key in self.plan.commands:
             self.compare_key(seen, key, phases.get(key, "nothing"), phases)
-        is_ok = all(phases.get(it) in ("ok", "not due") for it in self.plan.commands)
+        is_ok = all(phases.get(it) in WELL for it in self.plan.commands)
+        for key, command in self.plan.commands.items():
+            owner = self.plan.owners.get(command.group)
+            if owner and phases.get(key) in ("failed", "canceled", "not started"):
+                room.holds(f"{command.group} {key}: " in room.text(f"mail.{owner}"),
+                           f"owner: {owner} has no mail about {key}, which is {phases[key]}")
+        for name in ("s.log", "errors"):
+            room.holds(SECRET not in room.text(name), f"env file: its value stands in {name}")
+        room.holds(SECRET not in output, "env file: its value is printed")
         room.holds((status == 0) == is_ok, f"10: status {status}, and the commands are {phases}")
         count = sum(it == "ok" for it in phases.values())
         total = len(self.plan.commands)
         wanted = f"{total} command{'' if total == 1 else 's'}: "
-        told = output.splitlines()[-1:] or [""]
-        room.holds(told[0].startswith(wanted) and (f"{count} ok" in told[0] or not count)
+        last = (output.splitlines() or [""])[-1]
+        room.holds(last.startswith(wanted) and (f"{count} ok" in last or not count)
                    or "nothing to do" in output,
-                   f"10: the summary is {told[0]!r}, and {count} are ok")
+                   f"10: the summary is {last!r}, and {count} are ok")
         self.look_for_left(seen)
 
     def phases(self) -> dict[str, str]:
         """How each command is, by `--list`."""
         words = ("s", "JOBS", "--list", *(("--json",) if self.tools.knows else ()))
-        status, output, told = self.room.run(*words)
-        self.room.holds(status == 0, f"9: --list ended with status {status}: {told[-300:]}")
+        status, output, errors = self.room.run(*words)
+        self.room.holds(status == 0, f"9: --list ended with status {status}: {errors[-300:]}")
         if self.tools.knows:
             return {it["key"]: it["phase"] for it in json.loads(output)}
         found = {it: "ok" for it in self.plan.commands}
@@ -392,47 +477,76 @@ class Night:
 
     def compare_key(self, seen: Seen, key: str, phase: str, phases: dict[str, str]) -> None:
         now = time.monotonic()
-        since = night_of(seen, now)
+        night, worlds = night_of(seen, now), seen.wanted.at(now)
+        since = seen.wanted.since(key, night)
         tries = [it for it in seen.tries[key] if it.began > since]
         last = tries[-1] if tries else None
         end = end_between(seen, key, since, now)
         holds = self.room.holds
-        is_due = key not in self.plan.not_due
-        holds(phase in ENDED if is_due else phase == "not due" and not seen.tries[key],
+        is_due = key not in self.plan.not_due or all(key in it.named for it in worlds)
+        may_be_due = is_due or any(key in it.named for it in worlds)
+        holds(phase in ENDED if is_due else may_be_due or phase == "not due" and not tries,
               f"10: {key} is {phase} at the end, and its last try was {last}")
         # (an end may be durable that a stop, or a kill of `night` alone, kept from being acked)
         kills = [*(it.at for it in seen.stops), *seen.hits]
         is_ok = last and last.is_whole() and (end == "ok" or end is None and last.status == 0
                                               and any(last.began < it for it in kills))
         holds(phase != "ok" or bool(is_ok),
-              f"10: {key} is ok, and its last try was {last}, its end {end}")
-        holds(end != "ok" or phase == "ok", f"10: {key} had ended ok, and is {phase}")
+              f"{'redo' if since > night else '10'}: {key} is ok, and since {since:.3f} its last"
+              f" try was {last}, its end {end}")
+        is_again = seen.wanted.redone(key, since, now)
+        holds(end != "ok" or phase == "ok" or is_again, f"10: {key} had ended ok, and is {phase}")
         if phase == "failed" and last and end and end.startswith("exit "):
             holds(end == f"exit {last.status}", f"10: {key} is `{end}`, and ended as {last}")
         may = self.may_be_canceled(seen, key, since)
         holds(phase != "canceled" or may, f"6: {key} is canceled, and nobody did that")
-        if not may and phase != "ok" and last:
+        holds(not self.plan.cleans_up(key) or phase in CLEANED, f"cleanup: {key} is {phase}")
+        if not may and phase not in ("ok", "left out") and last:
             timeout = self.plan.timeout_of(key)
-            # (one whose end a kill took isn't begun again where its group has stopped since)
-            is_lost = end is None and phase == "not started"
+            # (one whose end a kill took isn't begun again where its group has stopped since, and
+            # one that is to run again isn't where what it comes after has failed since)
+            is_lost = phase == "not started" and (end is None or is_again)
             holds(not last.is_whole() or timeout is not None or is_lost,
                   f"10: {key} is {phase}, and its last try was {last}")
         if phase == "not started" or not last and phase == "canceled":
             holds(may or self.has_reason(key, phases), f"10: {key} is {phase}, without a reason")
+        self.compare_left_out(key, phase, phases, worlds)
+
+    def compare_left_out(self, key: str, phase: str, phases: dict[str, str],
+                         worlds: Iterable[World]) -> None:
+        """What is left out is so because somebody wanted that, or what it comes after is."""
+        is_its = any(it.leaves_out(key) for it in worlds)
+        is_behind = any(phases.get(it) == "left out" for it in self.plan.before(key))
+        has_only = any(it.only is not None for it in worlds)
+        self.room.holds(phase != "left out" or is_its or is_behind
+                        or has_only and self.is_passed_over(key, phases),
+                        f"{'only' if has_only else 'skip'}: {key} is left out, and nobody wanted"
+                        " that")
+        must = all(it.leaves_out(key) for it in worlds) and key not in self.plan.not_due
+        self.room.holds(not must or phase in ENDED, f"skip: {key} is {phase}, and was left out")
+
+    def is_passed_over(self, key: str, phases: dict[str, str]) -> bool:
+        """Whether something that comes after a command is ok. What that came after isn't brought by
+        an `--only`."""
+        return any(phases.get(it) == "ok" and it != key
+                   and key in with_needs(self.plan, [it], self.plan.not_due)
+                   for it in self.plan.commands)
 
     def may_be_canceled(self, seen: Seen, key: str, since: float) -> bool:
+        """Whether a command may have been canceled with its group, as no cleanup is."""
         group = self.plan.commands[key].group
-        return self.plan.has_deadline(group) or any(
+        return not self.plan.cleans_up(key) and (self.plan.has_deadline(group) or any(
             it.group in (group, "night") and it.done > max(since, epoch_of(seen, it.done))
-            for it in seen.cancels)
+            for it in seen.cancels))
 
     def has_reason(self, key: str, phases: dict[str, str]) -> bool:
         """Whether this one may not be begun: what it comes after, or its group, has failed."""
         group = self.plan.commands[key].group
-        return any(phases.get(it) != "ok" for it in self.plan.before(key)) or (
+        # (what isn't due may be wanted all the same)
+        return any(phases.get(it) not in ("ok", "not due") for it in self.plan.all_before(key)) or (
             self.plan.groups[group].stops
-            and any(phases.get(it.key) == "failed" for it in self.plan.commands.values()
-                    if it.group == group))
+            and any(phases.get(it.key) in ("failed", "canceled")
+                    for it in self.plan.commands.values() if it.group == group))
 
     def look_for_left(self, seen: Seen) -> None:
         """No process is left in the group of a command, unless its group keeps it."""
@@ -459,11 +573,11 @@ class Night:
 
     def runs_nothing(self, status: int | None) -> None:
         """A night that has ended runs nothing more."""
-        size = self.room.told_size()
+        size = self.room.trace_size()
         began = time.monotonic()
         again, output = self.room.end(self.room.start(), began, "")
         self.room.holds(again == status, f"5: run again its status is {again}, and was {status}")
-        self.room.holds(self.room.told_size() == size, "5: run again it began something")
+        self.room.holds(self.room.trace_size() == size, "5: run again it began something")
         self.room.holds(not self.tools.knows or "nothing to do" in output,
                         f"10: run again it prints {output!r}")
 
@@ -474,9 +588,21 @@ class Night:
         status, output = self.room.end(self.room.start("--failed"), began, "failed")
         self.compare(status, output)
 
+    def redoes_some(self) -> None:
+        """Something of a night that is over runs again, and what comes after it."""
+        it = self.asker.any_again()
+        self.left = self.dice.randint(0, 2)
+        if self.dice.random() < 0.5 or not self.left:
+            self.asker.ask(it)
+        else:
+            self.own = it
+        self.to_its_end([])
+
     def goes_on_later(self) -> None:
         """A clock that was once ahead doesn't make a later deadline pass. (The group is a new one:
         that of the last night may have been made while the clock was late.)"""
+        if self.room.seen.asked:
+            return  # (it may be left out)
         it = Command(f"later-{len(self.plan.commands)}", f"z{len(self.plan.commands)}")
         self.plan.commands[it.key] = it
         self.plan.groups[it.group] = Group(it.group, within=3600)
@@ -489,13 +615,13 @@ class Night:
         self.room.holds(phase == "ok", f"3: {it.key} is {phase}, an hour before its deadline")
 
 
-def phase_of(told: str) -> str:
+def phase_of(line: str) -> str:
     """The phase that a line of `--list` says."""
-    if told.startswith("canceled: "):
+    if line.startswith("canceled: "):
         return "canceled"
-    if told in ("not submitted", "held", "ready"):
+    if line in ("not submitted", "held", "ready"):
         return "waiting"
-    return told if told in ("running", "interrupted") else "failed"
+    return line if line in ("running", "interrupted") else "failed"
 
 
 def clear(path: str) -> None:

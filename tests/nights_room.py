@@ -11,13 +11,17 @@ import signal
 import subprocess
 import tempfile
 import time
-from collections.abc import Callable
+from collections.abc import Callable, Iterable
 from concurrent.futures import ProcessPoolExecutor
 from dataclasses import dataclass
+from typing import Any
 
-from nights_oracle import Cancel, Run, Seen, Stop, read_acked, read_told
+from by_hand import Store
+from driver_room import children
+from nights_oracle import Cancel, Run, Seen, Stop, read_acked, read_trace
 from nights_pace import Pace
-from nights_plan import Plan
+from nights_plan import SECRET, Plan
+from nights_wants import Want
 
 HERE = os.path.dirname(os.path.abspath(__file__))
 # How long a driver that nothing disturbs may take, and one that was asked to end.
@@ -33,6 +37,7 @@ class Tools:
     folder: str
     driver: str
     knows: bool
+    knows_wants: bool = True
 
     @property
     def night(self) -> str:
@@ -55,9 +60,9 @@ def make_tools(folder: str, program: str, driver: str) -> Tools:
         if built.returncode:
             raise SystemExit(f"nights: cc can't build nights_{source}.c:\n{built.stderr}")
     driver = copied(driver, f"{folder}/drivers")
-    told = subprocess.run([driver, "--help"], capture_output=True, text=True,
+    shown = subprocess.run([driver, "--help"], capture_output=True, text=True,
                           env={**os.environ, "NIGHT": f"{folder}/night"})
-    return Tools(folder, driver, "--again" in told.stdout)
+    return Tools(folder, driver, "--again" in shown.stdout, "--skip" in shown.stdout)
 
 
 def copied(driver: str, folder: str, *changes: tuple[str, str, str]) -> str:
@@ -98,13 +103,33 @@ class Room:
         for name, text in plan.files(dice, tools.job, self.path).items():
             self.write(name, text)
         self.write("slow", str(plan.slow))
+        with open(os.open(f"{self.path}/variables", os.O_WRONLY | os.O_CREAT, 0o600), "w",
+                  encoding="ascii") as file:
+            file.write(f"WORD={SECRET}\n")
         self.environment = {**os.environ, "NIGHT": tools.night}
         self.seen = Seen(plan, slack=PACE.slack)
         self.bad: list[str] = []
         self.notes: list[str] = []
-        self.bound(plan.most)
+        self.most = plan.most
+        self.limits = {it.name: it.limit for it in plan.groups.values() if it.limit is not None}
+        self.bound()
+        if plan.filled:
+            self.fill(plan.filled)
 
     # --- files
+
+    def fill(self, count: int) -> None:
+        """Makes a small store, in which this many tasks of a night have ended."""
+        store = Store(False)
+        store.made()
+        with open(f"{self.path}/s", "wb") as file:
+            file.write(bytes(store.bytes))
+        os.chmod(f"{self.path}/s", 0o600)
+        lines = ["derive night root cause", "derive f night cause", "bare f f"]
+        for it in range(count):
+            lines += [f"go f sh f{it}", "start", f"finish {it} ok"]
+        subprocess.run([f"{self.tools.folder}/night.real", "script", f"{self.path}/s"], check=True,
+                       input="".join(f"{it}\n" for it in lines), text=True, capture_output=True)
 
     def write(self, name: str, text: str) -> None:
         with open(f"{self.path}/.new", "w", encoding="utf-8") as file:
@@ -115,20 +140,28 @@ class Room:
         try:
             with open(f"{self.path}/{name}", encoding="utf-8", errors="replace") as file:
                 return file.read()
-        except FileNotFoundError:
+        except (FileNotFoundError, IsADirectoryError):  # (that of a damaged log)
             return ""
 
-    def told_size(self) -> int:
-        try:
-            return os.path.getsize(f"{self.path}/told")
-        except FileNotFoundError:
-            return 0
+    def trace_size(self) -> int:
+        return size_of(f"{self.path}/trace")
 
-    def bound(self, most: int) -> None:
+    def bound(self) -> None:
         """Writes down for the commands how many of them may run at a time."""
-        limits = "".join(f" {it.name} {it.limit}" for it in self.plan.groups.values()
-                         if it.limit is not None)
-        self.write("bounds", f"{most}{limits}\n")
+        limits = "".join(f" {group} {limit}" for group, limit in self.limits.items())
+        self.write("bounds", f"{self.most}{limits}\n")
+
+    def bound_by(self, wants: Iterable[Want]) -> None:
+        """The same where other limits are asked for. (A command may see the new ones before they
+        hold, so none gets smaller here: the oracle looks at that.)"""
+        for it in wants:
+            name, _, value = it.word.partition("=")
+            group = name.removesuffix(".limit")
+            if it.verb == "set" and name == "j":
+                self.most = max(self.most, int(value))
+            elif it.verb == "set" and group in self.limits:
+                self.limits[group] = max(self.limits[group], int(value))
+        self.bound()
 
     # --- drivers
 
@@ -146,8 +179,9 @@ class Room:
         if not self.tools.knows and not os.path.exists(f"{self.path}/s"):
             store = "s"
         jobs = self.dice.choice(("JOBS", "JOBS", "x/JOBS"))
+        mail = ["--mail", "cat > mail.$NIGHT_OWNER"] if self.tools.knows else []
         return [self.tools.driver, store, jobs, "-j", str(self.plan.most), "--grace",
-                str(self.plan.grace), *more]
+                str(self.plan.grace), *mail, *more]
 
     def start(self, *more: str, errors: str = "errors") -> subprocess.Popen[str]:
         words = self.words(*more)
@@ -171,11 +205,11 @@ class Room:
             self.show_hanging(driver)
             hit(driver, "rest")
             output, status = driver.communicate()[0], None
-            self.seen.stops.append(Stop(time.monotonic(), "it hung", self.plan.most))
+            self.seen.stops.append(Stop(time.monotonic(), "it hung", self.most))
             self.bad.append(f"3: a driver didn't end in {seconds:.0f} s")
         self.note(f"ended with status {status}")
-        told = self.text("errors")
-        self.holds(TRACEBACK not in told, f"8: a traceback: {told[-600:]}")
+        errors = self.text("errors")
+        self.holds(TRACEBACK not in errors, f"8: a traceback: {errors[-600:]}")
         self.seen.runs.append(Run(began, time.monotonic(), status, opened))
         return status, output
 
@@ -209,27 +243,28 @@ class Room:
             driver.kill()
             output = driver.communicate()[0]
             self.bad.append(f"3: night-run {' '.join(words)} hangs")
-        told = self.text("errors.aside")
-        self.holds(TRACEBACK not in told, f"8: night-run {' '.join(words)}: {told[-600:]}")
-        return driver.returncode, output, told
+        errors = self.text("errors.aside")
+        self.holds(TRACEBACK not in errors, f"8: night-run {' '.join(words)}: {errors[-600:]}")
+        return driver.returncode, output, errors
 
     def cancel(self, group: str, had_driver: Callable[[], bool]) -> None:
         """Cancels a group from a second process."""
         asked, had = time.monotonic(), had_driver()
         written: list[float] = []
-        status, output, told = self.run("s", "--cancel", group, "not", "tonight",
+        status, output, errors = self.run("s", "--cancel", group, "not", "tonight",
                                         beside=lambda: self.watch(written))
         done = time.monotonic()
-        self.note(f"cancel {group}: status {status} {output.strip()} {told.strip()}")
+        self.note(f"cancel {group}: status {status} {output.strip()} {errors.strip()}")
         # (a group that comes into the file later isn't canceled with the night)
         groups = tuple(self.plan.groups) if group == "night" else (group,)
         self.seen.cancels.append(Cancel(group, groups, asked, done, status, had and had_driver(),
-                                        "context deadline exceeded" in output, *written))
+                                        "its deadline has passed: " in output, *written))
 
     def watch(self, written: list[float]) -> None:
-        """Notes when a cancel is asked for."""
+        """Notes when a cancel is asked for. (Its file has another name until it is durable.)"""
         try:
-            if not written and os.listdir(f"{self.path}/s.cancel"):
+            if not written and any(not it.endswith(".new")
+                                   for it in os.listdir(f"{self.path}/s.cancel")):
                 written.append(time.monotonic())
         except OSError:
             pass
@@ -240,8 +275,8 @@ class Room:
         """All that is known by now."""
         seen = Seen(self.plan, stops=list(self.seen.stops), hits=list(self.seen.hits),
                     runs=list(self.seen.runs), cancels=list(self.seen.cancels),
-                    slack=self.seen.slack)
-        read_told(seen, f"{self.path}/told")
+                    asked=list(self.seen.asked), slack=self.seen.slack)
+        read_trace(seen, f"{self.path}/trace")
         read_acked(seen, f"{self.path}/acked")
         return seen
 
@@ -287,6 +322,14 @@ def digest(path: str) -> str:
         return hashlib.sha256(file.read()).hexdigest()
 
 
+def size_of(path: str) -> int:
+    """The bytes of a file, 0 if there is none."""
+    try:
+        return os.path.getsize(path)
+    except FileNotFoundError:
+        return 0
+
+
 def processes() -> list[int]:
     return [int(it) for it in os.listdir("/proc") if it.isdigit()]
 
@@ -297,20 +340,6 @@ def command_line(pid: int) -> str:
             return file.read()
     except OSError:
         return ""
-
-
-def children(parent: int) -> dict[int, str]:
-    """The processes that this one has begun, each with its name."""
-    found = {}
-    for it in processes():
-        try:
-            with open(f"/proc/{it}/stat", encoding="utf-8", errors="replace") as file:
-                name, _, rest = file.read().partition("(")[2].rpartition(")")
-        except OSError:
-            continue
-        if int(rest.split()[1]) == parent:
-            found[it] = name
-    return found
 
 
 def kill(pid: int, how: int = signal.SIGKILL) -> None:
@@ -327,7 +356,7 @@ def kill_group(pid: int) -> None:
         pass
 
 
-def hit(driver: subprocess.Popen[str], who: str) -> int:
+def hit(driver: subprocess.Popen[Any], who: str) -> int:
     """Kills the driver, its `night`, both, all but the commands, or all. How many `night`s."""
     if who in ("rest", "all"):
         # (so that it begins no other)

@@ -2,8 +2,9 @@
 
 `wrong_drivers/NAME.edit` has lines `file:`, `old:` and `new:`, as a must-fail edit has, `breaks:`
 with the number of an invariant, or the setting, and `nights:` with the shapes of the nights that
-are to find that it doesn't hold; one that breaks `far` is for tests/far to find. An `old:` stands
-exactly once in its file.
+are to find that it doesn't hold. A driver that breaks `far` is for tests/far to find, and one that
+breaks `thirty` for tests/thirty_nights, in nights with these accidents. An `old:` stands exactly
+once in its file.
 """
 
 import os
@@ -19,6 +20,8 @@ from nights_room import HERE, Tools, copied, workers
 # each processor 15 of 17 were found by their first night, one by the second, one by the thirteenth:
 # it is late, and what must come in time may come later there.
 NIGHTS, BESIDE = 96, 4
+# What others than tests/nights find.
+OTHERS = ("far", "thirty")
 
 # A text of a file, and what stands there instead.
 Change = tuple[str, str, str]
@@ -74,7 +77,7 @@ def try_wrong_drivers(tools: Tools, name: str) -> int:
     folder = f"{HERE}/wrong_drivers"
     every = [read_wrong(f"{folder}/{it}") for it in sorted(os.listdir(folder))
              if it.endswith(".edit") and name in ("every", it.removesuffix(".edit"))]
-    every = [it for it in every if it.shapes]  # (those without are for tests/far)
+    every = [it for it in every if it.breaks not in OTHERS]
     with workers(BESIDE) as pool:
         found = list(pool.map(try_one, every, [tools] * len(every)))
     print(f"ran: wrong drivers: {len(every)}, {found.count(False)} passed")
