@@ -6,6 +6,7 @@ import fcntl
 import json
 import os
 import pty
+import pwd
 import re
 import select
 import signal
@@ -13,6 +14,7 @@ import struct
 import subprocess
 import termios
 import time
+from functools import partial
 from typing import Any
 
 from driver_room import Room, Shared, kill
@@ -22,7 +24,8 @@ WAITS = "until [ -e go ]; do sleep 0.05; done"
 FILE = ["night: pool tape 1", "g: limit 2", f"g a echo begun; {WAITS}",
         "g b printf 'no \\033[2J room\\n'; exit 3", f"g c {WAITS}", "g d true", "h: uses tape 1",
         f"h t {WAITS}", "h u true", "i x true", "i x: after g h/t", "i w true",
-        "i w: after failed h", "i v true", "i v: after failed g", "i y true", "i y: after ended g/a"]
+        "i w: after failed h", "i v true", "i v: after failed g", "i y true",
+        "i y: after ended g/a"]
 # What a terminal is sent to draw a screen, and nothing else.
 DRAWS = re.compile("\x1b\\[(?:H|2J|K|J)")
 
@@ -68,7 +71,7 @@ def a_night(tries: Shared) -> None:
          ("i", "x", "not started", "g/b failed", [])])
     tries.is_same(f"{kind}: what waits", room.path, {
         f"{one['group']}/{one['key']}": one["why"] for one in it["waiting"]}, {
-        "g/d": "for the limit 2 of g", "h/u": "for 1 of the pool tape, of which 0 is free",
+        "g/d": "for the limit 2 of g", "h/u": "for 1 of the pool tape, of which none is free",
         "i/w": "after a failure of h", "i/v": "for a place (-j 3)", "i/y": "after the end of g/a"})
     tries.is_same(f"{kind}: its driver, -j and file", room.path,
                   (it["driver"], it["most"], it["path"]), (run.pid, 3, f"{room.path}/JOBS"))
@@ -100,6 +103,63 @@ def a_night(tries: Shared) -> None:
         it["night"], it["nights"], it["forecast"] and it["forecast"]["unknown"],
         {bool(one["usual"]) for one in it["running"]}), (2, 1, [], {True}))
     ended(room, run)
+
+
+# A program that inspects a store, and prints what it saw only once the file `over` is there.
+SLOW = """#!/bin/sh
+case $1 in inspect)
+    {0} "$@" > seen; status=$?; touch looked
+    until [ -e over ]; do sleep 0.05; done
+    cat seen; exit $status;;
+esac
+exec {0} "$@"
+"""
+
+
+def ends_meanwhile(tries: Shared) -> None:
+    """A night that ends while somebody looks is shown as it was, or as it is then. No command that
+    ended well is shown as interrupted."""
+    kind = "a night that ends while somebody looks"
+    for words in (("--status", "--json"), ("JOBS", "--list", "--json")):
+        room = Room(tries, [f"g a {WAITS}", "h b true", "h: after g"])
+        run = room.start()
+        room.until(partial(room.has, "s.out/g.a.0"))
+        slow = room.program("slow", SLOW.format(tries.program))
+        looks = room.start("s", *words, night=slow, errors="errors2")
+        room.until(partial(room.has, "looked"))
+        tries.is_same(f"{kind}: its end", words, ended(room, run)[0], 0)
+        room.write("over", "")
+        status, output = room.ended(looks, errors="errors2")
+        found = json.loads(output)
+        phases = found["counts"] if isinstance(found, dict) else {
+            phase: sum(it["phase"] == phase for it in found) for phase in {
+                it["phase"] for it in found}}
+        tries.is_same(kind, words, (status, phases), (0, {"ok": 2}))
+
+
+def paused(tries: Shared) -> None:
+    """A night that somebody has paused says so, and counts as many places as were set."""
+    kind = "a pause"
+    room = Room(tries, ["g: limit 1", f"g a {WAITS}", "g d true", f"h t {WAITS}", "i x true",
+                        "i: after g"])
+    run = room.start()
+    room.until(lambda: room.has("s.out/g.a.0") and room.has("s.out/h.t.0"))
+    room.run("s", "--set", "j=7", errors="errors2")
+    it = look(room)
+    tries.is_same(f"{kind}: none yet", room.path, (it["paused"], it["most"]), (None, 7))
+    room.run("s", "--pause", errors="errors2")
+    it = look(room)
+    tries.is_same(kind, room.path, it["paused"]["who"], "root" if os.getuid() == 0 else
+                  it["paused"]["who"])
+    tries.is_same(f"{kind}: what waits", room.path, {
+        f"{one['group']}/{one['key']}": one["why"] for one in it["waiting"]}, {
+        "g/d": "for the end of the pause", "i/x": "after g"})
+    shown = room.run("s", "--status", errors="errors2")[1].splitlines()
+    tries.holds(f"{kind}: it is shown, and how to go on", room.path, any(
+        line.startswith("paused by ") for line in shown) and "s --resume" in " ".join(shown), shown)
+    room.run("s", "--resume", errors="errors2")
+    ended(room, run)
+    tries.is_same(f"{kind}: after it", room.path, look(room)["paused"], None)
 
 
 def no_night(tries: Shared) -> None:
@@ -163,6 +223,53 @@ def killed(tries: Shared) -> None:
     room.run("s", "JOBS")
     tries.is_same("a killed night: it is finished", room.path, look(room)["counts"],
                   {"ok": 7, "failed": 1, "not started": 1, "not needed": 1})
+
+
+def wanted(tries: Shared) -> None:
+    """What operators have wanted of a night is shown while it lasts, whatever is killed, and not of
+    the next night."""
+    kind = "what was wanted"
+    room, run = started(tries)
+    who = pwd.getpwuid(os.getuid()).pw_name
+    before = time.time()
+    for words in (("--pause",), ("--set", "g.limit=5", "--set", "j=4"), ("--skip", "h/u"),
+                  ("--redo", "g/b")):
+        tries.is_same(f"{kind}: it is taken", words, room.run("s", *words, errors="errors2")[0], 0)
+    for what in ("while it runs", "after a kill"):
+        it = look(room)
+        at = it["paused"]["at"]
+        tries.holds(f"{kind}, {what}: since when it is paused", room.path,
+                    int(before) <= at <= time.time(), (before, at))
+        tries.is_same(f"{kind}, {what}", room.path, {
+            **it["wanted"], "settings": [(one["name"], one["value"], one["who"])
+                                         for one in it["wanted"]["settings"]]}, {
+            "settings": [("g.limit", 5, who), ("j", 4, who)],
+            "skipped": ["h/u"], "not_only": [], "again": ["g/b", "i/x"], "next": []})
+        tries.is_same(f"{kind}, {what}: -j, and who paused it", room.path,
+                      (it["most"], it["paused"]["who"]), (4, who))
+        tries.is_same(f"{kind}, {what}: what waits", room.path, {
+            one["key"]: one["why"] for one in it["waiting"] if one["key"] in ("b", "d", "y")}, {
+            **dict.fromkeys("bd", "for the end of the pause"), "y": "after the end of g/a"})
+        lines = room.run("s", "--status", errors="errors2")[1].splitlines()
+        since = time.strftime("%H:%M", time.localtime(at))
+        tries.is_same(f"{kind}, {what}: the screen", room.path, [
+            it for it in lines if it.startswith((f"paused by {who} at {since}", "set tonight",
+                                                 "skipped", "again"))], [
+            f"paused by {who} at {since}, so nothing is started; to go on: night-run s --resume",
+            "set tonight: g.limit=5, j=4", "skipped tonight: h/u", "again tonight: g/b, i/x"])
+        kill([run.pid])
+        room.ended(run)
+    tries.is_same(f"{kind}: for the next run", room.path, (
+        room.run("s", "--resume", errors="errors2")[0],
+        room.run("s", "--only", "night", errors="errors2")[0], look(room)["paused"],
+        look(room)["wanted"]["next"]), (0, 0, None, ["only night"]))
+    room.write("go", "")
+    room.settle()
+    room.run()
+    tries.is_same(f"{kind}: after the night", room.path, look(room)["wanted"]["skipped"], ["h/u"])
+    room.run("s", "JOBS", "--again")
+    tries.is_same(f"{kind}: of the next night nothing", room.path, set(map(
+        str, look(room)["wanted"].values())), {"[]"})
 
 
 def edited(tries: Shared) -> None:
@@ -293,6 +400,56 @@ def watched(tries: Shared) -> None:
                 and "\x1b" not in it.text, it.text[-2000:])
 
 
+# A program that doesn't answer an inspection while the file `late` is there.
+LATE = """#!/bin/sh
+case $1 in inspect) while [ -e late ]; do sleep 0.05; done;; esac
+exec {0} "$@"
+"""
+
+
+def watched_late(tries: Shared) -> None:
+    """A screen says that it is an old one while the machine is late with a newer one, is drawn
+    again in another size meanwhile, and can be left."""
+    kind = "a watch of a machine that is late"
+    room, run = started(tries)
+    room.night = room.program("slow", LATE.format(tries.program))
+    room.write("late", "")
+    it = Terminal(room, "s", "--status", "--watch")
+    tries.holds(f"{kind}: nothing is known yet", room.path,
+                it.until("no answer yet\x1b\\[K\r\ns: not read yet"), it.text[-2000:])
+    os.unlink(f"{room.path}/late")
+    tries.holds(f"{kind}: it shows the night", room.path, it.until(
+        "\x1b\\[Hs, night 1[^\x1b]*\x1b.*RUNNING.*g/a"), it.text[-2000:])
+    tries.holds(f"{kind}: a new screen says nothing of that", room.path,
+                "as of" not in it.text, it.text[-2000:])
+    room.write("late", "")
+    tries.holds(f"{kind}: it says so", room.path, it.until(
+        r"\[Has of \d\d:\d\d:\d\d, \d+s ago; no newer state yet\x1b\[K\r\ns, night 1.*g/a"),
+        it.text[-2000:])
+    it.text = ""
+    it.resize(40, 10)
+    tries.holds(f"{kind}: it is drawn again", room.path,
+                it.until("\x1b\\[H[^\x1b]*as of.*\x1b\\[J"), it.text[-2000:])
+    it.until("\x1b\\[J[^\x1b]*\x1b\\[H.*\x1b\\[J")
+    its = [len(DRAWS.sub("", line)) for line in it.text.split("\x1b[H")[-1].split("\r\n")]
+    tries.holds(f"{kind}: 40 columns and 10 lines", room.path,
+                len(its) <= 10 and max(its) <= 40, it.text[-2000:])
+    os.unlink(f"{room.path}/late")
+    it.text = ""
+    tries.holds(f"{kind}: the next state is shown", room.path,
+                it.until("\x1b\\[Hs, night 1"), it.text[-2000:])
+    room.write("late", "")
+    it.text = ""
+    it.until("no newer state yet")
+    began = time.monotonic()
+    it.type(b"\x03")
+    tries.is_same(f"{kind}: Ctrl-C ends it", room.path, it.end(), (0, True))
+    tries.holds(f"{kind}: at once", room.path, time.monotonic() - began < 15)
+    os.unlink(f"{room.path}/late")
+    tries.holds(f"{kind}: no mark is left", room.path, not room.has("s.failed"))
+    ended(room, run)
+
+
 def watched_in_a_pipe(tries: Shared) -> None:
     """Without a terminal each screen follows the last one, until nobody reads it."""
     room = Room(tries, ["g a true"])
@@ -393,5 +550,6 @@ def progress(tries: Shared) -> None:
     tries.is_same("progress: the night ends", room.path, it.end(60)[0], 0)
 
 
-NIGHTS = [a_night, no_night, locked_night, killed, edited, cut_log, watched, watched_in_a_pipe,
-          outputs, followed, left, progress]
+NIGHTS = [a_night, ends_meanwhile, paused, wanted, no_night, locked_night, killed, edited, cut_log,
+          watched, watched_late,
+          watched_in_a_pipe, outputs, followed, left, progress]

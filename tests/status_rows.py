@@ -2,6 +2,8 @@
 
 from __future__ import annotations
 
+import contextlib
+import datetime
 import itertools
 import os
 import random
@@ -9,7 +11,10 @@ import re
 import sys
 import time
 import unicodedata
+from collections.abc import Callable
 from dataclasses import replace
+from functools import partial
+from typing import cast
 
 from driver_room import Shared
 
@@ -20,12 +25,20 @@ from night_run.escapes import plain_lines  # noqa: E402
 from night_run.facts import Facts  # noqa: E402
 from night_run.files import Files  # noqa: E402
 from night_run.jobs import Job, Jobs  # noqa: E402
+from night_run.night import NightEnded, ran  # noqa: E402
+from night_run.planner import Planner  # noqa: E402
+from night_run.rounds import Round  # noqa: E402
 from night_run.rows import Row, Try  # noqa: E402
-from night_run.status import Running, Status, Waiting  # noqa: E402
+from night_run.status import Running, Status  # noqa: E402
 from night_run.status_forecast import Forecast, Moment, forecast, retry_due  # noqa: E402
+from night_run.status_line import phases_of  # noqa: E402
 from night_run.status_plan import lines, parsed_plan  # noqa: E402
 from night_run.status_screen import Size, height, screen, width_of  # noqa: E402
 from night_run.status_times import Usual, usual_times  # noqa: E402
+from night_run.status_waits import Waiting  # noqa: E402
+from night_run.status_wanted import Setting, Wanted  # noqa: E402
+from night_run.tonight import Again  # noqa: E402
+from night_run.wants import By  # noqa: E402
 
 # 2026-11-26T22:00:00Z
 EVENING = 1_795_730_400.0
@@ -118,7 +131,7 @@ def usual_of(lines: list[str]) -> tuple[list[str], dict[Name, Usual]]:
     return lines, found
 
 
-def told(it: Forecast | None, now: float) -> str:
+def in_words(it: Forecast | None, now: float) -> str:
     """A forecast as a row has it."""
     if it is None:
         return "none"
@@ -138,7 +151,8 @@ def forecasts(tries: Shared) -> None:
                     {named(name): seconds for name, seconds in running.items()},
                     {named(name): EVENING + at for name, at in dues.items() if "/" in name},
                     {name: EVENING + at for name, at in dues.items() if "/" not in name})
-        tries.is_same(f"a forecast: {what}", made, told(forecast(jobs, usual, it), EVENING), wanted)
+        tries.is_same(f"a forecast: {what}", made,
+                      in_words(forecast(jobs, usual, it), EVENING), wanted)
 
 
 def retries(tries: Shared) -> None:
@@ -155,6 +169,19 @@ def retries(tries: Shared) -> None:
         found = retry_due(job, facts)
         tries.is_same(f"a retry is due: {words}, {count} failures", "",
                       None if found is None else found - EVENING, wanted)
+
+
+def progress_phases(tries: Shared) -> None:
+    """What the line of progress plays leaves out what isn't due and what is left out by hand."""
+    jobs = jobs_of("g a true", "g b true", "g b: on sun", "g c true", "g d true", "g d: on sun",
+                   "g e true")
+    facts = Facts(day=datetime.date(2026, 11, 30))
+    facts.tonight.skip["g", "c"] = By("root", 1)
+    facts.tonight.redo["g", "d"] = Again(Round(1, 1), By("root", 1))
+    facts.busy.add(("g", "e"))
+    tries.is_same("phases for the line of progress", "", {
+        key: phase for (_, key), phase in phases_of(jobs, facts, cast(Planner, None)).items()},
+        {"a": "waiting", "b": "not due", "c": "left out", "d": "waiting", "e": "running"})
 
 
 # --- random nights, against a play of each second
@@ -286,8 +313,8 @@ def usual(tries: Shared) -> None:
             ("one night", {1: log_of(1, "a 10.500 ok")}, ({"a": (10.5, 10.5, 1)}, 1)),
             ("the one in the middle", {1: log_of(1, "a 1.000 ok"), 2: log_of(2, "a 9.000 ok"),
                                        3: log_of(3, "a 2.000 ok")}, ({"a": (2.0, 9.0, 3)}, 3)),
-            ("between the two in the middle", {1: log_of(1, "a 1.000 ok"),
-                                               2: log_of(2, "a 4.000 ok")}, ({"a": (2.5, 4.0, 2)}, 2)),
+            ("between the two in the middle",
+             {1: log_of(1, "a 1.000 ok"), 2: log_of(2, "a 4.000 ok")}, ({"a": (2.5, 4.0, 2)}, 2)),
             ("the last seven nights of eleven", nights, ({"a": (8.0, 11.0, 7)}, 7)),
             ("what failed has no time", {1: log_of(1, "a 3.000 exit 1", "b 4.000 ok", "c - ok",
                                                    "d 5.000 interrupted")},
@@ -386,7 +413,7 @@ def night(count: int = 3, hostile: str = "") -> Status:
 WHOLE = """\
 b.store, night 12: 32 of 34 ended: 31 ok, 1 failed; 1 running, 1 waiting
 began 22:00, 4h14m ago; night-run is process 4711, -j 4; now 02:14:07
-ends at about 05:12, with tape/offsite0, by the last 7 nights
+ends at about 05:12, in 2h57m, with tape/offsite0, going by the last 7 nights
 
 RUNNING                  for  usually     since  process
 disks/host-0           1h00m   50m00s  22:00:10     4000
@@ -402,25 +429,88 @@ tape/offsite0  after disks/host-0, disks/host-1"""
 # What a night says of itself at the top, by what is changed of it.
 HEADS = [
     ({"driver": None}, "began 22:00, 4h14m ago; no night-run is active; now 02:14:07",
-     "what is left takes about 2h57m, by the last 7 nights"),
+     "what is left takes about 2h57m, going by the last 7 nights"),
     ({"forecast": None}, "began 22:00, 4h14m ago; night-run is process 4711, -j 4; now 02:14:07",
      "when it will end isn't known: no earlier night has times of what is left"),
     ({"forecast": Forecast(EVENING + 25_920, True, (("a", "b"),), (("c", "d"), ("e", "f")),
                            ("a", "b"))},
      "began 22:00, 4h14m ago; night-run is process 4711, -j 4; now 02:14:07",
-     "ends after 05:12, with a/b, by the last 7 nights; not counted: 1 command that no earlier"
-     " night has a time of and 2 commands that run longer than ever"),
+     "ends after 05:12, in 2h57m, with a/b, going by the last 7 nights; not counted: 1 command"
+     " without a time in earlier nights and 2 commands running longer than ever"),
+    ({"forecast": Forecast(EVENING + 15_247.4, True, (), (("a", "b"),), ("a", "b"))},
+     "began 22:00, 4h14m ago; night-run is process 4711, -j 4; now 02:14:07",
+     "may end at any moment: a/b has run longer than in any of the last 7 nights"),
+    ({"forecast": Forecast(EVENING + 15_247, True, (), (("a", "b"), ("c", "d")), ("a", "b")),
+      "nights": 1}, "began 22:00, 4h14m ago; night-run is process 4711, -j 4; now 02:14:07",
+     "may end at any moment: 2 commands have run longer than in the last night"),
+    ({"forecast": Forecast(EVENING + 15_247, True, (), (("a", "b"),), ("a", "b")), "driver": None},
+     "began 22:00, 4h14m ago; no night-run is active; now 02:14:07",
+     "what is left may end at any moment: a/b has run longer than in any of the last 7 nights"),
+    ({"forecast": Forecast(EVENING + 15_249, True, (), (("a", "b"),), ("a", "b"))},
+     "began 22:00, 4h14m ago; night-run is process 4711, -j 4; now 02:14:07",
+     "ends after 02:14, in 2.0s, with a/b, going by the last 7 nights; not counted: 1 command"
+     " running longer than ever"),
+    ({"forecast": Forecast(EVENING + 15_247, True, (("a", "b"),), (("c", "d"),), ("a", "b"))},
+     "began 22:00, 4h14m ago; night-run is process 4711, -j 4; now 02:14:07",
+     "when it will end isn't known: 1 command without a time in earlier nights and 1 command"
+     " running longer than ever"),
     ({"forecast": Forecast(EVENING + 86_400, False, (), (), None), "nights": 1},
      "began 22:00, 4h14m ago; night-run is process 4711, -j 4; now 02:14:07",
-     "ends at about 2026-11-27 22:00, by the last night"),
+     "ends at about 2026-11-27 22:00, in 19h45m, going by the last night"),
     ({"began": EVENING + 40_000}, "began 09:06; night-run is process 4711, -j 4; now 02:14:07",
-     "ends at about 05:12, with tape/offsite0, by the last 7 nights"),
+     "ends at about 05:12, in 2h57m, with tape/offsite0, going by the last 7 nights"),
+    ({"paused": By("anna", int(EVENING) + 14_400)},
+     "began 22:00, 4h14m ago; night-run is process 4711, -j 4; now 02:14:07",
+     "paused by anna at 02:00, so nothing is started; to go on: night-run b.store --resume"),
     ({"counts": {"ok": 3, "not needed": 1}, "driver": None, "ended": EVENING + 9000},
      "began 22:00; now 02:14:07", "ended 00:30"),
     ({"began": None, "most": None, "forecast": None},
      "night-run is process 4711; now 02:14:07",
      "when it will end isn't known: the run of an older night-run isn't described"),
 ]
+
+
+# What operators have wanted of that night, and the lines that say so.
+TITLES = ("set tonight", "skipped tonight", "left out", "again tonight", "for the next run")
+MANY = tuple(f"disks/host-{at}" for at in range(60))
+WANTED: list[tuple[Wanted, list[str]]] = [
+    (Wanted(), []),
+    (Wanted(settings=(Setting("disks.limit", 4, "anna", 5), Setting("j", 2, "ben", 6))),
+     ["set tonight: disks.limit=4, j=2"]),
+    (Wanted(skipped=("db/crm",)), ["skipped tonight: db/crm"]),
+    (Wanted(not_only=("db/crm", "db/orders")), ["left out by --only: db/crm, db/orders"]),
+    (Wanted(again=("db/crm", "mail/all")), ["again tonight: db/crm, mail/all"]),
+    (Wanted(next=("skip mail", "pause")), ["for the next run: skip mail, pause"]),
+    (Wanted(skipped=MANY, again=MANY[:2]), [
+        "skipped tonight: disks/host-0, disks/host-1, disks/host-2 and 57 more",
+        "again tonight: disks/host-0, disks/host-1"]),
+]
+
+
+def wants(tries: Shared) -> None:
+    """What operators have wanted is one line of each kind, on screens of each size."""
+    os.environ["TZ"] = "UTC"
+    time.tzset()
+    for its, wanted in WANTED:
+        shown = screen(replace(night(1), wanted=its), Size(80, 24))
+        head = shown[:shown.index("")]
+        tries.is_same("what was wanted, on a screen", its, head[len(head) - len(wanted):], wanted)
+        tries.is_same("what was wanted, on a screen: nothing else", its, [
+            it for it in head if it.startswith(TITLES)], wanted)
+        tries.holds("what was wanted: it fits", its, len(shown) <= 24, shown)
+    every = Wanted(WANTED[1][0].settings * 9, MANY, MANY, MANY, MANY)
+    for columns, rows in itertools.product((20, 40, 80, 400), (5, 10, 22)):
+        shown = screen(replace(night(60), wanted=every, paused=By("anna", 5)),
+                       Size(columns, rows))
+        tries.holds("all that is wanted: no more lines than the terminal has", (columns, rows),
+                    len(shown) <= rows, shown)
+        wide = [it for it in shown[:9] if width_of(it) > columns and ".out/" not in it]
+        tries.is_same("all that is wanted: no wider than the terminal", (columns, rows), [
+            it for it in wide if not re.match("RUNNING|NOT|WAIT", it)], [])
+        kinds = [it.partition(":")[0] for it in shown]
+        tries.is_same("all that is wanted: a line of each kind", (columns, rows), [
+            kinds.count(it) for it in ("set tonight", "skipped tonight", "again tonight")]
+            if columns >= 80 and rows >= 10 else [1] * 3, [1] * 3)
 
 
 def screens(tries: Shared) -> None:
@@ -431,6 +521,16 @@ def screens(tries: Shared) -> None:
     for change, *wanted in HEADS:
         shown = screen(replace(night(1), **change), Size(400, 24))  # type: ignore[arg-type]
         tries.is_same("the top of a screen", change, shown[1:3], wanted)
+    held = replace(night(1), paused=By("anna", int(EVENING)))
+    tries.is_same("the top of a paused screen: the end", "", screen(held, Size(400, 24))[3],
+                  "what is left takes about 2h57m, going by the last 7 nights")
+    for seconds, nights, said in ((4000.0, 7, []), (4001.0, 7, [
+            "  longer than in any of the last 7 nights"]), (4001.0, 1, [
+                "  longer than in the last night"])):
+        late = replace(night(1), running=(replace(
+            night(1).running[0], seconds=seconds, usual=Usual(3000.0, 4000.0, nights)),))
+        tries.is_same("a command that is late", (seconds, nights), [
+            it for it in screen(late, Size(80, 24)) if it.startswith("  longer")], said)
     tries.is_same("a store without a night", "", screen(replace(night(0), counts={}), Size(80, 24)),
                   ["b.store: no night has begun"])
     for count, columns, rows in itertools.product((0, 1, 3, 60), (1, 5, 20, 40, 60, 80, 400),
@@ -475,4 +575,78 @@ def screens(tries: Shared) -> None:
         60 - int(it.split()[1]) > 0 for it in more], [True] * 3)
 
 
-ROWS = [forecasts, retries, random_forecasts, large_forecast, usual, plans, screens]
+# --- looks whose `night` is late
+
+# Stands for `night`. An `inspect` leaves a mark while it syncs, in which the system holds it (state
+# D) until somebody opens the pipe `disk`.
+SYNCS = """#!/usr/bin/env python3
+import os
+open("s.failed", "x").close()
+os.posix_spawn("/bin/true", ["true"], {},
+               file_actions=[(os.POSIX_SPAWN_OPEN, 9, "disk", os.O_RDONLY, 0)])
+os.unlink("s.failed")
+"""
+
+
+def late_looks(tries: Shared) -> None:
+    """A look gives up an `inspect` that is late without the mark of a failed sync, which would have
+    the next opening copy the store for nothing. Of a word that writes the mark is left."""
+    folder = f"{tries.folder}/late"
+    os.mkdir(folder)
+    os.mkfifo(f"{folder}/disk")
+    had = os.getcwd(), os.environ.get("NIGHT")
+    os.chdir(folder)
+    os.environ["NIGHT"] = f"{folder}/night"
+    for what, text, words, is_left, is_marked in (
+            ("a look", "#!/bin/sh\nexec sleep 60\n", ("inspect", "--json"), False, False),
+            ("a renewal", "#!/bin/sh\nexec sleep 60\n", ("renew", "--in-place"), False, True),
+            ("a look that the disk holds", SYNCS, ("inspect", "--json"), True, False)):
+        with open(f"{folder}/night", "w", encoding="ascii") as file:
+            file.write(text)
+        os.chmod(f"{folder}/night", 0o755)
+        try:
+            how = ran(*words, f"{folder}/s", seconds=60,
+                      meanwhile=partial(seconds_left, folder, "D" if is_left else ""))
+        except NightEnded as ended:
+            how = str(ended)
+        tries.holds(f"{what} is late: it is given up", folder, "no end within 60 s" in how, how)
+        tries.is_same(f"{what} is late: it goes on", folder, bool(phases_in(folder)), is_left)
+        if is_left:
+            with open(f"{folder}/disk", "wb"):
+                pass
+            until(lambda: not phases_in(folder))
+        tries.is_same(f"{what} is late: the mark", folder, os.path.exists(f"{folder}/s.failed"),
+                      is_marked)
+        if is_marked:
+            os.unlink(f"{folder}/s.failed")
+    os.chdir(had[0])
+    os.environ.pop("NIGHT")
+    if had[1] is not None:
+        os.environ["NIGHT"] = had[1]
+
+
+def phases_in(folder: str, wanted: str = "") -> list[str]:
+    """The states of the processes there that are in one of these, or in any."""
+    found = []
+    for it in filter(str.isdecimal, os.listdir("/proc")):
+        with contextlib.suppress(OSError):
+            if os.readlink(f"/proc/{it}/cwd") == folder and int(it) != os.getpid():
+                with open(f"/proc/{it}/stat", encoding="ascii", errors="replace") as file:
+                    found.append(file.read().rpartition(")")[2].split()[0])
+    return [it for it in found if not wanted or it in wanted]
+
+
+def seconds_left(folder: str, wanted: str) -> float:
+    """No more once a process there is in one of these states; until then a minute."""
+    return 0.0 if phases_in(folder, wanted) else 60.0
+
+
+def until(holds: Callable[[], bool], seconds: float = 30) -> None:
+    """Waits until this holds."""
+    end = time.monotonic() + seconds
+    while not holds() and time.monotonic() < end:
+        time.sleep(0.02)
+
+
+ROWS = [forecasts, retries, progress_phases, random_forecasts, large_forecast, usual, plans, wants,
+        screens, late_looks]

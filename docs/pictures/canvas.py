@@ -7,6 +7,7 @@ failed or canceled, and grey is anything else. The map of the layers has three c
 
 from __future__ import annotations
 
+import re
 from collections.abc import Iterator
 from dataclasses import dataclass, field
 from itertools import combinations
@@ -73,12 +74,21 @@ class Picture:
         return area
 
     def written(self, x: float, y: float, said: str, shade: str, size: int, font: str,
-                anchor: str) -> Area:
+                anchor: str, more: str = "") -> Area:
         self.parts.append(f'<text class="{shade} {font}" x="{x:g}" y="{y + size * 0.36:g}" '
-                          f'font-size="{size}" text-anchor="{anchor}">{escape(said)}</text>')
+                          f'font-size="{size}" text-anchor="{anchor}"{more}>{escape(said)}</text>')
         wide = len(said) * size * LETTER[font]
         left = {"start": x, "middle": x - wide / 2, "end": x - wide}[anchor]
         return Area(left, y - size * 0.6, left + wide, y + size * 0.6, said)
+
+    def typed(self, x: float, y: float, line: str, size: int = 13) -> None:
+        """A line of a terminal, whose middle is y. Each part of it between two spaces or more
+        stands in its columns, whatever font is there."""
+        wide = size * LETTER["mono"]
+        for it in re.finditer(r"\S+(?: \S+)*", line):
+            area = self.written(x + it.start() * wide, y, it[0], "ink", size, "mono", "start",
+                                f' textLength="{len(it[0]) * wide:g}"')
+            self.texts.append(area)
 
     def box(self, x: float, y: float, wide: float, high: float, shade: str, said: str,
             small: str = "", font: str = "sans", dashed: bool = False) -> Area:
