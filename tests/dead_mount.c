@@ -1,5 +1,5 @@
-/* A library before a driver: a path with `dead` in it lies on a mount that doesn't answer, so that a
-   look at it never ends, whatever signal comes. */
+/* A library that a driver loads first: a path with `dead` in it lies on a mount that doesn't
+   answer, so that no call on it returns, whatever signal comes. */
 #define _GNU_SOURCE
 #include <dlfcn.h>
 #include <fcntl.h>

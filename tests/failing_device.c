@@ -3,9 +3,9 @@
  *
  *     failing_device MOUNTPOINT BACKING RANGES
  *
- * While the file RANGES is there, a write of a byte in one of its ranges fails with EIO; each line
- * has a range, and after how many milliseconds that is, `FROM TO WHILE`: so long all of it hangs. It
- * ends when the file system is unmounted. It wants root and /dev/fuse.
+ * While the file RANGES exists, a write of a byte in one of its ranges fails with EIO. Each line is
+ * a range and a number of milliseconds, `FROM TO WHILE`: the whole file system hangs for this time
+ * before the write fails. It ends when it is unmounted. It needs root and /dev/fuse.
  */
 #include <errno.h>
 #include <fcntl.h>

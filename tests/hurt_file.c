@@ -72,7 +72,7 @@ struct unsynced {
 
 static const char *path, *keep, *wrong, *left, *refused, *stop;
 static char *names[MOST_FILES]; /* (of the open files) */
-static int file = -1, told = -1, listed = -1, is_short, is_full;
+static int file = -1, log_file = -1, listed = -1, is_short, is_full;
 static long calls, cut, failing, once, trim, swap, killing, touches, all_calls, dying, breaking;
 static long halting;
 static unsigned long long room;
@@ -171,7 +171,7 @@ __attribute__((constructor)) static void begin(void)
     one_way = getenv("HURT_WAY") ? number_of("HURT_WAY") : -1;
     dice = seed_of("HURT_SEED");
     short_dice = seed_of("HURT_SHORT");
-    told = log_of("HURT_LOG");
+    log_file = log_of("HURT_LOG");
     listed = log_of("HURT_NAMES");
     if (left)
         take_left();
@@ -187,8 +187,8 @@ static uint64_t thrown(uint64_t *state, uint64_t below)
 
 static void tell(const char *what, off_t at, size_t count)
 {
-    if (told >= 0)
-        dprintf(told, "%s %lld %zu\n", what, (long long)at, count);
+    if (log_file >= 0)
+        dprintf(log_file, "%s %lld %zu\n", what, (long long)at, count);
 }
 
 static off_t length_of(int fd)
@@ -334,7 +334,7 @@ static int fails(const char *what, off_t at, size_t count)
 /* Where a read or a write without a place begins, where that is asked for. */
 static off_t place_of(int fd)
 {
-    return cut || told >= 0 ? lseek(fd, 0, SEEK_CUR) : 0;
+    return cut || log_file >= 0 ? lseek(fd, 0, SEEK_CUR) : 0;
 }
 
 /* Changes the file's last byte, by a descriptor of its own. */

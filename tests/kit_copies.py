@@ -1,4 +1,8 @@
-"""Copies of the kit that lack something: names of `rt` and `rtlib.py`, or words of `rattle`."""
+"""Copies of the kit that lack something: names of `rt` and of its modules, or options of `rattle`.
+
+No file of the kit is named but `rt`, `rattle` and the page that `rt doc` names. Kits differ in the
+scripts that lie beside `rt`; all of them are copied, since `rt` finds them by its own folder.
+"""
 import os
 import shutil
 from collections.abc import Iterable
@@ -33,16 +37,25 @@ exec {rattle} "$@"
 
 def lay(kit: str, folder: str) -> str:
     """Lays a copy of a kit into a new folder, mostly as links, and returns the folder of `rt`."""
-    os.makedirs(f"{folder}/bin")
+    copy_scripts(kit, folder)
     for below in ("", "bin/"):
         for it in os.listdir(f"{kit}/{below}"):
-            if it not in ("bin", "rt", "rtlib.py"):
+            if not os.path.exists(f"{folder}/{below}{it}"):
                 os.symlink(f"{kit}/{below}{it}", f"{folder}/{below}{it}")
-    # (these go by the folder that they are in; a kit may lack the second)
-    for it in ("rt", "rtlib.py"):
-        if os.path.exists(f"{kit}/bin/{it}"):
-            shutil.copy(f"{kit}/bin/{it}", f"{folder}/bin/{it}")
     return f"{folder}/bin"
+
+
+def copy_scripts(kit: str, folder: str) -> None:
+    """Copies the scripts of a kit, which go by the folder that they are in."""
+    os.makedirs(f"{folder}/bin")
+    for it in os.listdir(f"{kit}/bin"):
+        if is_script(f"{kit}/bin/{it}"):
+            shutil.copy(f"{kit}/bin/{it}", f"{folder}/bin/{it}")
+
+
+def is_script(path: str) -> bool:
+    with open(path, "rb") as file:
+        return path.endswith(".py") or file.read(2) == b"#!"
 
 
 def drop_names(tools: str, names: Iterable[str]) -> None:
@@ -59,7 +72,7 @@ def hide_module(tools: str) -> None:
 
 
 def drop_words(tools: str, *words: str) -> None:
-    """Has the help of the `rattle` of a folder, which is a link as yet, not name some words."""
+    """Has the help of the `rattle` of a folder, which is a link so far, not name some words."""
     rattle = os.readlink(f"{tools}/rattle")
     os.remove(f"{tools}/rattle")
     write(f"{tools}/rattle", WITHOUT.format(rattle=rattle, words="|".join(words)))

@@ -14,8 +14,8 @@
  *   CACHE_STOP    the number of such a call, from 1: the program stops before it (SIGSTOP)
  *   CACHE_HALT    the same for a later call
  *   CACHE_FAIL    the number of such a call, from 1: it fails with EIO; CACHE_ERROR, of which error
- *   CACHE_HANG    the number of such a call, from 1, which is a sync: it hangs, the program is killed
- *                 meanwhile, and then it fails, which nobody learns
+ *   CACHE_HANG    the number of such a call, from 1, which is a sync: it hangs, the program is
+ *                 killed meanwhile, and then it fails, which nobody learns
  *   CACHE_PART    a seed: a sync of a file that fails has written some of the pages, and else none
  *   CACHE_MAPPED  advice to drop pages isn't followed, as where another program has them mapped
  *   CACHE_UNSYNCED  a sync of the folder answers so and does nothing: the number of an error
@@ -57,7 +57,7 @@ static struct open_file {
 
 static const char *folder, *state;
 static struct stat folder_is;
-static int told = -1, is_mapped;
+static int log_file = -1, is_mapped;
 static long calls, killing, stopping, halting, failing, hanging, error_number, unsynced;
 static uint64_t dice;
 
@@ -90,8 +90,8 @@ __attribute__((constructor)) static void begin(void)
     is_mapped = getenv("CACHE_MAPPED") != NULL;
     dice = (uint64_t)number_of("CACHE_PART") * 0x9E3779B97F4A7C15u;
     if (log)
-        told = (int)syscall(SYS_openat, AT_FDCWD, log, O_WRONLY | O_CREAT | O_APPEND | O_CLOEXEC,
-                            0644);
+        log_file = (int)syscall(SYS_openat, AT_FDCWD, log,
+                                O_WRONLY | O_CREAT | O_APPEND | O_CLOEXEC, 0644);
 }
 
 static int is_thrown(void)
@@ -112,8 +112,8 @@ static void end(void)
 static int fails(const char *what, const char *name)
 {
     calls++;
-    if (told >= 0)
-        dprintf(told, "%s %s\n", what, name);
+    if (log_file >= 0)
+        dprintf(log_file, "%s %s\n", what, name);
     if (calls == stopping || calls == halting)
         raise(SIGSTOP);
     if (calls == killing)

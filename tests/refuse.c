@@ -27,7 +27,7 @@ extern void *__libc_memalign(size_t align, size_t count);
 typedef int start(pthread_t *, const pthread_attr_t *, void *(*)(void *), void *);
 
 static start *next_start;
-static int told = -1, is_all, is_counted;
+static int log_file = -1, is_all, is_counted;
 static long refused_growth, refused_thread;
 static atomic_long growths, threads;
 
@@ -44,7 +44,7 @@ __attribute__((constructor)) static void begin(void)
     refused_thread = number_of("REFUSE_THREAD");
     is_all = getenv("REFUSE_ALL") != NULL;
     if (getenv("REFUSE_LOG"))
-        told = open(getenv("REFUSE_LOG"), O_WRONLY | O_CREAT | O_TRUNC | O_CLOEXEC, 0644);
+        log_file = open(getenv("REFUSE_LOG"), O_WRONLY | O_CREAT | O_TRUNC | O_CLOEXEC, 0644);
     is_counted = 1;
 }
 
@@ -107,8 +107,8 @@ int pthread_create(pthread_t *thread, const pthread_attr_t *how, void *(*what)(v
 void _exit(int status)
 {
     is_counted = 0;
-    if (told >= 0)
-        dprintf(told, "%ld %ld\n", growths, threads);
+    if (log_file >= 0)
+        dprintf(log_file, "%ld %ld\n", growths, threads);
     syscall(SYS_exit_group, status);
     __builtin_unreachable();
 }

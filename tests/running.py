@@ -7,6 +7,7 @@ import shutil
 import subprocess
 import sys
 import tempfile
+import threading
 
 from by_hand import Store
 
@@ -113,10 +114,13 @@ class Tries:
         library = f"{self.folder}/{source}.so"
         if not shutil.which("cc"):
             return None
-        words = ["cc", "-shared", "-fPIC", "-O1", "-o", library, f"{HERE}/{source}"]
+        # (several threads may ask for it, while programs of others load it)
+        made = f"{library}.{threading.get_ident()}"
+        words = ["cc", "-shared", "-fPIC", "-O1", "-o", made, f"{HERE}/{source}"]
         built = subprocess.run(words, capture_output=True, text=True)
         if built.returncode:
             sys.exit(f"{self.about}: cc can't build {source}:\n{built.stderr}")
+        os.replace(made, library)
         return library
 
     def file(self, name, content=None):
