@@ -185,6 +185,7 @@ fn is_asked(asked: &Request, reported: &Reported) -> bool {
         Request::Renew { old, new, is_new } => is_renewal(reported, old, new, *is_new),
         Request::RenewInPlace(store) => is_in_place(reported, store),
         Request::Plan => matches!(reported, Reported::Plan),
+        Request::Drive { store } => is_store(reported, "drive", store, false),
         Request::Help(text) => is_help(reported, text),
     }
 }

@@ -61,7 +61,7 @@ pub static DEMO: [Case; 4] = [
     (&["demo", "--strict", "--"], Reported::Demo(true)),
 ];
 
-pub static STORES: [Case; 8] = [
+pub static STORES: [Case; 11] = [
     (
         &["format", "a.disk"],
         Reported::Store("format", "a.disk", false),
@@ -88,6 +88,15 @@ pub static STORES: [Case; 8] = [
     ),
     (&["script", "a", "--"], Reported::Script("a", false, false)),
     (&["script", ""], Reported::Script("", false, false)),
+    (
+        &["drive", "a.disk"],
+        Reported::Store("drive", "a.disk", false),
+    ),
+    (
+        &["drive", "--", "-a"],
+        Reported::Store("drive", "-a", false),
+    ),
+    (&["drive", "a", "--"], Reported::Store("drive", "a", false)),
 ];
 
 /// A flag before and after the store; after `--` it is the name of a store.
@@ -529,7 +538,7 @@ pub static CREWS: [Case; 13] = [
     (&["crew", "a", "--workers", "two"], Reported::Workers),
 ];
 
-pub static HELP: [Case; 30] = [
+pub static HELP: [Case; 31] = [
     (&["--help"], Reported::Help("Usage: night <COMMAND>")),
     (
         &["--help"],
@@ -542,6 +551,7 @@ pub static HELP: [Case; 30] = [
     (&["-h"], Reported::Help("Usage: night <COMMAND>")),
     (&["help"], Reported::Help("Usage: night <COMMAND>")),
     (&["demo", "--help"], Reported::Help("Usage: night demo")),
+    (&["drive", "--help"], Reported::Help("Usage: night drive")),
     (
         &["demo", "--help"],
         Reported::Help("Ends at the first line that is bad or refused, with status 1\n"),

@@ -3,7 +3,7 @@
 use crate::words::cases::{Case, Reported};
 
 /// Words that ask for nothing.
-pub static MISTAKES: [Case; 25] = [
+pub static MISTAKES: [Case; 26] = [
     (&[], Reported::Mistake("Usage: night <COMMAND>")),
     (&[""], Reported::Mistake("unrecognized subcommand ''")),
     (
@@ -16,6 +16,10 @@ pub static MISTAKES: [Case; 25] = [
     ),
     (
         &["script", "--"],
+        Reported::Mistake("required arguments were not provided"),
+    ),
+    (
+        &["drive"],
         Reported::Mistake("required arguments were not provided"),
     ),
     (
@@ -101,7 +105,7 @@ pub static MISTAKES: [Case; 25] = [
 ];
 
 /// Flags that stand twice, have a value, or stand where their command doesn't take them.
-pub static STRAY_FLAGS: [Case; 24] = [
+pub static STRAY_FLAGS: [Case; 25] = [
     (
         &["demo", "--strict", "--strict"],
         Reported::Mistake("'--strict' cannot be used multiple times"),
@@ -165,6 +169,10 @@ pub static STRAY_FLAGS: [Case; 24] = [
     (
         &["script", "a", "--new"],
         Reported::Mistake("unexpected argument '--new' found"),
+    ),
+    (
+        &["drive", "a", "--strict"],
+        Reported::Mistake("unexpected argument '--strict' found"),
     ),
     (
         &["inspect", "--new", "a"],
