@@ -110,11 +110,11 @@ module _ {D : Type 0} (state : D → DiskState) where
       → Sittings state (suc n) given (first ++ second) left
   next_sitting given middle left n k before after first second sittings opened answers disk
       stores = (
-    middle,
-    first,
-    second,
-    sittings,
-    sitting middle left k before after second opened answers disk,
-    stores,
-    refl,
-  )
+        middle,
+        first,
+        second,
+        sittings,
+        sitting middle left k before after second opened answers disk,
+        stores,
+        refl,
+      )
