@@ -432,12 +432,11 @@ STOPPED: list[tuple[str, Mapping[str, object], str | None, bool, list[str]]] = [
 def stopped(tries: Shared) -> None:
     """What is stopped, and for which end, which is left for a later driver first."""
     make = driver_module(tries, "stopping").Stopper
-    canceled = driver_module(tries, "ends").canceled
+    canceled, stop = driver_module(tries, "ends").canceled, driver_module(tries, "orders").Stop
     for what, its, cause, cuts_off, wanted in STOPPED:
         for word in ("press", "press_left"):
             noted, it = Noted(), Fake(**its)
-            given = (cause, cuts_off) if word == "press" else (None, cause, cuts_off)
-            getattr(make(noted, 1.0), word)(it, *given)
+            getattr(make(noted, 1.0), word)(it, stop(cause, None, cuts_off))
             tries.is_same(f"a command is stopped: {word}", what, it.did, wanted)
             ends = [one.removeprefix("stopped") for one in wanted if one.startswith("stopped")]
             tries.is_same("a command is stopped: its file says so", what, noted.lines,
@@ -445,13 +444,13 @@ def stopped(tries: Shared) -> None:
     for what, flag in (("it hasn't begun", {"has_begun": False}), ("it has ended", {"over": True}),
                        ("nothing of it is here", {"is_here": False})):
         it = Fake(**flag)
-        make(Noted(), 1.0).press(it, "why", True)
+        make(Noted(), 1.0).press(it, stop("why", None, True))
         tries.is_same("a command is left alone", what, it.did, [])
     it = Fake(orphans=True)
-    make(Noted(), 1.0).press_left(it, None, None, False)
+    make(Noted(), 1.0).press_left(it, stop(None, None, False))
     tries.is_same("what a command left", "its group", it.did, ["cleared", "pressed"])
     it = Fake()
-    make(Noted(), 1.0).press_left(it, canceled("by hand"), None, False)
+    make(Noted(), 1.0).press_left(it, stop(None, canceled("by hand"), False))
     tries.is_same("what a command left", "a canceled one", it.did,
                   ["stopped: canceled: by hand", "pressed"])
 

@@ -9,27 +9,26 @@ durable; until then each round comes back to it.
 from __future__ import annotations
 
 from functools import partial
-from typing import TYPE_CHECKING
 
 from . import Name
+from .batches import Batch
 from .cancels import NO_GROUP, REFUSED, Desk, Request, is_key
-from .commands import Command
+from .course import Course
 from .ends import End, canceled
+from .executor import Executor
 from .guesses import no_command
 from .rounds import base_of
 from .settings import OF_ALL
 from .standing import CANCELLED
-
-if TYPE_CHECKING:
-    from .batches import Batch
-    from .loop import Driver
+from .starts import Starts
 
 
 class Canceler:
     """The cancels of a driver."""
 
-    def __init__(self, driver: Driver) -> None:
-        self.driver, self.desk = driver, Desk(driver.files)
+    def __init__(self, course: Course, executor: Executor, starts: Starts) -> None:
+        self.course, self.executor, self.starts = course, executor, starts
+        self.desk = Desk(course.files)
 
     def add(self, batch: Batch) -> dict[Request, str]:
         """The lines for what is asked for, and the answers to it, once all is acked."""
@@ -50,22 +49,23 @@ class Canceler:
 
     def refusal(self, it: Request) -> str:
         """Why a request isn't obeyed; empty where it is."""
-        names = self.driver.jobs.all
+        course = self.course
+        names = course.jobs.all
         if it.key:
             if (it.group, it.key) not in names:
                 return no_command(it.group, it.key, names)
-            full = self.driver.is_full and (it.group, it.key) not in self.driver.facts.busy
-            return f"{self.driver.files.shown} is full" if full else ""
+            full = course.capacity.is_full and (it.group, it.key) not in course.facts.busy
+            return f"{course.files.shown} is full" if full else ""
         key = it.why.partition(" ")[0]
         return is_key(it.group, key) if (it.group, key) in names else ""
 
     def add_group(self, batch: Batch, it: Request, answers: dict[Request, str]) -> None:
-        book = self.driver.book
+        book = self.course.book
         answers[it] = NO_GROUP
         groups = list(book.scopes) if it.group == OF_ALL else [it.group]
         scopes = [book.scopes[group] for group in groups if group in book.scopes]
         for scope in scopes:
-            self.driver.facts.cancel(base_of(scope.name), it.why)
+            self.course.facts.cancel(base_of(scope.name), it.why)
         if it.group == OF_ALL and book.top:
             scopes.insert(0, book.top)
         for scope in scopes:
@@ -75,10 +75,10 @@ class Canceler:
 
     def add_command(self, batch: Batch, it: Request, answers: dict[Request, str]) -> None:
         name, end = (it.group, it.key), canceled(it.why)
-        if name in self.driver.facts.busy:
-            self.stop(name, end)
+        if name in self.course.facts.busy:
+            self.executor.cancel(name, end)
             return
-        found = self.driver.planner.standings(self.driver.facts)[name]
+        found = self.course.planner.standings(self.course.facts)[name]
         if not found.is_final:
             self.end(batch, name, end)
         elif found.phase == CANCELLED:
@@ -86,34 +86,9 @@ class Canceler:
         else:
             answers[it] = REFUSED + found.at_its_end(name)
 
-    def stop(self, name: Name, end: End) -> None:
-        """Stops what runs of a command, also what an earlier driver began."""
-        command = self.driver.commands.get(name)
-        if command and not command.has_begun:
-            command.never(end)
-        elif command:
-            self.driver.stopper.stop(command, end)
-        for left in self.driver.left:
-            if left.name == name:
-                self.driver.stopper.stop(left, end)
-
     def end(self, batch: Batch, name: Name, end: End) -> None:
         """Gives a command that doesn't run a task, which ends in the next round."""
-        driver = self.driver
-        command = Command(driver.jobs.all[name], "", 0, -1, "")
-        command.never(end)
-        driver.commands[name] = command
-        driver.facts.busy.add(name)
-        driver.add_start(batch, command, self.free_group(batch, name[0]))
-        driver.is_woken = True
-
-    def free_group(self, batch: Batch, base: str) -> str:
-        """A group of the store that is never at a limit; empty where the usual one has none."""
-        book = self.driver.book
-        if not self.driver.jobs.limit_in_store(base):
-            return ""
-        if base not in book.free:
-            made = book.free[base] = book.next_name(base)
-            book.limits[made] = None
-            batch.add(f"bare {made} {book.scopes[base].name}", self.driver.submitted)
-        return book.free[base]
+        self.executor.own.never(name, end)
+        self.course.facts.busy.add(name)
+        self.starts.add(batch, name, self.starts.free_group(batch, name[0]))
+        self.course.is_woken = True

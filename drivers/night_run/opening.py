@@ -13,6 +13,7 @@ from collections.abc import Callable, Iterable
 from dataclasses import replace
 
 from . import Fault
+from .capacity import StoreFull
 from .ends import WITHDRAWN
 from .facts import Book
 from .files import Files
@@ -22,11 +23,6 @@ from .night import (ALREADY_DONE, CLOCK_NOT_FORWARD, FULL, LIMIT_WHILE_ACTIVE, N
 from .rounds import Role, Round, base_of, named, role_name
 from .settings import OF_ALL, Deadline
 from .state import FRESH, JOB, Scope, State, read_state
-
-
-
-class StoreFull(Exception):
-    """The store has no row left for what is to be made. A renewal may free some."""
 
 
 def inspected(files: Files) -> State:

@@ -19,6 +19,18 @@ from .early import STEPS, taken
 from .telling import tell
 
 
+class Asked:
+    """How far a driver is asked to end: 1 is that nothing more begins, 2 that all is stopped. A
+    fault asks for that, too."""
+
+    def __init__(self, signals: Signals) -> None:
+        self.signals, self.is_cut_off = signals, False
+
+    @property
+    def steps(self) -> int:
+        return max(self.signals.steps, 2) if self.is_cut_off else self.signals.steps
+
+
 class Signals:
     """The signals of this process, once it listens. `wake` can be read after a signal has come,
     also after that of a child's end."""

@@ -10,11 +10,10 @@ from __future__ import annotations
 import signal
 import threading
 import time
-from collections.abc import Mapping
-from typing import TYPE_CHECKING
 
 from . import Name
-from .commands import Command
+from .course import Course
+from .executor import Executor
 from .facts import Facts
 from .files import Files
 from .jobs import Jobs
@@ -27,9 +26,6 @@ from .status_screen import ending
 from .status_times import usual_times
 from .summary import so_far
 
-if TYPE_CHECKING:
-    from .loop import Driver
-
 # Seconds between two forecasts; and how many times as long as it takes to find one.
 OFTEN, SELDOM = 5.0, 50
 # How many of the commands that run are named: more don't fit on any terminal.
@@ -39,46 +35,38 @@ MOST_NAMED = 40
 class Line:
     """The line of a night's driver."""
 
-    def __init__(self, files: Files, planner: Planner) -> None:
-        self.oracle = Oracle(files, planner.jobs)
-        self.planner = planner
+    def __init__(self, files: Files, jobs: Jobs) -> None:
+        self.oracle = Oracle(files, jobs)
 
-    def text(self, driver: Driver) -> str:
+    def text(self, course: Course, executor: Executor) -> str:
         """The line of this moment."""
-        facts, jobs = driver.facts, driver.jobs
+        facts, jobs, running = course.facts, course.jobs, executor.seconds()
         if self.oracle.is_idle():
-            self.oracle.ask(driver.night, moment_of(driver, self.planner, time.time()))
-        shown = so_far(facts.ends.values(), len(jobs.all), len(driver.commands))
-        found, is_paused = self.oracle.found, driver.book.tonight.paused is not None
+            self.oracle.ask(course.night, moment_of(course, running, time.time()))
+        shown = so_far(facts.ends.values(), len(jobs.all), len(running))
+        found, is_paused = self.oracle.found, course.book.tonight.paused is not None
         shown += "; paused" if is_paused else ""
         now = time.time()
-        if found and driver.commands and not is_paused and (
+        if found and running and not is_paused and (
                 found.may_end(now) or not found.is_vague(now)):
             shown += f"; {ending(found, now)}"
-        its = sorted(seconds_of(driver.commands).items(), key=lambda it: -it[1])[:MOST_NAMED]
+        its = sorted(running.items(), key=lambda it: -it[1])[:MOST_NAMED]
         named = ", ".join(f"{'/'.join(name)} {span(seconds)}" for name, seconds in its)
         return f"{shown}; {named}" if named else shown
 
 
-def seconds_of(commands: Mapping[Name, Command]) -> dict[Name, float]:
-    """For how long each command has run, whatever the machine's clock was set to meanwhile."""
-    now, wall = time.monotonic(), time.time()
-    return {name: now - it.since if it.since else max(0.0, wall - it.began) if it.began else 0.0
-            for name, it in commands.items()}
-
-
 # --- the end of the night
 
-def moment_of(driver: Driver, planner: Planner, now: float) -> Moment:
+def moment_of(course: Course, running: dict[Name, float], now: float) -> Moment:
     """What the driver knows now."""
-    facts, jobs = driver.facts, driver.jobs
-    phases = phases_of(jobs, facts, planner)
+    facts, jobs = course.facts, course.jobs
+    phases = phases_of(jobs, facts, course.planner)
     due = {name: at for name in facts.ends if phases.get(name) == WAITING
            and (at := retry_due(jobs.all[name], facts)) is not None}
-    deadlines = {group: float(it.deadline) for group, it in driver.book.scopes.items()
+    deadlines = {group: float(it.deadline) for group, it in course.book.scopes.items()
                  if it.deadline is not None and group not in facts.done and group in jobs.members}
-    most = driver.taker.its.most or driver.most
-    return Moment(now, most, phases, seconds_of(driver.commands), due, deadlines)
+    most = course.book.tonight.most or course.most
+    return Moment(now, most, phases, running, due, deadlines)
 
 
 def phases_of(jobs: Jobs, facts: Facts, planner: Planner) -> dict[Name, str]:

@@ -7,12 +7,12 @@ from __future__ import annotations
 from .commands import Command, Running, too_much
 from .ends import End, canceled, failed
 from .leftovers import Leftover
+from .orders import Stop
 from .tries import Tries
 
 
 class Stopper:
-    """Stops commands, of this driver and of one that was killed. `cause` is why all of a group have
-    to end, if they have to; `cuts_off` whether a signal asks for that."""
+    """Stops commands, of this driver and of one that was killed."""
 
     def __init__(self, tries: Tries, grace: float) -> None:
         self.tries, self.grace = tries, grace
@@ -23,7 +23,7 @@ class Stopper:
             self.tries.stop(it.record, why)
         it.stop(why)
 
-    def press(self, it: Command, cause: str | None, cuts_off: bool) -> None:
+    def press(self, it: Command, order: Stop) -> None:
         """Ends one of this driver's if it has to."""
         if not it.has_begun or it.poll(self.grace) or not (it.is_here or it.is_asked_for):
             return
@@ -31,14 +31,13 @@ class Stopper:
             self.stop(it, failed(f"timeout {it.job.timeout_text}"))
         elif it.stopped is None and it.job.limits.is_passed_by(self.printed(it.output)):
             self.stop(it, too_much(it.job))
-        self.press_one(it, cause, cuts_off)
+        self.press_one(it, order)
 
     def printed(self, output: str) -> int | None:
         return self.tries.files.outputs.size(output)
 
-    def press_left(self, it: Leftover, end: End | None, cause: str | None, cuts_off: bool) -> None:
-        """Ends what an earlier driver left, if it has to; `end` is how its command has ended in
-        this night."""
+    def press_left(self, it: Leftover, order: Stop) -> None:
+        """Ends what an earlier driver left, if it has to."""
         if it.is_overdue() and it.job:
             self.stop(it, failed(f"timeout {it.job.timeout_text}"))
         elif it.job and it.stopped is None and it.is_here \
@@ -46,13 +45,13 @@ class Stopper:
             self.stop(it, too_much(it.job))
         elif it.has_orphans():
             it.clear(self.grace)
-        elif end and end.is_canceled:
-            self.stop(it, end)
-        self.press_one(it, cause, cuts_off)
+        elif order.end and order.end.is_canceled:
+            self.stop(it, order.end)
+        self.press_one(it, order)
 
-    def press_one(self, it: Running, cause: str | None, cuts_off: bool) -> None:
-        if cause is not None:
-            self.stop(it, canceled(cause))
-        elif cuts_off:
+    def press_one(self, it: Running, order: Stop) -> None:
+        if order.cause is not None:
+            self.stop(it, canceled(order.cause))
+        elif order.cuts_off:
             self.stop(it, None)
         it.press(self.grace)

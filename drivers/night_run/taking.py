@@ -10,6 +10,7 @@ from __future__ import annotations
 import datetime
 import itertools
 import time
+from collections.abc import Callable
 from dataclasses import replace
 from typing import TYPE_CHECKING
 
@@ -29,9 +30,10 @@ from .wants import By, Verb, Want
 
 if TYPE_CHECKING:
     from .batches import Batch
+    from .course import Course
+    from .executor import Executor
     from .files import Files
     from .jobs import Jobs
-    from .loop import Driver
 
 
 class ScopesWanted(Exception):
@@ -42,14 +44,15 @@ class ScopesWanted(Exception):
 class Taker:
     """What is wanted of a driver's night."""
 
-    def __init__(self, driver: Driver) -> None:
-        self.driver, self.desk = driver, Petitions(driver.files)
+    def __init__(self, course: Course, executor: Executor) -> None:
+        self.course, self.executor = course, executor
+        self.desk = Petitions(course.files)
         self.wants_scopes = False
         self.answers: dict[str, str] = {}  # those that are given, by the names of the requests
 
     @property
     def its(self) -> Tonight:
-        return self.driver.book.tonight
+        return self.course.book.tonight
 
     @property
     def is_paused(self) -> bool:
@@ -58,14 +61,14 @@ class Taker:
     @property
     def most(self) -> int:
         """How many commands may run at a time now."""
-        return 0 if self.is_paused else self.its.most or self.driver.most
+        return 0 if self.is_paused else self.its.most or self.course.most
 
-    def take(self, batch: Batch) -> None:
+    def take(self, batch: Batch, send: Callable[[Batch], None]) -> None:
         """Takes what is wanted now, and answers. What this batch has is acked first: a command may
         be to run again whose end it has."""
         requests = self.desk.requests()
         if requests and batch.lines:
-            self.driver.acked = batch.send(self.driver.session)
+            send(batch)
         # (one whose answer couldn't be written is there again, and isn't taken twice)
         self.answers = {it.name: self.answers[it.name] for it in requests
                         if it.name in self.answers}
@@ -84,57 +87,57 @@ class Taker:
 
     def taken(self, wants: tuple[Want, ...], by: By) -> str:
         """The answer, once what is wanted holds."""
-        driver = self.driver
-        night = Night(driver.jobs, driver.book, driver.facts,
-                      driver.planner.standings(driver.facts), driver.has_mark,
-                      driver.planner.standings)
+        course = self.course
+        night = Night(course.jobs, course.book, course.facts,
+                      course.planner.standings(course.facts), course.has_mark,
+                      course.planner.standings)
         change = Change(night, self.its, by)
         answer = change.take(wants)
-        nights = {driver.book.night: change.its}
-        if driver.next_night:
-            nights[driver.next_night] = self.of_next(wants, by)
-        keep(driver.files, driver.past, nights)
+        nights = {course.book.night: change.its}
+        if course.next_night:
+            nights[course.next_night] = self.of_next(wants, by)
+        keep(course.files, course.past, nights)
         self.hold(change.its)
         return answer
 
     def of_next(self, wants: tuple[Want, ...], by: By) -> Tonight:
         """The same of the night that this run begins after the rest of this one."""
-        driver, number = self.driver, self.driver.next_night
-        change = Change(fresh_night(driver.jobs, number), driver.past.notes.of(number), by)
+        course, number = self.course, self.course.next_night
+        change = Change(fresh_night(course.jobs, number), course.past.notes.of(number), by)
         change.take(wants)
         return change.its
 
     def hold(self, its: Tonight) -> None:
         """What is written down holds from now on."""
-        driver, before = self.driver, self.its
-        driver.book.tonight = driver.facts.tonight = its
+        course, before = self.course, self.its
+        course.book.tonight = course.facts.tonight = its
         for name, since in its.redo.items():
             if before.redo.get(name) != since:
-                driver.facts.forget(name)
-                driver.forgiven.pop(name, None)
-        driver.facts.stay_canceled(its.canceled, time.time())
-        driver.facts.changed |= driver.jobs.all.keys()
-        driver.book.close_old()
+                course.facts.forget(name)
+                course.forgiven.pop(name, None)
+        course.facts.stay_canceled(its.canceled, time.time())
+        course.facts.changed |= course.jobs.all.keys()
+        course.book.close_old()
         self.set_limits(its.limits)
-        for it in driver.commands.values():
-            by = driver.facts.left_out(it.name)
-            if by and not it.has_begun and not it.is_never:
-                it.never(canceled(by))
-        again = reopened_groups(driver.book, driver.facts)
-        driver.reopened |= again
-        self.wants_scopes |= not driver.is_full and bool(again or self.groups_without_scope())
-        driver.is_woken = True
+        for name in self.executor.own.unbegun():
+            if by := course.facts.left_out(name):
+                self.executor.own.never(name, canceled(by))
+        again = reopened_groups(course.book, course.facts)
+        course.reopened |= again
+        is_full = course.capacity.is_full
+        self.wants_scopes |= not is_full and bool(again or self.groups_without_scope())
+        course.is_woken = True
 
     def groups_without_scope(self) -> set[str]:
         """The groups that have something to do now, and had nothing as the session was opened: all
         of it was left out, or not due."""
-        driver = self.driver
-        return groups_left(driver.planner.standings(driver.facts)) - driver.book.scopes.keys()
+        course = self.course
+        return groups_left(course.planner.standings(course.facts)) - course.book.scopes.keys()
 
     def set_limits(self, limits: dict[str, int]) -> None:
         """A group whose limit was set begins in a group of the store that has none."""
-        book = self.driver.book
-        self.driver.jobs.limits = limits
+        book = self.course.book
+        self.course.jobs.limits = limits
         for base in limits:
             if base in book.groups and book.limits.get(book.groups[base]) is not None:
                 del book.groups[base]
@@ -146,7 +149,8 @@ class Taker:
 
     def tidy(self) -> None:
         """What was wanted of earlier nights is over, now that this one is there."""
-        if min(self.driver.past.notes.nights, default=self.driver.night) < self.driver.night:
+        night = self.course.night
+        if min(self.course.past.notes.nights, default=night) < night:
             self.keep(self.its)
 
     def close(self) -> None:
@@ -157,7 +161,7 @@ class Taker:
     def keep(self, its: Tonight) -> None:
         """Writes it down, if that can be done: nothing is lost without it."""
         try:
-            keep(self.driver.files, self.driver.past, {self.driver.book.night: its})
+            keep(self.course.files, self.course.past, {self.course.book.night: its})
         except OSError as error:
             note(error_text(error))
 

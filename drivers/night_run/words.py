@@ -519,22 +519,22 @@ class Run:
             return dataclasses.replace(it, errors=(*it.errors, exits.why_ended(another)))
         if made is None:
             return self.rest.before(it)
-        ran = len(self.driver.ran) if self.driver else 0
+        ran = len(self.driver.executor.own.ran) if self.driver else 0
         return self.rest.before(dataclasses.replace(
             it, lines=(*failures(made), *self.held(), total(made, ran)), failed=failed_count(made),
             left=left_count(made), mails=mails_of(self.jobs, made)), made.night)
 
     def held(self) -> tuple[str, ...]:
         """Why the last commands that were due couldn't be started, if so."""
-        why = self.driver.holding.why if self.driver else ""
+        why = self.driver.executor.own.holding.why if self.driver else ""
         return (f"commands couldn't be started: {why}",) if why else ()
 
     def known(self) -> rows.Report | None:
         """The night after a fault: as the driver knows it, or as the store has it; else None."""
         driver = self.driver
-        if driver and driver.has_looked:
-            return remembered(self.files, self.jobs, driver.night, driver.known(),
-                              {name: it.output for name, it in driver.ran.items()})
+        if driver and driver.course.has_looked:
+            return remembered(self.files, self.jobs, driver.course.night, driver.decider.known(),
+                              {name: it.output for name, it in driver.executor.own.ran.items()})
         try:
             return report(self.files, self.jobs, look(self.files, self.planner)) \
                 if self.files.exists() else None
@@ -571,7 +571,8 @@ class Run:
                          bool(state.scopes[1:] or self.past.round))
         driver = self.begin_driver(tries, left)
         self.rest.is_due = self.words.nightly and is_left(state, self.past)
-        driver.next_night = max(state.night(), self.past.night) + 1 if self.rest.is_due else 0
+        last = max(state.night(), self.past.night)
+        driver.course.next_night = last + 1 if self.rest.is_due else 0
         if not self.prepare(driver, state):
             return self.idle()
         write_plan(tries, self.jobs, self.words.most)
@@ -580,7 +581,7 @@ class Run:
         if not self.rest.is_due or not self.is_over(driver):
             return self.finish(driver)
         self.rest.done(self.finish(driver))
-        self.past = driver.past
+        self.past = driver.course.past
         driver = self.begin_driver(tries, left_commands(self.files, tries, self.jobs))
         self.prepare(driver, inspected(self.files))
         driver.run()
@@ -593,7 +594,8 @@ class Run:
 
     def is_over(self, driver: Driver) -> bool:
         """Whether the rest of the last night is done, so that tonight's may begin."""
-        return not self.signals.steps and all(it.is_final for it in driver.known().values())
+        return not self.signals.steps and all(
+            it.is_final for it in driver.decider.known().values())
 
     def first_look(self) -> State:
         """The state of the store. One whose sync failed is mended by an opening first."""
@@ -606,20 +608,21 @@ class Run:
 
     def prepare(self, driver: Driver, state: State) -> bool:
         """Decides which night it is and what runs again; whether there is something to do."""
+        course, left = driver.course, driver.executor.left
         night = max(state.night(), self.past.night)
         book = book_of(state, self.past, night)
         know_day(self.files, book, self.jobs)
         facts = facts_of(state, self.past, self.log.lines, book, time.time(), {})
-        facts.busy = {it.name for it in driver.left.there()}
+        facts.busy = {it.name for it in left.there()}
         found = self.planner.standings(facts)
-        driver.night = night
+        course.night = night
         was_over = all(it.is_final for it in found.values())
         has_mark = bool(book.top and role_name(book.top.name, Role.ENDED) in state.by_name)
         has_one = bool(state.scopes[1:] or self.past.round)
-        driver.begins_night = has_one and (
+        course.begins_night = has_one and (
             self.words.again or self.words.nightly and not self.rest.is_due)
         wanted = self.take_wants(Night(self.jobs, book, facts, found, has_mark,
-                                       self.planner.standings), driver.begins_night)
+                                       self.planner.standings), course.begins_night)
         self.past.notes = wanted.notes
         book = dataclasses.replace(book_of(state, self.past, night), day=book.day)
         facts = facts_of(state, self.past, self.log.lines, book, time.time(), {})
@@ -628,22 +631,22 @@ class Run:
         if self.rest.is_due and not is_over:
             note(f"night {night} wasn't finished: the rest of it comes first")
         if self.words.failed:
-            driver.forgiven = forgiven(found, facts)
-            driver.reopened = groups_to_reopen(driver.forgiven, facts, self.jobs)
-        ours = set() if driver.begins_night else groups_of(state, self.past, night)
-        driver.left.settle(state, self.past, ours, self.past.notes.of(night).redo)
+            course.forgiven = forgiven(found, facts)
+            course.reopened = groups_to_reopen(course.forgiven, facts, self.jobs)
+        ours = set() if course.begins_night else groups_of(state, self.past, night)
+        left.settle(state, self.past, ours, self.past.notes.of(night).redo)
         tell_missing(self.files, self.jobs, facts.interrupted)
         # (what is wanted may leave nothing to do, which is to be recorded, too)
-        has_work = not (was_over and is_over) or driver.begins_night or self.rest.is_due or bool(
-            driver.forgiven or driver.left) or not has_mark and has_unwritten_end(self.jobs, book, facts)
+        has_work = not (was_over and is_over) or course.begins_night or self.rest.is_due or bool(
+            course.forgiven or left) or not has_mark and has_unwritten_end(self.jobs, book, facts)
         has_work = has_work or not has_one  # (of the first night nothing may be due)
-        if self.jobs.has_days and (driver.begins_night or not book.top) and not clock.is_set():
+        if self.jobs.has_days and (course.begins_night or not book.top) and not clock.is_set():
             raise Fault(f"this machine's clock shows {clock.shown()}, and so isn't set: nobody"
                         " knows which commands are due tonight; set it, and run this again")
         if has_work:
             wanted.keep(night)
-            wanted.tell(night + driver.begins_night)
-            driver.before = self.renewed(driver, state)
+            wanted.tell(night + course.begins_night)
+            driver.sessions.before = self.renewed(driver, state)
         else:
             wanted.leave()
         return has_work
@@ -672,13 +675,14 @@ class Run:
             note(f"this machine's clock shows {clock.shown()}, and so isn't set: the deadlines of"
                  " this night wait until it is")
         elif ahead > MOST_AHEAD:
-            driver.past = replace_store(self.files, self.log, self.past, state, ahead,
-                                        driver.catch_up, self.signals)
+            driver.course.past = replace_store(self.files, self.log, self.past, state, ahead,
+                                               driver.executor.catch_up, self.signals)
             self.files.lock.sign()
             return None
         if state.is_nearly_full():
-            driver.past, _ = renew(self.files, self.log, self.past, self.planner, self.signals.wake,
-                                   driver.meanwhile, driver.catch_up)
+            driver.course.past, _ = renew(
+                self.files, self.log, self.past, self.planner, self.signals.wake,
+                driver.meanwhile, driver.executor.catch_up)
             return None
         return None if self.files.is_marked() else state
 
@@ -690,8 +694,9 @@ class Run:
 
     def finish(self, driver: Driver) -> Outcome:
         """How the night stands after its run."""
-        made, view = self.view(driver.past)
-        return self.ended(made, view, total(made, len(driver.ran)), has_run=True)
+        made, view = self.view(driver.course.past)
+        ran = len(driver.executor.own.ran)
+        return self.ended(made, view, total(made, ran), has_run=True)
 
     def view(self, past: Past) -> tuple[rows.Report, View]:
         view = look(self.files, self.planner, past)
