@@ -1,13 +1,12 @@
 """What may begin, what has to stop, and how each command stands. `night plan` decides that: it
 gets the plan that a file of commands makes, and then what has changed since it was asked last.
 
-A group's limit is a pool, and so are the places of all commands together, which are pool 0. What
-runs and isn't in the file takes its place as well, so a pool has then that much less.
+Moments are written by `plan_moments`, and limits as pools by `plan_pools`. What runs and isn't in
+the file takes its place as well, so a pool has then that much less.
 """
 
 from __future__ import annotations
 
-import time
 from collections.abc import Callable, Collection, Iterable
 from dataclasses import dataclass
 
@@ -18,11 +17,9 @@ from .ends import End
 from .facts import Facts
 from .jobs import Job, Jobs
 from .night import MOST_KILLED, SECONDS, NightEnded
+from .plan_moments import LONGEST, TICKS, PlanMoments
+from .plan_pools import PlanPools
 from .standing import Shown, Standing
-
-# Moments and waits are written in milliseconds: no wait is longer than `night plan` can say. The
-# first moment is as long after 0 as the longest wait, since a number has 12 digits at most.
-TICKS, LONGEST = 1000, (1 << 32) - 1
 
 
 @dataclass(frozen=True)
@@ -43,13 +40,9 @@ class Planner:
         self.jobs, self.names = jobs, list(jobs.all)
         self.numbers = {name: at for at, name in enumerate(self.names)}
         self.groups = {group: at for at, group in enumerate(jobs.members)}
-        self.pools: dict[str, int] = {}  # of groups with a limit
-        self.named: dict[str, int] = {}
+        self.pools, self.moments = PlanPools(jobs), PlanMoments()
         self.asking: Asking | None = None
         self.meanwhile: Callable[[], float] = lambda: SECONDS
-        self.offset: int | None = None  # from the machine's clock to the moments that are written
-        self.moment = self.latest = LONGEST  # the last one that was written, and that of now
-        self.failed_at: dict[Name, tuple[float, int]] = {}  # of the last failures, as written
         self.forget()
 
     def close(self) -> None:
@@ -63,7 +56,7 @@ class Planner:
         self.asking = None
         self.facts: Facts | None = None
         self.written: list[str] = [""] * len(self.names)
-        self.sizes: dict[int, int] = {}
+        self.pools.sizes = {}
         self.done: set[str] = set()
         self.running: set[Name] = set()  # those that were written as busy
         self.busy: set[Name] = set()
@@ -73,11 +66,9 @@ class Planner:
     def fit(self) -> None:
         """Gives a pool to each group that has a limit now. A group whose limit was set during the
         night may have had none before: another process gets the plan then."""
-        limited = [it for it in self.groups if self.jobs.limit(it) is not None]
-        if self.asking and limited != list(self.pools):
+        if self.asking and self.pools.limited() != list(self.pools.pools):
             self.close()
-        self.pools = {group: at for at, group in enumerate(limited, 1)}
-        self.named = {pool: at for at, pool in enumerate(self.jobs.pools, 1 + len(limited))}
+        self.pools.fit()
 
     # --- questions
 
@@ -125,15 +116,13 @@ class Planner:
         if not self.done <= facts.done.keys():
             self.close()
         self.fit()
-        if self.offset is None:
-            self.offset = LONGEST - int((time.time() if now is None else now) * TICKS)
         if self.asking is None:
             self.begin()
-        assert self.asking
-        self.latest = self.moment + LONGEST if now is None else self.moment_at(now)
+        if self.moments.look(now):
+            self.choice = None
         lines = self.news(facts, held)
         if most is not None:
-            lines += self.room(facts, most)
+            lines += self.pools.room(facts, self.running, most)
         if now is not None:
             lines += self.clock(now, bool(lines))
         if most is None:
@@ -161,7 +150,7 @@ class Planner:
         for number in it.begins:
             if self.names[number] in taken:
                 raise wrong(f"begin {number}")
-        if it.later is not None and it.later <= self.moment and "standings" not in lines:
+        if it.later is not None and it.later <= self.moments.moment and "standings" not in lines:
             raise wrong(f"later {it.later}")
         return it
 
@@ -210,7 +199,7 @@ class Planner:
         if name in held and not has_failed and (job.cleans_up or job.group not in facts.done):
             return f"busy {at}"
         count = facts.failures.get(name, 0)
-        moment = self.moment_of(name, facts.failed_at[name])
+        moment = self.moments.moment_of(name, facts.failed_at[name])
         if end.is_canceled or has_failed:
             count = job.retries + 1 if end.is_canceled else max(count, job.retries + 1)
         return f"failed {at} {moment} {count}"
@@ -221,61 +210,17 @@ class Planner:
         return end.is_canceled or not end.is_ok and (
             facts.failures.get(job.name, 0) > job.retries or bool(facts.left_out(job.name)))
 
-    def room(self, facts: Facts, most: int) -> list[str]:
-        """The lines for pools that have another size. What has its place though it isn't written
-        as busy makes a pool smaller, and what has none any more makes it larger."""
-        sizes = {0: most, **{pool: self.jobs.limit(group) or 0
-                             for group, pool in self.pools.items()},
-                 **{pool: self.jobs.pools[name] for name, pool in self.named.items()}}
-        for name in facts.busy ^ self.running:
-            for pool, amount in self.takes(name):
-                sizes[pool] += amount if name in self.running else -amount
-        lines = [f"size {pool} {max(0, size)}" for pool, size in sizes.items()
-                 if self.sizes.get(pool) != size]
-        self.sizes = sizes
-        return lines
-
-    def takes(self, name: Name) -> list[tuple[int, int]]:
-        """How much a command has of each pool; one that isn't in the file has its places alone."""
-        found = [(0, 1)]
-        if name[0] in self.pools:
-            found.append((self.pools[name[0]], 1))
-        job = self.jobs.all.get(name)
-        return found + [(self.named[pool], amount) for pool, amount in (job.uses if job else ())]
-
-    def moment_at(self, now: float) -> int:
-        """How a moment of the machine's clock is written, and from now on each later one. If the
-        clock is set back, the moment stands still until the clock has caught up. If it is set
-        ahead, as from 1970, the moment goes on by the longest wait at most, since it has 12
-        digits."""
-        found = int(now * TICKS) + (self.offset or 0)
-        moment = min(max(found, self.moment), self.moment + LONGEST)
-        if moment != found:
-            self.offset = (self.offset or 0) + moment - found
-            self.choice = None
-        return moment
-
     def clock(self, now: float, has_news: bool) -> list[str]:
         """The line for the moment, if something else is written or a retry is due."""
         later = self.choice.later if self.choice else None
         if not has_news and self.choice is not None and (later is None or now < later):
             return []
-        self.moment = self.latest
-        return [f"now {self.moment}"]
-
-    def moment_of(self, name: Name, when: float) -> int:
-        """How the moment of a failure is written: always as it was written first, even if the
-        machine's clock was set since then. A failure to come, by a clock that was set back, comes
-        in a moment: it isn't waited for."""
-        if name not in self.failed_at or self.failed_at[name][0] != when:
-            found = int(when * TICKS) + (self.offset or 0)
-            self.failed_at[name] = when, min(max(0, found), self.latest + 1)
-        return self.failed_at[name][1]
+        return [f"now {self.moments.write()}"]
 
     # --- what it answers
 
     def chosen(self, answer: Answer) -> Choice:
-        later = None if answer.later is None else (answer.later - (self.offset or 0)) / TICKS
+        later = None if answer.later is None else self.moments.read(answer.later)
         return Choice(tuple(self.names[it] for it in answer.begins),
                       tuple(self.names[it] for it in answer.stops), later)
 
@@ -293,9 +238,7 @@ def way_of(jobs: Jobs, group: str) -> str:
 
 def plan_lines(planner: Planner) -> list[str]:
     """The plan of a file of commands."""
-    jobs, pools = planner.jobs, planner.pools
-    lines = ["pool 1", *(f"pool {jobs.limit(it)}" for it in pools)]
-    lines += [f"pool {size}" for size in jobs.pools.values()]
+    jobs, lines = planner.jobs, planner.pools.lines()
     lines += [f"group {jobs.priority(it)} {way_of(jobs, it)}" for it in planner.groups]
     for job in jobs.all.values():
         wait, most = (min(it * TICKS, LONGEST) for it in (
@@ -305,5 +248,5 @@ def plan_lines(planner: Planner) -> list[str]:
         for it in job.after:
             lines.append(f"need {it.when} group {planner.groups[it.of]}" if isinstance(it.of, str)
                          else f"need {it.when} command {planner.numbers[it.of]}")
-        lines += [f"take {pool} {amount}" for pool, amount in planner.takes(job.name)]
+        lines += [f"take {pool} {amount}" for pool, amount in planner.pools.takes(job.name)]
     return lines
