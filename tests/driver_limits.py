@@ -299,15 +299,15 @@ def small_limits(tries: Shared) -> None:
 
 def without_python(tries: Shared) -> None:
     """A shell that can't become Python has kept how its command ended."""
-    used, commands = driver_module(tries, "used"), driver_module(tries, "commands")
-    tries.is_same("a shell that can't ask: the text is given", "", commands.ASKING, used.ASKING)
+    used, begin = driver_module(tries, "used"), driver_module(tries, "beginnings")
+    tries.is_same("a shell that can't ask: the text is given", "", begin.ASKING, used.ASKING)
     kind = "a shell that can't ask"
     room = Room(tries, ["g a sleep 1.2", "g b sleep 1.2; exit 5", "g c sleep 1.2; kill -9 $$"])
     room.program("driver", f"""#!{PYTHON}
 import sys
 sys.path.insert(0, "{os.path.dirname(os.path.realpath(tries.driver))}")
-from night_run import commands, words
-commands.PYTHON = "/nowhere/python"
+from night_run import beginnings, words
+beginnings.PYTHON = "/nowhere/python"
 sys.exit(words.main())
 """)
     status, output = room.run("s", "JOBS", driver=f"{room.path}/driver")

@@ -13,7 +13,7 @@ from collections.abc import Mapping
 
 from . import descriptors
 from .beside import Umask, write_all
-from .commands import SHELL
+from .beginnings import SHELL
 from .escapes import plain_lines
 from .processes import signal_session
 from .signals import Signals

@@ -19,7 +19,7 @@ from collections.abc import Container, Iterator, Mapping
 
 from . import Fault, Name
 from .beside import Part
-from .commands import Command, Running
+from .commands import Command
 from .ends import End, failed
 from .far import Elsewhere, Far, is_recorded, outstanding
 from .files import Files, leave_mark
@@ -32,6 +32,7 @@ from .past import Past
 from .processes import (NO_COMMAND, PID, START, Process, Tried, age, boot, session_exists, is_held,
                         kill_ours, lives, ours_in, signal_session, signal_ours, stat_of)
 from .rounds import base_of, round_of
+from .running import Running
 from .settings import OF_ALL
 from .state import State
 from .telling import note, note_once

@@ -9,7 +9,8 @@ import os
 from collections.abc import Iterator
 
 from . import Name
-from .commands import Command, NotNow
+from .beginnings import Beginning, NotNow
+from .commands import Command
 from .ends import INTERRUPTED, End
 from .far import Far
 from .files import Files
@@ -81,7 +82,7 @@ class OwnCommands:
         if command is None or command.number < 0 or command.has_begun:
             return False
         try:
-            command.begin(self.tries, events, self.far, self.inherited)
+            Beginning(command, self.tries, self.far).begin(events, self.inherited)
             self.holding.has_begun()
         except NotNow as why:
             self.holding.hold(str(why))

@@ -4,10 +4,11 @@ the driver to stop. Each is asked once, and killed after a grace.
 
 from __future__ import annotations
 
-from .commands import Command, Running, too_much
+from .commands import Command, too_much
 from .ends import End, canceled, failed
 from .leftovers import Leftover
 from .orders import Stop
+from .running import Running
 from .tries import Tries
 
 
