@@ -2,6 +2,7 @@
 
 from __future__ import annotations
 
+import ast
 import errno
 import fcntl
 import os
@@ -527,7 +528,7 @@ def numbers_of_others(tries: Shared) -> None:
 def nights_of_others(tries: Shared) -> None:
     """The `night` of a driver that lives is in use; of one that has let the store go it is waited
     for."""
-    leftovers, files = driver_module(tries, "leftovers"), driver_module(tries, "files")
+    last, files = driver_module(tries, "last_night"), driver_module(tries, "files")
     make, processes = driver_module(tries, "tries").Tries, driver_module(tries, "processes")
     fault = driver_module(tries, "beside").Fault
     with tempfile.TemporaryDirectory(dir=tries.folder) as folder, \
@@ -536,14 +537,14 @@ def nights_of_others(tries: Shared) -> None:
         it = make(its)
         it.sign_night(processes.process_of(night.pid))
         try:
-            leftovers.end_night(its, make(its))
+            last.end_night(its, make(its))
             found = "waited for"
         except fault as error:
             found = str(error).partition(",")[0]
         tries.is_same("a night of another driver", "the driver lives", found,
                       f"{folder}/s: in use by another night-run")
         it.sign_off()
-        leftovers.end_night(its, make(its))
+        last.end_night(its, make(its))
         tries.holds("a night of another driver", "it has let the store go",
                     night.poll() is not None or processes.stat_of(night.pid).is_dead)
 
@@ -604,7 +605,7 @@ class Lines:
 
 def recorded_lines(tries: Shared) -> None:
     """The line of the log for a task that has ended."""
-    recording = driver_module(tries, "recording")
+    recording, recorded = driver_module(tries, "recording"), driver_module(tries, "orders").Recorded
     read_end, used = driver_module(tries, "ends").read_end, driver_module(tries, "used").Used()
     for what, own, end, began, wanted, seconds in LINES:
         jobs: Any = jobs_of(tries, "g a echo x")
@@ -613,8 +614,7 @@ def recorded_lines(tries: Shared) -> None:
             number=own[0], began=own[1], took=own[2], text="echo x", group="g", tried=0,
             job=jobs.all["g", "a"], used=used, is_never=False) if own else None
         recorder = recording.Recorder(jobs, log, left)
-        line = recorder.line(types.SimpleNamespace(name=("g", "a"), number=7), read_end(end),
-                             ("g", "a", 0), it)
+        line = recorder.line(recorded(("g", "a"), 7, ("g", "a", 0), read_end(end)), it)
         tries.is_same("a line of the log", what, (
             line.began_at(), line.seconds, line.end.text, line.command),
             (wanted, seconds, end, "echo x"))
@@ -728,7 +728,44 @@ def ends_in_words(tries: Shared) -> None:
         night.program = before
 
 
-SMALL = [recorded_lines, held_back, rests, nights_of_others, missed_members, handed_over,
+# The modules of a driver that decide, and those that execute (`orders`). The first know of the second
+# their `executor` alone, and the second don't know the first.
+DECIDES = {"answers", "asking", "batches", "capacity", "changes", "counted", "course", "decider",
+           "facts", "night", "obeying", "opening", "past", "plan_moments", "plan_pools", "planner",
+           "renewal", "restarts", "scoping", "sessions", "starts", "state", "taking", "timing"}
+EXECUTES = {"beginnings", "commands", "executor", "far", "leftovers", "means", "mounts", "outputs",
+            "own", "recording", "running", "stopping", "used"}
+
+
+def imported(path: str) -> set[str]:
+    """The modules beside it that a module imports."""
+    with open(path, encoding="utf-8") as file:
+        tree = ast.parse(file.read())
+    return {it.module.partition(".")[0] for it in ast.walk(tree)
+            if isinstance(it, ast.ImportFrom) and it.level == 1 and it.module}
+
+
+def parts_are_apart(tries: Shared) -> None:
+    """What decides a night and what executes it are apart, as their heads say."""
+    folder = f"{os.path.dirname(os.path.realpath(tries.driver))}/night_run"
+    its = {it[:-3]: imported(f"{folder}/{it}") for it in sorted(os.listdir(folder))
+           if it.endswith(".py")}
+    tries.is_same("what decides and what executes", "all are there",
+                  (DECIDES | EXECUTES) - its.keys(), set())
+    for name in sorted(DECIDES):
+        tries.is_same("what decides knows the executor alone", name,
+                      its[name] & EXECUTES - {"executor"}, set())
+    found, left = set[str](), ["executor"]
+    while left:
+        name = left.pop()
+        if name not in found:
+            found.add(name)
+            left += its.get(name, set())
+    tries.is_same("what executes knows nothing that decides", "executor", found & DECIDES, set())
+    tries.is_same("what executes is all of it", "executor", EXECUTES - found, set())
+
+
+SMALL = [parts_are_apart, recorded_lines, held_back, rests, nights_of_others, missed_members, handed_over,
          ends_in_words, numbers_of_others, waiting, retries_are_due, places_are_kept, clocks,
          restarts, in_sight, stopped, outputs]
 # Those that set a signal's handler or the environment, which the main thread alone may.

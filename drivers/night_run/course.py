@@ -5,6 +5,9 @@ it.
 
 from __future__ import annotations
 
+from collections.abc import Mapping
+
+from . import Name
 from .capacity import Capacity
 from .facts import Book, Facts
 from .files import Files
@@ -12,7 +15,7 @@ from .jobs import Jobs
 from .past import Past
 from .planner import Planner
 from .rounds import Round
-from . import Name
+from .tonight import Again
 
 
 class Course:
@@ -26,6 +29,7 @@ class Course:
         self.next_night = 0  # that this run begins after this one, if it does
         self.forgiven: dict[Name, int] = {}  # of each command failures that don't count
         self.reopened: set[str] = set()  # done groups that get another scope
+        self.again: Mapping[Name, Again] = {}  # what is to run again, whatever came of it
         self.facts = Facts()
         self.book = Book(1, Round())
         self.capacity = Capacity()

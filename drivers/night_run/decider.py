@@ -14,7 +14,6 @@ from .batches import Batch
 from .course import Course
 from .ends import End
 from .executor import Executor
-from .leftovers import Leftover
 from .night import NotStarted
 from .orders import Ended, Stop
 from .restarts import Restarts
@@ -93,17 +92,12 @@ class Decider:
                 facts.busy.discard(it.name)
             is_open = it.name not in own and it.name not in facts.ends
             if it.counts and it.job and it.is_known() and is_open:
-                self.adopt(it, batch)
+                self.executor.adopt(it, it.job)
+                facts.busy.add(it.name)
+                self.starts.add(batch, it.name)
+                self.course.is_woken = True
             else:
                 left.forget(it)
-
-    def adopt(self, it: Leftover, batch: Batch) -> None:
-        """Takes the end of a try that an earlier driver began."""
-        assert it.job
-        self.executor.adopt(it, it.job)
-        self.course.facts.busy.add(it.name)
-        self.starts.add(batch, it.name)
-        self.course.is_woken = True
 
     # --- what begins
 

@@ -6,7 +6,7 @@ given what begins, and asks for each command whether it has to stop.
 from __future__ import annotations
 
 import time
-from collections.abc import Callable
+from collections.abc import Callable, Iterable
 
 from . import Name
 from .ends import End
@@ -14,10 +14,10 @@ from .files import Files
 from .jobs import Job, Jobs
 from .leftovers import Leftover, Leftovers
 from .log import Log
-from .orders import Stop
+from .orders import Recorded, Stop
 from .own import OwnCommands
+from .processes import process_of
 from .recording import Recorder
-from .state import State
 from .stopping import Stopper
 from .tries import Tries
 
@@ -100,8 +100,12 @@ class Executor:
         command = self.own.its[job.name] = it.adopted(self.tries, job, output)
         command.began = it.began(self.log) or command.began
 
-    # --- the log
+    # --- what is written beside the store
 
-    def catch_up(self, state: State, night: int) -> None:
-        """Adds the lines to the log that it lacks of a night."""
-        self.recorder.catch_up(state, night, self.own.its)
+    def sign_night(self, pid: int) -> None:
+        """Writes which process has the store now, for a later driver."""
+        self.tries.sign_night(process_of(pid))
+
+    def catch_up(self, its: Iterable[Recorded]) -> None:
+        """Adds the lines of these to the log that it lacks."""
+        self.recorder.catch_up(its, self.own.its)

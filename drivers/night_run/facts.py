@@ -12,6 +12,7 @@ from dataclasses import dataclass, field, replace
 from . import Name
 from .ends import End, Kind, canceled
 from .log import Line, Tried
+from .orders import Recorded
 from .past import Past
 from .rounds import Round, base_of, named, round_of
 from .settings import OF_ALL
@@ -209,6 +210,12 @@ def ended_in(state: State, night: int) -> Iterator[tuple[Task, Tried]]:
     ours = state.groups_of(night)
     return ((task, tried) for task, tried in numbered(state)
             if task.end and task.group in ours and not task.is_withdrawn)
+
+
+def recorded_in(state: State, night: int) -> Iterator[Recorded]:
+    """The same as the log needs them."""
+    return (Recorded(task.name, task.number, tried, task.end)
+            for task, tried in ended_in(state, night) if task.end)
 
 
 def logged_groups(state: State, past: Past) -> set[str]:

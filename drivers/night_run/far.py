@@ -37,10 +37,8 @@ from . import Fault, Name
 from .beside import Part, Umask, write_all
 from .ends import OK, End, failed
 from .files import Files
-from .past import Past
-from .rounds import base_of, round_of
+from .orders import Counting
 from .settings import Way
-from .state import ENDED, State
 from .telling import note_once
 from .tries import Named, naming
 
@@ -227,28 +225,12 @@ class Elsewhere:
                 self.far.note(self.it, OVER)
 
 
-def outstanding(far: Far, state: State, past: Past) -> dict[Name, tuple[Named, bool]]:
+def outstanding(far: Far, counting: Counting) -> dict[Name, tuple[Named, bool]]:
     """The tries that may still run elsewhere, each with whether its end counts. These are the tries
     that have begun and whose end isn't recorded, and the stopped ones that aren't known to be
     over."""
     found = {}
     for name, (it, how) in far.read().items():
-        if how == STOPPED or how == BEGUN and not is_recorded(it, state, past):
+        if how == STOPPED or how == BEGUN and not counting.is_recorded(it):
             found[name] = it, how == BEGUN
     return found
-
-
-def is_recorded(it: Named, state: State, past: Past) -> bool:
-    """Whether the end of a try is recorded: its own, under whatever number, or that of a later try.
-    (A command that outlived its `night` has the number of a later task.)"""
-    least, counts = round_of(it.group), -1
-    for task in state.tasks:
-        if task.name == it.name and round_of(task.group) >= least:
-            counts += task.group == it.group
-            is_later = task.group != it.group or counts >= it.number
-            if is_later and task.phase in ENDED and not task.is_withdrawn:
-                return True
-    # (of a group that it still has the store says all)
-    there = {group.name for group in state.groups}
-    return any((base_of(group), key) == it.name and round_of(group) >= least
-               and group not in there for group, key, _ in past.ends)

@@ -33,7 +33,7 @@ from .lines import Mistakes
 from .ordering import Node, in_order
 from .parsing import Parsed
 from .reading import At, short
-from .settings import OF_ALL, Retries, Settings, Timeout, Way
+from .settings import OF_ALL, Retries, Settings, Way
 from .telling import note
 from .users import User
 

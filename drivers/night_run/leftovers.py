@@ -15,33 +15,30 @@ import os
 import re
 import signal
 import time
-from collections.abc import Container, Iterator, Mapping
+from collections.abc import Iterator, Mapping
 
 from . import Fault, Name
 from .beside import Part
 from .commands import Command
 from .ends import End, failed
-from .far import Elsewhere, Far, is_recorded, outstanding
-from .files import Files, leave_mark
+from .far import Elsewhere, Far, outstanding
+from .files import Files
 from .jobs import Job, Jobs
 from .lock import try_lock
 from .log import Log
 from .log import Tried as Of
-from .night import WHOLE_SECONDS, of_session
-from .past import Past
-from .processes import (NO_COMMAND, PID, START, Process, Tried, age, boot, session_exists, is_held,
-                        kill_ours, lives, ours_in, signal_session, signal_ours, stat_of)
-from .rounds import base_of, round_of
+from .orders import Counting
+from .processes import (NO_COMMAND, PID, START, Process, Tried, age, boot, lives, ours_in,
+                        session_exists, signal_ours, signal_session, stat_of)
+from .rounds import base_of
 from .running import Running
 from .settings import OF_ALL
-from .state import State
 from .telling import note, note_once
-from .tonight import Again
 from .tries import Contents, Named, Tries, contents_of
 
 LINE = re.compile(rf"([a-z0-9_-]{{1,32}}) ([a-z0-9_-]{{1,32}}) ([0-9]{{1,6}}) (\S+) {PID} {START}")
 OLD_LINE = re.compile(rf"{PID} ([a-z0-9_-]{{1,32}}) ([a-z0-9_-]{{1,32}})")
-# How many seconds a shell may take to write its line, and a `night` to end after its driver has.
+# How many seconds a shell may take to write its line.
 PATIENCE = 10.0
 
 
@@ -167,7 +164,6 @@ class Leftovers:
 
     def __init__(self, files: Files, jobs: Jobs, tries: Tries, its: list[Leftover]) -> None:
         self.files, self.jobs, self.tries, self.its = files, jobs, tries, its
-        self.again: Mapping[Name, Again] = {}  # what is to run again, whatever came of it
 
     def __iter__(self) -> Iterator[Leftover]:
         return iter(list(self.its))
@@ -193,19 +189,15 @@ class Leftovers:
     def there(self) -> list[Leftover]:
         return [it for it in self.its if it.is_there()]
 
-    def settle(self, state: State, past: Past, ours: Container[str],
-               again: Mapping[Name, Again]) -> None:
-        """Drops those that are over and whose ends are recorded, or count for nothing. The end of
-        one counts where its group is one of these, of this night, its store is this one, and its
-        command isn't to run again since then."""
-        its, self.its, self.again = self.its, [], again
+    def settle(self, counting: Counting) -> None:
+        """Drops those that are over and whose ends are recorded, or count for nothing."""
+        its, self.its = self.its, []
         for it in its:
             since = it.contents.since
-            it.counts = it.record is not None and it.it.group in ours and since is not None \
-                and (since <= state.count or past.is_of_a_replaced_store) \
-                and not self.is_to_run_again(it.it)
+            it.counts = it.record is not None and since is not None \
+                and counting.is_of_store(since) and counting.is_of_tonight(it.it)
             is_over = not it.is_here
-            if it.record and (not it.counts or is_recorded(it.it, state, past)):
+            if it.record and (not it.counts or counting.is_recorded(it.it)):
                 if is_over:
                     self.tries.forget(it.record)
                     continue
@@ -215,16 +207,10 @@ class Leftovers:
             if not is_over or it.job is not None:
                 self.its.append(it)
 
-    def is_to_run_again(self, it: Named) -> bool:
-        """Whether the command of a try is to run again since then, so that its end says nothing."""
-        return it.name in self.again and round_of(it.group) < self.again[it.name].since
-
-    def take_up(self, far: Far, state: State, past: Past, ours: Container[str],
-                inherited: Mapping[str, str]) -> None:
+    def take_up(self, far: Far, counting: Counting, inherited: Mapping[str, str]) -> None:
         """Takes up what earlier drivers began elsewhere: it is asked for before another try of it
-        begins, and how it ended is taken for its end, if its group is one of these, of this
-        night."""
-        its: dict[Name, tuple[Named, bool]] = outstanding(far, state, past)
+        begins, and how it ended is taken for its end, if that counts in this night."""
+        its: dict[Name, tuple[Named, bool]] = outstanding(far, counting)
         for name, (it, counts) in its.items():
             job = self.jobs.all.get(name)
             if job is None or not job.way.ask:
@@ -233,7 +219,7 @@ class Leftovers:
             left = next((one for one in self.its if one.it == it), None)
             if left is None:
                 left = Leftover(it, self.files.path, job)
-                left.counts = counts and it.group in ours and not self.is_to_run_again(it)
+                left.counts = counts and counting.is_of_tonight(it)
                 self.its.append(left)
                 note(f"{' '.join(name)} may still run elsewhere: {it}")
             given = Command(job, it.group, it.number, -1, "").environment(
@@ -345,25 +331,3 @@ def processes_with(path: str) -> Iterator[int]:
             files = [os.readlink(f"/proc/{it}/fd/{at}") for at in os.listdir(f"/proc/{it}/fd")]
             if path in files and int(it) != os.getpid():
                 yield int(it)
-
-
-def end_night(files: Files, tries: Tries) -> None:
-    """Waits for the `night` of a killed driver, which ends with its input; one that doesn't, as
-    where it is stopped, is killed; one that the disk holds in a sync only after longer."""
-    it, driver = tries.last_night()
-    began = time.monotonic()
-    while it and lives(it):
-        if driver and lives(driver):
-            raise Fault(f"{files.shown}: in use by another night-run, process {driver.pid}, whose"
-                        f" {files.shown_of(Part.LOCK)} somebody has removed")
-        held, waited = is_held(it.pid), time.monotonic() - began
-        if waited >= PATIENCE and held:
-            note_once(f"waiting for the disk: the `night` of the last run, process {it.pid}, is in"
-                      f" a sync of {files.shown}")
-        if waited >= (WHOLE_SECONDS if held else PATIENCE):
-            leave_mark(files.path)
-            is_killed = kill_ours(it, of_session(files.path))
-            note(f"the `night` of the last run didn't end: process {it.pid} " + (
-                "is killed" if is_killed else "may be another program, and is left running"))
-            return
-        time.sleep(0.01)

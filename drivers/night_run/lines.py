@@ -26,7 +26,7 @@ from dataclasses import dataclass, replace
 from . import Fault, Mistake, descriptors
 from .beside import is_passed_on, open_commands, open_trusted, read_all, way_to
 from .mounts import NoAnswer, answered
-from .reading import At, Wrong, short, split
+from .reading import At, Wrong, split
 
 RETURN = "a carriage return stands within it; write a line feed where the line is to end"
 BACKSLASH = ("it ends with a backslash, which doesn't join it to the next line; put a longer"

@@ -26,9 +26,9 @@ and gives it orders (`orders`). At every moment, and after any kill, these rules
     the file is ok.
 11. While the store isn't in its place, no more commands are begun, and nothing new is made there.
 
-1, 2, 3 and 11 are kept by `Driver.round` and `Decider.add_begins`, 4 and 6 by `leftovers`, `far` and
-`Decider.look_for_leftovers`, 5 by `Command.end` and `facts`, 7 by `Command.poll`, 8 by `cancels`,
-`log` and `past`, 9 by `views`, 10 by `summary` and `Decider.known`.
+1, 2, 3 and 11 are kept by `Driver.round` and `Decider.add_begins`, 4 and 6 by `leftovers`, `far`
+and `Decider.look_for_leftovers`, 5 by `Command.end` and `facts`, 7 by `Command.poll`, 8 by
+`cancels`, `log` and `past`, 9 by `views`, 10 by `summary` and `Decider.known`.
 """
 
 from __future__ import annotations

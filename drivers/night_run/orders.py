@@ -14,15 +14,17 @@ of the first part:
     stop        a `Stop`, for which `Executor.press` asks of each command
     durable     `OwnCommands.durable`
     ended, gone `OwnCommands.ended`, which yields an `Ended` for each try that is over
-    lives       `Executor.living`
+    lives       `Executor.living`; which of those of earlier drivers count says a `Counting`
 """
 
 from __future__ import annotations
 
 from dataclasses import dataclass
+from typing import Protocol
 
 from . import Name
 from .ends import End
+from .tries import Named
 
 
 @dataclass(frozen=True)
@@ -53,3 +55,29 @@ class Stop:
     cause: str | None
     end: End | None
     cuts_off: bool
+
+
+@dataclass(frozen=True)
+class Recorded:
+    """A task that has ended in the store, as the log needs it."""
+
+    name: Name
+    task: int
+    tried: tuple[str, str, int]  # its group, key and number there
+    end: End
+
+
+class Counting(Protocol):
+    """Which tries of earlier drivers count in this night."""
+
+    def is_of_tonight(self, it: Named) -> bool:
+        """Whether the end of a try says something of its command in this night."""
+        ...
+
+    def is_of_store(self, events: int) -> bool:
+        """Whether a try is of this store, in which it began after this many events."""
+        ...
+
+    def is_recorded(self, it: Named) -> bool:
+        """Whether the end of a try is recorded already, or that of a later one."""
+        ...

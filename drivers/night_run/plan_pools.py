@@ -1,5 +1,5 @@
-"""The pools of a plan, as `night plan` numbers them: pool 0 has the places of all commands together,
-and then come the groups with a limit, and the pools that the file of commands names.
+"""The pools of a plan, as `night plan` numbers them: pool 0 has the places of all commands
+together, and then come the groups with a limit, and the pools that the file of commands names.
 """
 
 from __future__ import annotations

@@ -17,7 +17,6 @@ from .jobs import Jobs
 from .past import Past
 from .planner import Planner
 from .rounds import Role, role_name
-from .rows import NOT_DUE
 from .standing import CANCELLED, FAILED, RUNNING, Standing
 from .state import State
 from .status_waits import Run, Waits

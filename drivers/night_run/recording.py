@@ -2,16 +2,15 @@
 
 from __future__ import annotations
 
-from collections.abc import Iterator, Mapping
+from collections.abc import Iterable, Iterator, Mapping
 
 from . import Name
 from .commands import Command
 from .ends import INTERRUPTED, End
-from .facts import ended_in
 from .jobs import Jobs
 from .leftovers import Leftovers
 from .log import Line, Log, Tried, line_of
-from .state import State, Task
+from .orders import Recorded
 
 
 class Recorder:
@@ -20,24 +19,24 @@ class Recorder:
     def __init__(self, jobs: Jobs, log: Log, left: Leftovers) -> None:
         self.jobs, self.log, self.left = jobs, log, left
 
-    def catch_up(self, state: State, night: int, commands: Mapping[Name, Command]) -> None:
-        """Adds what the log lacks of a night; the times are those of these commands, which are at
+    def catch_up(self, its: Iterable[Recorded], commands: Mapping[Name, Command]) -> None:
+        """Adds what the log lacks of these; the times are those of these commands, which are at
         hand."""
-        self.log.add(self.lines(state, night, commands))
+        self.log.add(self.lines(its, commands))
 
-    def lines(self, state: State, night: int, commands: Mapping[Name, Command]) -> Iterator[
+    def lines(self, its: Iterable[Recorded], commands: Mapping[Name, Command]) -> Iterator[
             tuple[Tried, Line]]:
-        for task, tried in ended_in(state, night):
-            if task.end and tried not in self.log.lines:
-                yield tried, self.line(task, task.end, tried, commands.get(task.name))
+        for it in its:
+            if it.tried not in self.log.lines:
+                yield it.tried, self.line(it, commands.get(it.name))
 
-    def line(self, task: Task, end: End, tried: Tried, it: Command | None) -> Line:
+    def line(self, task: Recorded, it: Command | None) -> Line:
         """The line of a task, for which this command may be at hand. An interrupted one has its
         begin if the command lived on."""
-        job = self.jobs.all.get(task.name)
-        text, is_own = job.command if job else "-", it is not None and it.number == task.number
+        job, end = self.jobs.all.get(task.name), task.end
+        text, is_own = job.command if job else "-", it is not None and it.number == task.task
         if end is INTERRUPTED:
-            began = it.began or None if it and is_own else self.left.began(tried, self.log)
+            began = it.began or None if it and is_own else self.left.began(task.tried, self.log)
             return line_of(began, None, end, text)
         if it and is_own and it.took is not None:
             return line_of(it.began, it.took, end, it.text, it.used)

@@ -13,17 +13,18 @@ import contextlib
 import errno
 import os
 import time
-from collections.abc import Callable, Iterator, Mapping
+from collections.abc import Callable, Iterable, Iterator, Mapping
 
 from . import Fault, Name
 from .ends import End
-from .facts import Book, book_of, facts_of
 from .beside import Part
+from .facts import Book, book_of, facts_of, recorded_in
 from .files import SIZES, Files
 from .holding import SECONDS, Holding
 from .log import Log
 from .night import MOST_KILLED, RENEWAL_SECONDS, NightEnded, Session, ran
 from .opening import advance, give_back, inspected, now_of, opened
+from .orders import Recorded
 from .past import Past, write_past
 from .planner import Planner
 from .rounds import base_of, named
@@ -33,8 +34,8 @@ from .state import ENDED, State
 from .telling import error_text, note, tell
 
 
-# Adds the lines to the log that it lacks of a night, with the begins of what runs on.
-CatchUp = Callable[[State, int], None]
+# Adds the lines to the log that it lacks of these, with the begins of what runs on.
+CatchUp = Callable[[Iterable[Recorded]], None]
 
 
 def renew(files: Files, log: Log, past: Past, planner: Planner, wake: int,
@@ -81,7 +82,7 @@ def keep(files: Files, log: Log, past: Past, state: State, events: int,
     only the log knows from then on."""
     night = max(state.night(), past.night)
     book = book_of(state, past, night)
-    catch_up(state.reopened(), night)
+    catch_up(recorded_in(state.reopened(), night))
     log.sync()
     ends = ends_of(past if past.night == night else Past(), state, book)
     made = Past(events, night, max([past.round, *(it.number for it in book.rounds.values())]),

@@ -1,7 +1,7 @@
-"""The runs of `night script` of a driver, one after another, over one store: how each is opened, how
-it ends, and whether another one follows. As one is opened, what the store has of the night is read,
-scopes are made for what is left to do, and commands that run on get tasks again. A store that is
-full is renewed between two of them. It decides, and executes nothing (`orders`).
+"""The runs of `night script` of a driver, one after another, over one store: how each is opened,
+how it ends, and whether another one follows. As one is opened, what the store has of the night is
+read, scopes are made for what is left to do, and commands that run on get tasks again. A store that
+is full is renewed between two of them. It decides, and executes nothing (`orders`).
 """
 
 from __future__ import annotations
@@ -13,15 +13,15 @@ from collections.abc import Callable
 from . import Fault
 from .batches import Batch
 from .beside import Part
+from .counted import Counted
 from .course import Course
 from .decider import Decider
 from .executor import Executor
-from .facts import book_of, facts_of, groups_of
+from .facts import book_of, facts_of, groups_of, recorded_in
 from .keeping import Keeper
 from .night import FULL, NightEnded, Session
 from .nights import know_day
 from .opening import advance, ready_state, set_limits, withdraw, withdrawn
-from .processes import process_of
 from .renewal import renew
 from .restarts import Restarts
 from .rounds import Role, role_name
@@ -55,7 +55,7 @@ class Sessions:
         advance(session, int(time.time()))
         withdraw(session, state)
         state = withdrawn(state)
-        self.executor.catch_up(state, course.night)
+        self.executor.catch_up(recorded_in(state, course.night))
         self.take_in(session, state)
         if Scopes(course, self.executor, self.keeper, session, state).make():
             course.night, course.begins_night = course.book.night, False
@@ -73,7 +73,7 @@ class Sessions:
         before, self.before = self.before, None
         session = self.session = Session(self.files.path, self.signals.wake, self.meanwhile,
                                          lambda: self.decider.asked.steps)
-        self.executor.tries.sign_night(process_of(session.it.pid))
+        self.executor.sign_night(session.it.pid)
         state = ready_state(session, self.files, before)
         self.files.sight.keep()
         self.restarts.open()
@@ -95,8 +95,9 @@ class Sessions:
         if not course.has_looked:
             ours = set() if course.begins_night else groups_of(
                 state, course.past, course.book.night)
-            executor.left.take_up(executor.own.far, state, course.past, ours,
-                                  executor.own.inherited)
+            executor.left.take_up(
+                executor.own.far, Counted(state, course.past, ours, course.again),
+                executor.own.inherited)
         course.facts.busy = executor.living()
         course.reopened |= course.facts.reopened
         top = course.book.top

@@ -10,9 +10,8 @@ from __future__ import annotations
 import contextlib
 import os
 import time
-from collections.abc import Callable, Iterator
 
-from . import Mistake, Name
+from . import Mistake
 from .beside import write_all
 from .canceling import target_of
 from .escapes import plain

@@ -67,7 +67,8 @@ class Alone:
 
     def leave(self, wants: tuple[Want, ...]) -> str:
         """Leaves it for the next run."""
-        names = names_of_plan(self.files) if any(it.verb in (*NAMING, Verb.SET) for it in wants) else set()
+        is_named = any(it.verb in (*NAMING, Verb.SET) for it in wants)
+        names = names_of_plan(self.files) if is_named else set()
         for it in wants:
             self.check(it, names)
         if any(it.verb is Verb.ONLY for it in wants):

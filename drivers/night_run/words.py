@@ -23,12 +23,14 @@ from . import (Fault, Mistake, Name, cancels, clock, descriptors, early, exits, 
 from .beside import Part, Umask
 from .canceling import cancel
 from .changes import Night
+from .counted import Counted
 from .exits import Hooks, Outcome, hooks_of, outcome_of
 from .facts import Book, Facts, book_of, facts_of, groups_of, logged_groups, when_ended
 from .files import Files, become_owner
 from .jobs import Jobs
 from .keeping import Keeper
-from .leftovers import Leftovers, end_night, left_commands
+from .last_night import end_night
+from .leftovers import Leftovers, left_commands
 from .log import Log
 from .loop import Driver
 from .night import RENEWAL_SECONDS, NightEnded, program, ran
@@ -500,7 +502,8 @@ class Run:
             its = " ".join(f"--{it.text}" for it in self.words.wants)
             hint = f"; without the command file, that one is asked: night-run {self.files.shown}" \
                 f" {its}" if its else ""
-            raise Fault(f"{self.files.shown}: in use by another night-run{holder(self.files)}{hint}")
+            raise Fault(f"{self.files.shown}: in use by another night-run{holder(self.files)}"
+                        f"{hint}")
         self.is_alone = True
         if not self.files.exists():
             self.files.look_for_log()  # (it may have gone meanwhile)
@@ -634,7 +637,8 @@ class Run:
             course.forgiven = forgiven(found, facts)
             course.reopened = groups_to_reopen(course.forgiven, facts, self.jobs)
         ours = set() if course.begins_night else groups_of(state, self.past, night)
-        left.settle(state, self.past, ours, self.past.notes.of(night).redo)
+        course.again = self.past.notes.of(night).redo
+        left.settle(Counted(state, self.past, ours, course.again))
         tell_missing(self.files, self.jobs, facts.interrupted)
         # (what is wanted may leave nothing to do, which is to be recorded, too)
         has_work = not (was_over and is_over) or course.begins_night or self.rest.is_due or bool(
