@@ -728,8 +728,8 @@ def ends_in_words(tries: Shared) -> None:
         night.program = before
 
 
-# The modules of a driver that decide, and those that execute (`orders`). The first know of the second
-# their `executor` alone, and the second don't know the first.
+# The modules of a driver that decide, and those that execute (`orders`). The first know of the
+# second their `executor` alone, and the second don't know the first.
 DECIDES = {"answers", "asking", "batches", "capacity", "changes", "counted", "course", "decider",
            "facts", "night", "obeying", "opening", "past", "plan_moments", "plan_pools", "planner",
            "renewal", "restarts", "scoping", "sessions", "starts", "state", "taking", "timing"}
@@ -765,8 +765,8 @@ def parts_are_apart(tries: Shared) -> None:
     tries.is_same("what executes is all of it", "executor", EXECUTES - found, set())
 
 
-SMALL = [parts_are_apart, recorded_lines, held_back, rests, nights_of_others, missed_members, handed_over,
-         ends_in_words, numbers_of_others, waiting, retries_are_due, places_are_kept, clocks,
+SMALL = [parts_are_apart, recorded_lines, held_back, rests, nights_of_others, missed_members,
+         handed_over, ends_in_words, numbers_of_others, waiting, retries_are_due, places_are_kept, clocks,
          restarts, in_sight, stopped, outputs]
 # Those that set a signal's handler or the environment, which the main thread alone may.
 MAIN = [copies, planner_ends, wrong_answers, answer_is_two, answer_is_late, answer_is_stopped]

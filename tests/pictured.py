@@ -20,6 +20,7 @@ sys.path.insert(0, f"{TOP}/drivers")
 from night_run.ends import failed  # noqa: E402
 from night_run.facts import Facts  # noqa: E402
 from night_run.jobs import Jobs  # noqa: E402
+from night_run.phases import Phase  # noqa: E402
 from night_run.rows import Row, Try  # noqa: E402
 from night_run.standing import Standing  # noqa: E402
 from night_run.status import (Running, Status, counted, forecast_of,  # noqa: E402
@@ -70,18 +71,19 @@ def status() -> Status:
     jobs = Jobs("JOBS", lines)
     facts = Facts()
     facts.ended(("dumps", "wiki"), failed("exit 7"), NOW - 12)
-    standings = {name: Standing("ok") for name in jobs.all}
-    standings |= {name_of(it): Standing("running" if it in RUNNING else "waiting")
+    standings = {name: Standing(Phase.OK) for name in jobs.all}
+    standings |= {name_of(it): Standing(Phase.RUNNING if it in RUNNING else Phase.WAITING)
                   for it in LEFT}
-    standings["dumps", "wiki"] = Standing("waiting", "exit 7")
-    standings["dumps", "crm"] = Standing("failed", "exit 1")
+    standings["dumps", "wiki"] = Standing(Phase.WAITING, "exit 7")
+    standings["dumps", "crm"] = Standing(Phase.FAILED, "exit 1")
     times = Times({name_of(it): Usual(usual * MINUTES, 1.2 * usual * MINUTES, 7)
                    for it, (_, usual, _) in LEFT.items()}, 7)
     running = tuple(Running(
         *name_of(it), "true", NOW - minutes * MINUTES, minutes * MINUTES, times.usual[name_of(it)],
         1, process, f"backups.store.out/{it.replace('/', f'--{NIGHT}.')}.0")
         for it, (minutes, _, process) in LEFT.items() if minutes is not None)
-    unwell = Row("dumps", "crm", "true", "failed", "exit 1", (Try(0, EVENING, 9.0, "exit 1"),) * 2,
+    tries = (Try(0, EVENING, 9.0, "exit 1"),) * 2
+    unwell = Row("dumps", "crm", "true", Phase.FAILED, "exit 1", tries,
                  f"backups.store.out/dumps--{NIGHT}.crm.1", (WHY,))
     plan = Plan(jobs, 4, "/etc/night/backups")
     view = cast(View, SimpleNamespace(facts=facts, standings=standings,

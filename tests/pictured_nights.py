@@ -23,6 +23,7 @@ sys.path.insert(0, f"{TOP}/drivers")
 from night_run import report  # noqa: E402
 from night_run.files import Files  # noqa: E402
 from night_run.history import history  # noqa: E402
+from night_run.phases import Phase  # noqa: E402
 from night_run.rows import Report, Row, Try  # noqa: E402
 from night_run.used import Used  # noqa: E402
 
@@ -74,8 +75,8 @@ def lines(night: int) -> Iterator[str]:
 def row(name: tuple[str, str]) -> Row:
     """A command in the last night."""
     its = tries_of(name, NIGHTS)
-    phase = "ok" if its[-1].end == "ok" else "failed"
-    return Row(*name, "true", phase, "" if phase == "ok" else its[-1].end, tuple(its), "", ())
+    phase = Phase.OK if its[-1].end == "ok" else Phase.FAILED
+    return Row(*name, "true", phase, "" if phase is Phase.OK else its[-1].end, tuple(its), "", ())
 
 
 def page() -> str:

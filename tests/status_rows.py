@@ -26,6 +26,7 @@ from night_run.facts import Facts  # noqa: E402
 from night_run.files import Files  # noqa: E402
 from night_run.jobs import Job, Jobs  # noqa: E402
 from night_run.night import NightEnded, ran  # noqa: E402
+from night_run.phases import Phase  # noqa: E402
 from night_run.planner import Planner  # noqa: E402
 from night_run.rounds import Round  # noqa: E402
 from night_run.rows import Row, Try  # noqa: E402
@@ -147,7 +148,7 @@ def forecasts(tries: Shared) -> None:
         made, usual = usual_of(text)
         jobs = jobs_of(*made)
         it = Moment(EVENING, most,
-                    {name: phases.get("/".join(name), "waiting") for name in jobs.all},
+                    {name: Phase(phases.get("/".join(name), "waiting")) for name in jobs.all},
                     {named(name): seconds for name, seconds in running.items()},
                     {named(name): EVENING + at for name, at in dues.items() if "/" in name},
                     {name: EVENING + at for name, at in dues.items() if "/" not in name})
@@ -257,7 +258,7 @@ def random_forecasts(tries: Shared) -> None:
         deadlines = {group: it.randint(1, 20) for group in jobs.members if it.random() < 0.2}
         wanted = played(jobs, usual, most, deadlines)
         found = forecast(jobs, usual, Moment(
-            EVENING, most, dict.fromkeys(jobs.all, "waiting"), {}, {},
+            EVENING, most, dict.fromkeys(jobs.all, Phase.WAITING), {}, {},
             {group: EVENING + at for group, at in deadlines.items()}))
         tries.is_same("a random night ends", (made, most, deadlines),
                       found and found.at - EVENING, float(wanted))
@@ -269,7 +270,7 @@ def large_forecast(tries: Shared) -> None:
     made, usual = usual_of(text)
     jobs = jobs_of(*made, *(f"g{at}: limit 2 priority {at % 5}" for at in range(100)))
     began = time.process_time()
-    found = forecast(jobs, usual, Moment(EVENING, 64, dict.fromkeys(jobs.all, "waiting")))
+    found = forecast(jobs, usual, Moment(EVENING, 64, dict.fromkeys(jobs.all, Phase.WAITING)))
     took = time.process_time() - began
     least = sum(it.seconds for it in usual.values()) / 64
     tries.holds("8,000 commands: the end is no sooner than their places allow", "",
@@ -399,14 +400,14 @@ def night(count: int = 3, hostile: str = "") -> Status:
     running = tuple(Running("disks", f"host-{at}", "true", EVENING + 10, 3600.0 + at,
                             Usual(3000.0, 4000.0, 7), 1 + at % 2, 4000 + at,
                             f"b.store{hostile}.out/disks--12.host-{at}.0") for at in range(count))
-    unwell = tuple(Row("www", f"mirror{at}", "true", "failed", f"exit {at + 1}",
+    unwell = tuple(Row("www", f"mirror{at}", "true", Phase.FAILED, f"exit {at + 1}",
                        (Try(0, EVENING, 4.0, "exit 3"),) * 3, f"b.store.out/www--12.mirror{at}.2",
                        ("first", f"{hostile}last line {at}")) for at in range(count))
     waiting = tuple(Waiting("tape", f"offsite{at}", f"after disks/host-{at}, disks/host-1", None)
                     for at in range(count))
     return Status(f"b.store{hostile}", 12, EVENING + 15_247, EVENING, None, 4711, EVENING, 4,
-                  "/etc/night/backups", {"ok": 31, "failed": count, "running": count,
-                                         "waiting": count}, running, unwell, waiting,
+                  "/etc/night/backups", {Phase.OK: 31, Phase.FAILED: count, Phase.RUNNING: count,
+                                         Phase.WAITING: count}, running, unwell, waiting,
                   Forecast(EVENING + 25_920, False, (), (), ("tape", "offsite0")), 7)
 
 

@@ -26,11 +26,11 @@ from .night import ALREADY_DONE, FULL, Session, refusal
 from .opening import advance, inspected, now_of, opened, withdraw
 from .parsing import check_group, check_key
 from .past import read_past
+from .phases import Phase
 from .planner import Planner
 from .reading import Wrong, short
 from .rounds import Role, base_of, role_name
 from .settings import OF_ALL
-from .standing import CANCELLED
 from .state import JOB
 from .status_plan import names_of_plan
 from .strangers import keep_out
@@ -179,7 +179,7 @@ class Alone:
             raise Mistake(no_command(target.group, target.key, jobs.all))
         facts = facts_of(self.state, self.past, {}, self.book, time.time(), {})
         found = Planner(jobs).standings(facts)[target.name]
-        if found.phase == CANCELLED:
+        if found.phase == Phase.CANCELED:
             return found.why
         if found.is_final:
             raise Mistake(found.at_its_end(target.name))

@@ -11,10 +11,10 @@ from . import Mistake, Name
 from .facts import Book, Facts
 from .guesses import no_command, no_group
 from .jobs import Jobs, Need
+from .phases import Phase
 from .repeating import facts_to_come, is_forgotten, refusal
-from .rows import LEFT_OUT, NOT_DUE
 from .settings import OF_ALL
-from .standing import CANCELLED, FAILED, NEVER, Standing
+from .standing import Standing
 from .tonight import Again, Tonight
 from .wants import NOT_PAUSED, By, Verb, Want
 
@@ -88,7 +88,7 @@ class Change:
 
     def is_due(self, name: Name) -> bool:
         """Whether a command is one of this night: what isn't due counts as if it weren't there."""
-        return self.night.standings[name].phase != NOT_DUE
+        return self.night.standings[name].phase != Phase.NOT_DUE
 
     def is_ok(self, name: Name) -> bool:
         return self.night.facts.is_ok(name) and not is_forgotten(self.night.facts, self.its, name)
@@ -126,7 +126,7 @@ class Change:
         """Leaves commands out. What runs goes on, and isn't tried again."""
         names = self.named(word)
         if "/" in word and not self.is_due(names[0]):
-            return f"{word}: {NOT_DUE}"
+            return f"{word}: {Phase.NOT_DUE}"
         if "/" in word:
             self.look_at_end(names[0])
         open_ones = [it for it in names if self.is_open(it)]
@@ -150,7 +150,7 @@ class Change:
     def is_open(self, name: Name) -> bool:
         """Whether a command may still be left out, or is."""
         found = self.night.standings[name]
-        return not found.is_final or found.phase == LEFT_OUT \
+        return not found.is_final or found.phase == Phase.LEFT_OUT \
             or is_forgotten(self.night.facts, self.its, name)
 
     def only(self, words: list[str]) -> str:
@@ -166,7 +166,7 @@ class Change:
         self.its.only = {it: self.by for it in self.jobs.all if it in names}
         left = sum(self.is_open(it) and it not in names and it not in self.night.facts.busy
                    for it in self.jobs.all)
-        more = f"; {shown(late)}: {NOT_DUE}, which --redo changes" if late else ""
+        more = f"; {shown(late)}: {Phase.NOT_DUE}, which --redo changes" if late else ""
         return f"only {' '.join(words)}: {left} other{'' if left == 1 else 's'} left out{more}"
 
     def redo(self, word: str) -> str:
@@ -211,7 +211,8 @@ class Change:
         groups = {name[0] for name in again if not self.jobs.cleans_up(name)} & done.keys()
         for group in groups:
             for it in self.jobs.members[group]:
-                if it not in again and self.night.standings[it].phase in (CANCELLED, FAILED) \
+                if it not in again \
+                and self.night.standings[it].phase in (Phase.CANCELED, Phase.FAILED) \
                         and not self.jobs.cleans_up(it) and not self.its.left_out(it):
                     self.its.canceled[it] = done[group] or "canceled"
         return groups
@@ -252,7 +253,7 @@ def released(change: Change, names: Collection[Name]) -> set[Name]:
     trial.run_again([it for it in jobs.all if it in names])
     found = night.stand(facts_to_come(night, trial.its))
     return {name for name, it in night.standings.items()
-            if it.phase == NEVER and not found[name].is_final}
+            if it.phase == Phase.NOT_STARTED and not found[name].is_final}
 
 
 def lost_with(change: Change, names: Collection[Name]) -> list[Name]:

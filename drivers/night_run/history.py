@@ -22,16 +22,17 @@ from .ends import INTERRUPTED, Kind, read_end
 from .files import Files
 from .log import Line, Tried, backwards, read_line
 from .nights import Nights, read_nights
-from .report_words import last_end
+from .phases import Phase
+from .report_words import kind_of, last_end
 from .rounds import base_of, round_of
 from .telling import note_once
 
 # How many nights are looked at, tonight among them.
 MOST_NIGHTS = 30
 # How a command stands tonight that has no try, and has a cell all the same.
-STANDS = ("failed", "canceled", "not started", "interrupted", "running")
+STANDS = (Phase.FAILED, Phase.CANCELED, Phase.NOT_STARTED, Phase.INTERRUPTED, Phase.RUNNING)
 # How one stands that was neither ok nor failed in the end.
-UNDONE = ("canceled", "not started", "interrupted")
+UNDONE = (Phase.CANCELED, Phase.NOT_STARTED, Phase.INTERRUPTED)
 
 
 @dataclass(frozen=True)
@@ -39,7 +40,7 @@ class Cell:
     """A command in a night."""
 
     night: int
-    phase: str  # how its last try ended, or how it stands tonight, as in `rows`
+    phase: Phase  # how its last try ended, or how it stands tonight
     end: str
     tries: int
     failures: int  # tries that failed
@@ -51,7 +52,7 @@ class Cell:
     @property
     def is_troubled(self) -> bool:
         """Whether something of it failed, even if a later try was ok."""
-        return self.failures > 0 or self.phase == "failed"
+        return self.failures > 0 or self.phase is Phase.FAILED
 
 
 @dataclass(frozen=True)
@@ -71,7 +72,7 @@ class Command:
 
     @property
     def well(self) -> int:
-        return sum(it.phase == "ok" for it in self.cells)
+        return sum(it.phase is Phase.OK for it in self.cells)
 
     @property
     def is_flaky(self) -> bool:
@@ -82,7 +83,7 @@ class Command:
     def median(self) -> float | None:
         """The median of its seconds in the nights before tonight in which it was ok."""
         its = [it.seconds for it in self.cells
-               if it.phase == "ok" and it.seconds is not None and it != self.tonight]
+               if it.phase is Phase.OK and it.seconds is not None and it != self.tonight]
         return statistics.median(its) if its else None
 
 
@@ -258,7 +259,7 @@ def cell_of(night: int, tries: Iterable[rows.Try]) -> Cell:
     its = list(tries)
     ends = [it.end for it in its if it.end]
     failures = sum(read_end(it).kind is Kind.FAILED for it in ends)
-    phase = read_end(its[-1].end).kind.value if its and its[-1].end else "running"
+    phase = kind_of(its[-1]) if its else Phase.RUNNING
     outputs = [it.used.output for it in its if it.used.output is not None]
     return Cell(night, phase, its[-1].end if its else "", len(its), failures,
                 total(it.took for it in its), total(it.used.cpu for it in its),
@@ -268,7 +269,7 @@ def cell_of(night: int, tries: Iterable[rows.Try]) -> Cell:
 
 def summed(number: int, began: float | None, seconds: float | None, its: list[Cell]) -> Night:
     outputs = [it.output for it in its if it.output is not None]
-    return Night(number, began, seconds, len(its), sum(it.phase == "failed" for it in its),
+    return Night(number, began, seconds, len(its), sum(it.phase is Phase.FAILED for it in its),
                  sum(it.phase in UNDONE for it in its), sum(it.tries for it in its),
                  sum(outputs) if outputs else None)
 

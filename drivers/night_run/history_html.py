@@ -12,10 +12,10 @@ from collections.abc import Callable, Iterator
 from .history import Cell, Command, History, Night
 from .history_style import STYLE as OWN
 from .history_words import cell_said, day, head, moment, night_said, nights, period, said
+from .phases import PHASES, Phase
 from .report_html import Html, phase_class, tag
 from .report_style import STYLE
 from .report_words import span
-from .rows import PHASES
 from .used import amount
 
 # A bar is so high at least that it is seen, in hundredths.
@@ -112,7 +112,7 @@ def legend(its: History) -> Html:
     """What the colours are, of those that there are."""
     cells = [cell for it in its.commands for cell in it.cells]
     found = {it.phase for it in cells}
-    shown = [(phase_class(it), it) for it in PHASES if it in found]
+    shown = [(phase_class(it), str(it)) for it in PHASES if it in found]
     if any(mark(it) == "again" for it in cells):
         shown.insert(1, ("again", "ok after a failure"))
     if any(it.median is not None for it in its.commands):
@@ -151,9 +151,9 @@ def cell_bar(cell: Cell | None, night: Night, most: float) -> Html:
 
 def mark(cell: Cell) -> str:
     """What stands above a bar: that it failed, or was ok after a failure."""
-    if cell.phase == "failed":
+    if cell.phase is Phase.FAILED:
         return "failed"
-    return "again" if cell.phase == "ok" and cell.failures else ""
+    return "again" if cell.phase is Phase.OK and cell.failures else ""
 
 
 def share(value: float, most: float) -> float:

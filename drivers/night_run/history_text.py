@@ -7,11 +7,12 @@ from collections.abc import Iterator
 from .escapes import plain
 from .history import Cell, Command, History
 from .history_words import head, moment, night_said, period, said, used_said
+from .phases import Phase
 from .report_text import headed, wrapped
 
 # A mark for each night of a command; one that was ok after a failure has its own.
-MARKS = {"ok": ".", "failed": "x", "canceled": "c", "interrupted": "i", "not started": "n",
-         "running": ">"}
+MARKS = {Phase.OK: ".", Phase.FAILED: "x", Phase.CANCELED: "c", Phase.INTERRUPTED: "i",
+         Phase.NOT_STARTED: "n", Phase.RUNNING: ">"}
 AGAIN, NOT_RUN = "r", "-"
 LEGEND = ("Each night is a mark, the latest last: . ok, x failed, r ok after a failure, c canceled,"
           " i interrupted, n not started, > running, - not run")
@@ -56,4 +57,4 @@ def marks(its: History, it: Command) -> str:
 def mark(cell: Cell | None) -> str:
     if cell is None:
         return NOT_RUN
-    return AGAIN if cell.phase == "ok" and cell.failures else MARKS.get(cell.phase, "?")
+    return AGAIN if cell.phase is Phase.OK and cell.failures else MARKS.get(cell.phase, "?")

@@ -5,6 +5,7 @@ from __future__ import annotations
 import time
 
 from .history import Cell, Command, History, Night
+from .phases import Phase
 from .report_words import commands, span
 from .used import Used, amount, in_words
 
@@ -41,7 +42,7 @@ def said(it: Command) -> str:
     if not it.cells:
         return "it hasn't run yet"
     tries = sum(cell.tries for cell in it.cells)
-    ended = sum(cell.phase != "running" for cell in it.cells)
+    ended = sum(cell.phase is not Phase.RUNNING for cell in it.cells)
     found = [f"ok in {it.well} of {nights(ended)}, {tries} {'try' if tries == 1 else 'tries'}"]
     times = [f"median {span(it.median)}"] if it.median is not None else []
     return "; ".join([*found, ", ".join([*times, *tonight(it)])]).removesuffix("; ")
@@ -60,7 +61,7 @@ def cell_said(it: Cell, of: Night | None) -> str:
     """A night of a command: `night 3, 2026-11-24: ok in 1h02m, 2 tries`, and what they took."""
     when = f", {day(of.began)}" if of and of.began is not None else ""
     took = f" in {span(it.seconds)}" if it.seconds is not None else ""
-    end = it.end if it.phase == "failed" and it.end else it.phase
+    end = it.end if it.phase is Phase.FAILED and it.end else it.phase
     tries = f", {it.tries} tries" if it.tries > 1 else ""
     figures = used_said(it)
     return f"night {it.night}{when}: {end}{took}{tries}" + (f"; {figures}" if figures else "")

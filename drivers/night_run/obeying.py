@@ -17,9 +17,9 @@ from .course import Course
 from .ends import End, canceled
 from .executor import Executor
 from .guesses import no_command
+from .phases import Phase
 from .rounds import base_of
 from .settings import OF_ALL
-from .standing import CANCELLED
 from .starts import Starts
 
 
@@ -81,7 +81,7 @@ class Canceler:
         found = self.course.planner.standings(self.course.facts)[name]
         if not found.is_final:
             self.end(batch, name, end)
-        elif found.phase == CANCELLED:
+        elif found.phase == Phase.CANCELED:
             answers[it] = found.why
         else:
             answers[it] = REFUSED + found.at_its_end(name)

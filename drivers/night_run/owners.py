@@ -16,12 +16,12 @@ from dataclasses import dataclass, replace
 from . import rows
 from .escapes import plain
 from .jobs import Jobs
+from .phases import Phase
 from .report_words import commands
-from .standing import CANCELLED, FAILED, NEVER
 from .summary import failures
 
 OWNER = "NIGHT_OWNER"
-BAD = (FAILED, CANCELLED, NEVER)
+BAD = (Phase.FAILED, Phase.CANCELED, Phase.NOT_STARTED)
 SENDMAILS = ("/usr/sbin/sendmail", "/usr/lib/sendmail")
 SEND = f'exec "$SENDMAIL" -i -- "${OWNER}"'
 HEAD = """To: {owner}

@@ -15,9 +15,10 @@ from .escapes import one_line
 from .facts import Facts, book_of, facts_of
 from .jobs import Jobs
 from .past import Past
+from .phases import Phase
 from .planner import Planner
 from .rounds import Role, role_name
-from .standing import CANCELLED, FAILED, RUNNING, Standing
+from .standing import Standing
 from .state import State
 from .status_waits import Run, Waits
 from .taking import Opening, fresh_night
@@ -50,7 +51,7 @@ def is_left(state: State, past: Past) -> bool:
 def forgiven(found: Mapping[Name, Standing], facts: Facts) -> dict[Name, int]:
     """The commands that `--failed` runs again, with how often each had failed."""
     return {name: facts.failures.get(name, 0) for name, it in found.items()
-            if it.phase in (FAILED, CANCELLED)}
+            if it.phase in (Phase.FAILED, Phase.CANCELED)}
 
 
 def groups_to_reopen(again: Collection[Name], facts: Facts, jobs: Jobs) -> set[str]:
@@ -132,7 +133,7 @@ def lines(planner: Planner, facts: Facts, most: int) -> list[str]:
     found, most = planner.standings(facts), its.most or most
     at_once = planner.choose(facts, 0 if its.paused else most, now).names
     waits = Waits(planner.jobs, facts, {
-        name: Standing(RUNNING) if name in at_once else it for name, it in found.items()},
+        name: Standing(Phase.RUNNING) if name in at_once else it for name, it in found.items()},
         Run(now, most, True, its.paused is not None))
     return [*(f"begin {' '.join(it)}: {one_line(planner.jobs.all[it].command)}" for it in at_once),
             *(line(name, it, waits.one(name).why) for name, it in found.items()
@@ -141,6 +142,6 @@ def lines(planner: Planner, facts: Facts, most: int) -> list[str]:
 
 def line(name: Name, it: Standing, wait: str) -> str:
     """How a command stands, or what it waits for."""
-    is_begun = it.is_final or it.phase == RUNNING
+    is_begun = it.is_final or it.phase == Phase.RUNNING
     what, why = (it.phase, it.why) if is_begun else ("later", wait)
     return f"{what} {' '.join(name)}" + (f": {why}" if why else "")

@@ -11,9 +11,9 @@ from typing import TYPE_CHECKING
 from . import Name
 from .facts import Facts, reopened_groups
 from .jobs import Jobs
-from .rows import NOT_DUE, NOT_NEEDED
+from .phases import Phase
 from .settings import OF_ALL
-from .standing import NEVER, Standing
+from .standing import Standing
 from .tonight import Tonight
 
 if TYPE_CHECKING:
@@ -31,7 +31,7 @@ def refusal(night: Night, its: Tonight, words: Mapping[str, list[Name]]) -> str:
     if not words or night.stand is None:
         return ""
     for name in (name for names in words.values() for name in names):
-        if night.standings[name].phase != NOT_DUE and (why := passed(night.jobs, name)):
+        if night.standings[name].phase != Phase.NOT_DUE and (why := passed(night.jobs, name)):
             return f"{'/'.join(name)} can't run again: {why} has passed"
     found = night.stand(facts_to_come(night, its))
     for name in [names[0] for word, names in words.items() if "/" in word]:
@@ -65,5 +65,6 @@ def facts_to_come(night: Night, its: Tonight) -> Facts:
 
 def how(it: Standing) -> str:
     """How a command would stand, and why."""
-    return f"{it.phase}, because {it.why}" if it.phase in (NEVER, NOT_NEEDED) and it.why else \
-        f"{it.phase} {it.why}".rstrip()
+    if it.phase in (Phase.NOT_STARTED, Phase.NOT_NEEDED) and it.why:
+        return f"{it.phase}, because {it.why}"
+    return f"{it.phase} {it.why}".rstrip()

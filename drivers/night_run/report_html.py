@@ -12,6 +12,7 @@ import html as escaping
 from collections.abc import Iterator
 
 from .escapes import one_line, plain
+from .phases import Phase
 from .report_axis import Axis
 from .report_style import STYLE
 from .report_words import (by_group, clock, commands, counts, facts, in_words, in_words_why,
@@ -22,7 +23,7 @@ from .used import in_words as used
 
 SIGNS = {"good": "\u2713", "bad": "\u2717", "open": "\u25d1", "busy": "\u25b6"}
 # What didn't end well, besides failures, or was left out.
-OTHERS = ("canceled", "not started", "interrupted", "left out")
+OTHERS = (Phase.CANCELED, Phase.NOT_STARTED, Phase.INTERRUPTED, Phase.LEFT_OUT)
 # A group of more commands shows its lines in time once they are asked for.
 MOST_OPEN = 60
 # How many failures stand there; those after them once they are asked for.
@@ -76,7 +77,7 @@ def banner(report: Report) -> Html:
 
 
 def failures(report: Report) -> Iterator[Html]:
-    cards = [failure(it) for it in report.rows if it.phase == "failed"]
+    cards = [failure(it) for it in report.rows if it.phase is Phase.FAILED]
     if cards:
         yield tag("h2", "Failed")
         yield from cards[:MOST_CARDS]
@@ -129,7 +130,7 @@ def groups(report: Report, axis: Axis) -> Iterator[Html]:
                   bar(rows), times(report, group, rows, axis), class_="card group")
 
 
-def phase_class(phase: str) -> str:
+def phase_class(phase: Phase) -> str:
     return phase.replace(" ", "-")
 
 
@@ -182,7 +183,7 @@ def tried(it: Try, now: float, axis: Axis) -> Iterator[Html]:
 def end_shown(row: Row) -> str:
     """How a command stands, next to its line."""
     again = f", {len(row.tries)} tries" if len(row.tries) > 1 else ""
-    if row.phase == "waiting":
+    if row.phase is Phase.WAITING:
         return f"waiting after {row.end}{again}" if row.end else "waiting"
     last = row.tries[-1] if row.tries else None
     took = f" {span(last.took)}" if last and last.took is not None else ""

@@ -9,8 +9,9 @@ from __future__ import annotations
 from collections.abc import Iterator
 
 from .escapes import escaped
+from .phases import PHASES, SELDOM, WHOLE
 from .report_words import by_group, counts, end_of, last_end
-from .rows import PHASES, SELDOM, WHOLE, Report, Row, Try
+from .rows import Report, Row, Try
 from .used import Used
 
 Labels = dict[str, str]

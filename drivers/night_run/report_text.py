@@ -10,6 +10,7 @@ import textwrap
 from collections.abc import Iterator
 
 from .escapes import one_line, plain
+from .phases import Phase
 from .report_words import (by_group, counts, facts, in_words, in_words_why, line_shown, of_all,
                            period, tries_in_words, used_in_words, verdict, why_done)
 from .rows import Report, Row
@@ -18,7 +19,7 @@ COLUMNS = 72
 # How many failures are shown with their last lines, and how many names that share a reason.
 MOST_SHOWN, MOST_NAMED = 20, 12
 # What didn't end well, besides failures, or was left out.
-OTHERS = ("canceled", "not started", "interrupted", "left out")
+OTHERS = (Phase.CANCELED, Phase.NOT_STARTED, Phase.INTERRUPTED, Phase.LEFT_OUT)
 
 
 def text(report: Report) -> str:
@@ -30,7 +31,7 @@ def lines(report: Report) -> Iterator[str]:
     yield from wrapped(verdict(report)[1])
     yield from wrapped(f"{plain(report.store)}, night {report.night}, {period(report)}")
     yield from wrapped(in_words(counts(report.rows)))
-    failed = [it for it in report.rows if it.phase == "failed"]
+    failed = [it for it in report.rows if it.phase is Phase.FAILED]
     if failed:
         yield from headed("Failed")
         for at, row in enumerate(failed):

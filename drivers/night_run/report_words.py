@@ -12,9 +12,12 @@ from collections.abc import Iterable
 
 from .ends import read_end
 from .escapes import plain
-from .rows import LEFT_OUT, OF_ALL, PHASES, WELL, Group, Report, Row, Try
+from .phases import PHASES, WELL, Phase, phase_of
+from .rows import OF_ALL, Group, Report, Row, Try
 from .used import in_words as used
 
+# The phases of what has yet to end.
+OPEN = (Phase.RUNNING, Phase.WAITING, Phase.INTERRUPTED)
 # A line of somebody else's that is longer is cut.
 MOST_SHOWN = 400
 # The cause of a scope that its deadline cancelled.
@@ -30,23 +33,23 @@ def line_shown(line: str) -> str:
     return shown if len(shown) <= MOST_SHOWN else f"{shown[:MOST_SHOWN]} .."
 
 
-def counts(rows: Iterable[Row]) -> dict[str, int]:
+def counts(rows: Iterable[Row]) -> dict[Phase, int]:
     """How many of the rows are in each phase, in the order of PHASES; phases without any are left
     out."""
     found = collections.Counter(it.phase for it in rows)
     return {phase: found[phase] for phase in PHASES if found[phase]}
 
 
-def in_words(found: dict[str, int]) -> str:
+def in_words(found: dict[Phase, int]) -> str:
     """Counts in words, such as `2 ok, 1 failed`."""
     return ", ".join(f"{count} {phase}" for phase, count in found.items()) or "none"
 
 
-def in_words_why(phase: str, end: str) -> str:
+def in_words_why(phase: Phase, end: str) -> str:
     """A phase, and why it is so."""
     if end.startswith(phase):
         return end
-    between = " " if phase == LEFT_OUT else ": "
+    between = " " if phase == Phase.LEFT_OUT else ": "
     return f"{phase}{between}{end}" if end else phase
 
 
@@ -57,17 +60,17 @@ def commands(number: int) -> str:
 def verdict(report: Report) -> tuple[str, str]:
     """The night in a word, `good`, `bad`, `open` or `busy`, and in a few."""
     found, total = counts(report.rows), len(report.rows)
-    lost = total - sum(found.get(it, 0) for it in (*WELL, "running", "waiting", "interrupted"))
+    lost = total - sum(found.get(it, 0) for it in (*WELL, *OPEN))
     well = sum(found.get(it, 0) for it in WELL)
-    if found.get("failed"):
-        return "bad", f"{found['failed']} of {total} failed"
+    if found.get(Phase.FAILED):
+        return "bad", f"{found[Phase.FAILED]} of {total} failed"
     if lost:
         return "bad", f"{lost} of {total} not done"
-    if found.get("running"):
+    if found.get(Phase.RUNNING):
         return "busy", f"Running: {well} of {total} done"
     if well < total:
         return "open", f"Unfinished: {total - well} of {total} are left"
-    shown = f"{commands(total)} ok" if found.get("ok", 0) == total else in_words(found)
+    shown = f"{commands(total)} ok" if found.get(Phase.OK, 0) == total else in_words(found)
     return ("good", f"All is well: {shown}") if total else ("open", "No commands")
 
 
@@ -105,9 +108,9 @@ def why_done(group: Group) -> list[str]:
     return [f"{word}: {plain(group.cause)}" if group.cause else word]
 
 
-def kind_of(it: Try) -> str:
+def kind_of(it: Try) -> Phase:
     """The phase that a try's end stands for."""
-    return read_end(it.end).kind.value if it.end else "running"
+    return phase_of(read_end(it.end).kind) if it.end else Phase.RUNNING
 
 
 def end_of(it: Try) -> float | None:

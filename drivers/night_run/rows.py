@@ -10,20 +10,9 @@ from __future__ import annotations
 from collections.abc import Mapping
 from dataclasses import dataclass, field
 
+from .phases import Phase
 from .used import Used
 
-# How a command stands, in the order in which a report shows it. A command that is `waiting` has yet
-# to be started, one that is `not started` never will be, and one that is `interrupted` was cut off
-# and runs again in the next run. A command that is `not needed` waited for a failure that didn't
-# come, one that is `not due` is for other days, and one that is `left out` was left out by hand.
-NOT_NEEDED, NOT_DUE, LEFT_OUT = "not needed", "not due", "left out"
-PHASES = ("ok", "failed", "canceled", "not started", "interrupted", "running", "waiting",
-          NOT_NEEDED, NOT_DUE, LEFT_OUT)
-# Those of a night in which nothing was left out by hand, and those that are no failure.
-WHOLE = ("ok", NOT_NEEDED, NOT_DUE)
-WELL = (*WHOLE, LEFT_OUT)
-# Those that are counted only where they occur.
-SELDOM = (NOT_NEEDED, NOT_DUE, LEFT_OUT)
 # The name of all groups together.
 OF_ALL = "night"
 
@@ -46,7 +35,7 @@ class Row:
     group: str
     key: str
     command: str
-    phase: str  # one of PHASES
+    phase: Phase
     end: str  # why it didn't end well, or isn't begun; else ""
     tries: tuple[Try, ...]
     output: str  # the path of its last try's output, or ""

@@ -9,22 +9,14 @@ from . import Name
 from .ends import canceled
 from .facts import Facts
 from .jobs import Job, Jobs, Need
-from .rows import LEFT_OUT, NOT_DUE, NOT_NEEDED
-
-# How a command stands. The last two are for now.
-OK, FAILED, CANCELLED, NEVER = "ok", "failed", "canceled", "not started"
-INTERRUPTED, RUNNING, WAITING = "interrupted", "running", "waiting"
-# Where what says it can't be read; in a summary alone.
-NOT_KNOWN = "not known"
-# Those that nothing of this night changes any more.
-FINAL = (OK, FAILED, CANCELLED, NEVER, NOT_NEEDED, NOT_DUE, LEFT_OUT)
+from .phases import FINAL, Phase
 
 
 @dataclass(frozen=True)
 class Standing:
     """How a command stands in its night, and why, if it didn't end well or never begins."""
 
-    phase: str
+    phase: Phase
     why: str = ""
 
     @property
@@ -33,7 +25,7 @@ class Standing:
 
     def at_its_end(self, name: Name) -> str:
         """Why nothing can be done to this command: how it ended, or why it never begins."""
-        if self.phase in (NEVER, NOT_NEEDED):
+        if self.phase in (Phase.NOT_STARTED, Phase.NOT_NEEDED):
             return f"{' '.join(name)} is {self.phase}, because {self.why}"
         return f"{' '.join(name)} has ended: {self.why or self.phase}"
 
@@ -63,35 +55,35 @@ class Shown:
     def one(self, name: Name, word: str) -> Standing:
         facts, end = self.facts, self.facts.ends.get(name)
         if name in facts.busy:
-            return Standing(RUNNING)
+            return Standing(Phase.RUNNING)
         if word == "ok":
-            return Standing(OK) if end is not None else self.not_due(self.jobs.all[name])
+            return Standing(Phase.OK) if end is not None else self.not_due(self.jobs.all[name])
         if facts.is_left_out(name):
-            return Standing(LEFT_OUT, facts.left_out(name))
+            return Standing(Phase.LEFT_OUT, facts.left_out(name))
         if word in ("failed", "canceled"):
             cause = end or canceled(facts.done.get(name[0], ""))
-            return Standing(CANCELLED if cause.is_canceled else FAILED, cause.text)
+            return Standing(Phase.CANCELED if cause.is_canceled else Phase.FAILED, cause.text)
         if word == "given-up":
             return self.never_begun(self.jobs.all[name])
         if end is not None:
-            return Standing(WAITING, end.text)
-        return Standing(INTERRUPTED if name in facts.interrupted else WAITING)
+            return Standing(Phase.WAITING, end.text)
+        return Standing(Phase.INTERRUPTED if name in facts.interrupted else Phase.WAITING)
 
     def not_due(self, job: Job) -> Standing:
         """How a command stands that isn't due in this night, which nothing waits for."""
         day = self.facts.day
-        return Standing(NOT_DUE, job.days.why_not(day) if job.days and day else "")
+        return Standing(Phase.NOT_DUE, job.days.why_not(day) if job.days and day else "")
 
     def never_begun(self, job: Job) -> Standing:
         """How a command stands that neither failed nor was canceled, and never begins."""
         failed = None if job.cleans_up else self.failure(job.group)
         if failed is not None:
-            return Standing(NEVER, f"{'/'.join(failed)} failed, and" + (
+            return Standing(Phase.NOT_STARTED, f"{'/'.join(failed)} failed, and" + (
                 " that cancels the group" if self.jobs.cancels(job.group)
                 else " the group stops on failure"))
         found = [it for it in map(self.in_vain, job.after) if it is not None]
-        its = [it for it in found if it.phase != LEFT_OUT]
-        return (its or found or [Standing(NEVER)])[0]
+        its = [it for it in found if it.phase != Phase.LEFT_OUT]
+        return (its or found or [Standing(Phase.NOT_STARTED)])[0]
 
     def in_vain(self, need: Need) -> Standing | None:
         """How a command stands because this need of it is never met; None where it may be."""
@@ -100,17 +92,19 @@ class Shown:
             other = self.member(of) if isinstance(of, str) else of if self.is_never(of) else None
             if other is None:
                 return None
-            if other in self.found and self.found[other].phase == LEFT_OUT:
-                return Standing(LEFT_OUT, f"because {'/'.join(other)} is left out")
-            is_needed = other not in self.found or self.found[other].phase != NOT_NEEDED
-            return Standing(NEVER if is_needed else NOT_NEEDED, self.reason(other, need))
+            if other in self.found and self.found[other].phase == Phase.LEFT_OUT:
+                return Standing(Phase.LEFT_OUT, f"because {'/'.join(other)} is left out")
+            is_needed = other not in self.found or self.found[other].phase != Phase.NOT_NEEDED
+            return Standing(Phase.NOT_STARTED if is_needed else Phase.NOT_NEEDED,
+                            self.reason(other, need))
         its = self.jobs.members[of] if isinstance(of, str) else [of]
         if need.when == "failed" and all(self.words[it] == "ok" or self.is_never(it) and
                                          self.words[it] != "failed" for it in its):
             named = of if isinstance(of, str) else "/".join(of)
             is_due = any(it in self.facts.ends or self.jobs.all[it].is_due(self.facts.day)
                          for it in its)
-            return Standing(NOT_NEEDED, f"{named} didn't fail" if is_due else f"{named} isn't due")
+            return Standing(Phase.NOT_NEEDED,
+                            f"{named} didn't fail" if is_due else f"{named} isn't due")
         return None
 
     def reason(self, other: Name, need: Need) -> str:
@@ -146,7 +140,8 @@ class Shown:
         no other is."""
         if group not in self.ended:
             its = [it for it in self.jobs.members[group] if self.is_never(it)]
-            others = [it for it in its if it in self.found and self.found[it].phase != LEFT_OUT]
+            others = [it for it in its
+                      if it in self.found and self.found[it].phase != Phase.LEFT_OUT]
             self.ended[group] = next(iter(others or its), None)
         return self.ended[group]
 
@@ -157,7 +152,7 @@ class Shown:
         """How a command that never begins again has ended."""
         end = self.facts.ends.get(name)
         if self.words[name] == "given-up":
-            is_needed = name not in self.found or self.found[name].phase != NOT_NEEDED
+            is_needed = name not in self.found or self.found[name].phase != Phase.NOT_NEEDED
             return "was not started" if is_needed else "was not needed"
         is_failed = self.words[name] == "failed" and not (end and end.is_canceled)
         return "failed" if is_failed else "was canceled"

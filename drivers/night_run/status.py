@@ -16,11 +16,12 @@ from .files import Files
 from .jobs import Jobs
 from .nights import read_nights
 from .opening import check
+from .phases import FINAL, PHASES, Phase
 from .planner import Planner
 from .processes import Process, age, lives
 from .report_words import end_of
 from .rounds import base_of
-from .standing import CANCELLED, FAILED, FINAL, NEVER, RUNNING, Standing
+from .standing import Standing
 from .status_forecast import Forecast, Moment, forecast
 from .status_plan import Plan, known_alone, parsed_plan, plan_text
 from .status_times import Times, Usual, usual_times
@@ -31,7 +32,7 @@ from .views import View, look, moment, row, tries_of
 from .wants import By
 
 # What didn't end well and runs no more tonight, in the order in which it is shown.
-UNWELL = (FAILED, CANCELLED, NEVER)
+UNWELL = (Phase.FAILED, Phase.CANCELED, Phase.NOT_STARTED)
 
 
 @dataclass(frozen=True)
@@ -63,7 +64,7 @@ class Status:
     driver_began: float | None
     most: int | None  # how many commands it runs at a time
     path: str  # the file of commands, or "" where it isn't known
-    counts: dict[str, int]
+    counts: dict[Phase, int]
     running: tuple[Running, ...]
     unwell: tuple[rows.Row, ...]
     waiting: tuple[Waiting, ...]
@@ -137,10 +138,10 @@ class Watcher:
         plan = replace(plan, most=wanted.most or plan.most)
         times, tries = self.times_of(night, plan.jobs), tries_of(view)
         made = [row(files, view, plan.jobs.all[name].command, name, tries.get(name, []))
-                for name, it in view.standings.items() if it.phase in (RUNNING, *UNWELL)]
+                for name, it in view.standings.items() if it.phase in (Phase.RUNNING, *UNWELL)]
         its = processes(files)
         running = tuple(running_of(it, its.get((it.group, it.key)), times, now) for it in made
-                        if it.phase == RUNNING)
+                        if it.phase == Phase.RUNNING)
         holder, begun = view.holder, read_nights(files).begun.get(night)
         waits = waits_of(plan, view, holder is not None, now)
         moments = [it for one in tries.values() for _, it in one]
@@ -195,10 +196,10 @@ def ends(tries: Iterable[rows.Try]) -> Iterator[float]:
     return (end for it in tries if (end := end_of(it)) is not None)
 
 
-def counted(standings: Mapping[Name, Standing]) -> dict[str, int]:
+def counted(standings: Mapping[Name, Standing]) -> dict[Phase, int]:
     """How many commands are in each phase, in the order of PHASES."""
     found = collections.Counter(it.phase for it in standings.values())
-    return {phase: found[phase] for phase in rows.PHASES if found[phase]}
+    return {phase: found[phase] for phase in PHASES if found[phase]}
 
 
 def running_of(it: rows.Row, process: Process | None, times: Times, now: float) -> Running:

@@ -20,8 +20,7 @@ from dataclasses import dataclass, field
 from . import Name
 from .facts import Facts
 from .jobs import Job, Jobs, Need
-from .rows import NOT_DUE, NOT_NEEDED
-from .standing import FAILED, INTERRUPTED, NEVER, OK, RUNNING, WAITING
+from .phases import Phase
 from .status_times import Usual
 
 # No wait before a retry is longer, in seconds, or grows more often.
@@ -29,8 +28,8 @@ MOST_WAIT, MOST_GROWTH = 49 * 86_400, 32
 # What takes fewer seconds than this is over in a moment.
 A_MOMENT = 1.0
 # The phases of what has yet to end.
-OPEN = (RUNNING, WAITING, INTERRUPTED)
-WELL = (OK, NOT_NEEDED, NOT_DUE)
+OPEN = (Phase.RUNNING, Phase.WAITING, Phase.INTERRUPTED)
+WELL = (Phase.OK, Phase.NOT_NEEDED, Phase.NOT_DUE)
 
 
 @dataclass(frozen=True)
@@ -40,7 +39,7 @@ class Moment:
 
     now: float
     most: int
-    phases: Mapping[Name, str]
+    phases: Mapping[Name, Phase]
     running: Mapping[Name, float] = field(default_factory=dict)
     due: Mapping[Name, float] = field(default_factory=dict)
     deadlines: Mapping[str, float] = field(default_factory=dict)
@@ -85,11 +84,11 @@ def retry_due(job: Job, facts: Facts) -> float | None:
     return at + min(job.wait * growth, most)
 
 
-def is_open(jobs: Jobs, phases: Mapping[Name, str], need: Need) -> bool:
+def is_open(jobs: Jobs, phases: Mapping[Name, Phase], need: Need) -> bool:
     """Whether a command that comes after this still waits for it. One failure is enough of a
     group."""
     its = jobs.members[need.of] if isinstance(need.of, str) else [need.of]
-    has_failed = need.when == "failed" and any(phases[it] == FAILED for it in its)
+    has_failed = need.when == "failed" and any(phases[it] == Phase.FAILED for it in its)
     return not has_failed and any(phases[it] in OPEN for it in its)
 
 
@@ -107,7 +106,7 @@ class Play:
         self.last_name: Name | None = None
         self.events: list[Event] = []
         self.counter = itertools.count()
-        self.phases = {name: it.phases.get(name, WAITING) for name in jobs.all}
+        self.phases = {name: it.phases.get(name, Phase.WAITING) for name in jobs.all}
         self.begun: set[Name] = set()
         self.unknown: list[Name] = []
         self.late: list[Name] = []
@@ -124,10 +123,10 @@ class Play:
         for group, deadline in self.it.deadlines.items():
             self.add(deadline, "deadline", group)
         for name, phase in self.phases.items():
-            if phase == RUNNING:
+            if phase == Phase.RUNNING:
                 self.go_on(name)
         for name, phase in self.phases.items():
-            if phase in OPEN and phase != RUNNING:
+            if phase in OPEN and phase != Phase.RUNNING:
                 self.expect(self.jobs.all[name])
         self.start()
         while self.events and self.open:
@@ -152,7 +151,7 @@ class Play:
         elif self.phases[of] in OPEN:
             self.free.give_back(self.jobs.all[of])
             self.last, self.last_name = max(self.last, self.now), of
-            self.over(of, OK)
+            self.over(of, Phase.OK)
 
     def pass_deadline(self, group: str) -> None:
         """What hasn't begun of the group never begins, and what runs is stopped."""
@@ -162,9 +161,9 @@ class Play:
                 if name in self.begun:
                     self.free.give_back(self.jobs.all[name])
                     self.last, self.last_name = max(self.last, self.now), name
-                self.over(name, NEVER)
+                self.over(name, Phase.NOT_STARTED)
 
-    def over(self, name: Name, phase: str) -> None:
+    def over(self, name: Name, phase: Phase) -> None:
         """A command has ended, or never begins; what comes after it may be next."""
         its = [(name, phase)]
         while its:
@@ -182,7 +181,7 @@ class Play:
                     if not self.count[other]:
                         its += self.met(self.jobs.all[other])
 
-    def met(self, job: Job) -> list[tuple[Name, str]]:
+    def met(self, job: Job) -> list[tuple[Name, Phase]]:
         """All that a command comes after is over: it may begin, or never does."""
         how = self.fate(job)
         if how is not None:
@@ -194,17 +193,17 @@ class Play:
             self.ready.add(job)
         return []
 
-    def fate(self, job: Job) -> str | None:
+    def fate(self, job: Job) -> Phase | None:
         """How a command stands that never begins; None if it may."""
         if job.group in self.passed and not job.cleans_up:
-            return NEVER
+            return Phase.NOT_STARTED
         for it in job.after:
             its = self.jobs.members[it.of] if isinstance(it.of, str) else [it.of]
-            has_failed = [name for name in its if self.phases[name] == FAILED]
+            has_failed = [name for name in its if self.phases[name] == Phase.FAILED]
             if it.when == "failed" and not has_failed:
-                return NOT_NEEDED
+                return Phase.NOT_NEEDED
             if it.when == "well" and any(self.phases[name] not in WELL for name in its):
-                return NEVER
+                return Phase.NOT_STARTED
         return None
 
     # --- what begins
@@ -290,7 +289,7 @@ class Ready:
         rank = -self.jobs.priority(job.group), -job.priority, self.numbers[job.name]
         heapq.heappush(self.rows[job.group, job.uses], rank)
 
-    def next(self, free: Room, phases: Mapping[Name, str]) -> Job | None:
+    def next(self, free: Room, phases: Mapping[Name, Phase]) -> Job | None:
         """Takes the first one that there is room for."""
         if free.places <= 0:
             return None

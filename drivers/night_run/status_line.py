@@ -17,10 +17,9 @@ from .executor import Executor
 from .facts import Facts
 from .files import Files
 from .jobs import Jobs
+from .phases import Phase
 from .planner import Planner
 from .report_words import span
-from .rows import LEFT_OUT, NOT_DUE
-from .standing import CANCELLED, FAILED, NEVER, OK, RUNNING, WAITING
 from .status_forecast import Forecast, Moment, forecast, retry_due
 from .status_screen import ending
 from .status_times import usual_times
@@ -61,7 +60,7 @@ def moment_of(course: Course, running: dict[Name, float], now: float) -> Moment:
     """What the driver knows now."""
     facts, jobs = course.facts, course.jobs
     phases = phases_of(jobs, facts, course.planner)
-    due = {name: at for name in facts.ends if phases.get(name) == WAITING
+    due = {name: at for name in facts.ends if phases.get(name) == Phase.WAITING
            and (at := retry_due(jobs.all[name], facts)) is not None}
     deadlines = {group: float(it.deadline) for group, it in course.book.scopes.items()
                  if it.deadline is not None and group not in facts.done and group in jobs.members}
@@ -69,32 +68,32 @@ def moment_of(course: Course, running: dict[Name, float], now: float) -> Moment:
     return Moment(now, most, phases, running, due, deadlines)
 
 
-def phases_of(jobs: Jobs, facts: Facts, planner: Planner) -> dict[Name, str]:
+def phases_of(jobs: Jobs, facts: Facts, planner: Planner) -> dict[Name, Phase]:
     """How each command stands, as far as the driver knows without asking."""
-    found: dict[Name, str] = {}
+    found: dict[Name, Phase] = {}
     stopped: set[str] = set()
     for name, job in jobs.all.items():
         end = facts.ends.get(name)
         is_due = job.is_due(facts.day) or name in facts.tonight.redo
         if name in facts.busy:
-            found[name] = RUNNING
+            found[name] = Phase.RUNNING
         elif end is None and not is_due:
-            found[name] = NOT_DUE
+            found[name] = Phase.NOT_DUE
         elif facts.is_left_out(name):
-            found[name] = LEFT_OUT
+            found[name] = Phase.LEFT_OUT
         elif end is None or end.is_ok:
-            found[name] = OK if end else WAITING
+            found[name] = Phase.OK if end else Phase.WAITING
         elif planner.has_failed(facts, job, end):
-            found[name] = CANCELLED if end.is_canceled else FAILED
+            found[name] = Phase.CANCELED if end.is_canceled else Phase.FAILED
             stopped |= {job.group} if jobs.stops(job.group) else set()
         else:
-            found[name] = WAITING
+            found[name] = Phase.WAITING
     for name, phase in found.items():
-        if phase == WAITING and not jobs.cleans_up(name):
+        if phase == Phase.WAITING and not jobs.cleans_up(name):
             if name[0] in facts.done:
-                found[name] = CANCELLED
+                found[name] = Phase.CANCELED
             elif name[0] in stopped:
-                found[name] = NEVER
+                found[name] = Phase.NOT_STARTED
     return found
 
 

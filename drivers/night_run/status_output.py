@@ -18,9 +18,9 @@ from .escapes import plain
 from .files import Files
 from .guesses import no_command
 from .jobs import Jobs
+from .phases import FINAL, Phase
 from .processes import lives
 from .rows import Row
-from .standing import FINAL, RUNNING
 from .status import Watcher, processes
 from .status_command import interrupted
 from .status_screen import cut
@@ -97,7 +97,7 @@ class Follower:
             while True:
                 it = self.asked.look()
                 self.begin(it)
-                if it.phase == RUNNING:
+                if it.phase == Phase.RUNNING:
                     self.go_on()
                     continue
                 self.take()

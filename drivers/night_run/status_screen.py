@@ -16,8 +16,8 @@ from dataclasses import dataclass
 
 from . import rows
 from .escapes import plain
+from .phases import FINAL, Phase
 from .report_words import clock, commands, in_words, line_shown, span
-from .standing import FAILED, FINAL
 from .status import Running, Status
 from .status_forecast import Forecast
 from .status_times import Usual
@@ -312,15 +312,15 @@ def usual_words(usual: Usual | None) -> str:
 def unwell_block(it: rows.Row, size: Size) -> Block:
     """A command that didn't end well: how, its last line, and the path of all of them."""
     why = plain(it.end)
-    if it.phase == FAILED:
+    if it.phase == Phase.FAILED:
         tries = f" in {len(it.tries)} tries" if len(it.tries) > 1 else ""
         shown = f"{why or it.phase}{tries}"
     else:
         shown = why if why.startswith(it.phase) else f"{it.phase}: {why}" if why else it.phase
     lines = wrapped(f"{it.group}/{it.key}  {shown}", size.columns)
-    if it.phase == FAILED and it.tail:
+    if it.phase == Phase.FAILED and it.tail:
         lines.append(cut(f"  | {line_shown(it.tail[-1]).expandtabs()}", size.columns))
-    return Block(lines, [f"  {plain(it.output)}"] if it.output and it.phase == FAILED else [])
+    return Block(lines, [f"  {plain(it.output)}"] if it.output and it.phase == Phase.FAILED else [])
 
 
 def waiting_blocks(its: Sequence[Waiting], size: Size) -> list[Block]:

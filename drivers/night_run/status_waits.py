@@ -8,8 +8,9 @@ from dataclasses import dataclass
 from . import Name
 from .facts import Facts
 from .jobs import Job, Jobs, Need
+from .phases import Phase
 from .report_words import clock
-from .standing import INTERRUPTED, RUNNING, WAITING, Standing
+from .standing import Standing
 from .status_forecast import Room, is_open, retry_due
 
 
@@ -44,7 +45,7 @@ class Waits:
         self.whys = {name: it.why for name, it in standings.items()}
         self.room = Room(self.jobs, run.most or 0)
         for name, phase in self.phases.items():
-            if phase == RUNNING:
+            if phase == Phase.RUNNING:
                 self.room.take(self.jobs.all[name])
         for group, _ in facts.busy - self.jobs.all.keys():
             self.room.take_place(group)
@@ -52,7 +53,7 @@ class Waits:
     def all(self) -> list[Waiting]:
         """Those that could begin at once come first, in the order in which they will."""
         its = [self.one(name) for name, phase in self.phases.items()
-               if phase in (WAITING, INTERRUPTED)]
+               if phase in (Phase.WAITING, Phase.INTERRUPTED)]
         ranks = {name: at for at, name in enumerate(self.jobs.all)}
 
         def rank(it: Waiting) -> tuple[bool, bool, int, int, int]:
@@ -67,13 +68,15 @@ class Waits:
     def one(self, name: Name) -> Waiting:
         job, due = self.jobs.all[name], self.due(name)
         why = self.reason(job, due)
-        if self.phases[name] == INTERRUPTED:
+        if self.phases[name] == Phase.INTERRUPTED:
             why = f"interrupted; {why}"
         return Waiting(*name, why, due)
 
     def due(self, name: Name) -> float | None:
         """When the retry of a command is due that has failed; None if none is waited for."""
-        return retry_due(self.jobs.all[name], self.facts) if self.phases[name] == WAITING else None
+        if self.phases[name] != Phase.WAITING:
+            return None
+        return retry_due(self.jobs.all[name], self.facts)
 
     def reason(self, job: Job, due: float | None) -> str:
         open_ones = [it for it in job.after if is_open(self.jobs, self.phases, it)]

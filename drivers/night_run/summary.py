@@ -9,10 +9,9 @@ from . import Name, rows
 from .ends import End
 from .jobs import Jobs
 from .log import Line, Tried, text_of_line
+from .phases import WELL, WHOLE, Phase
 from .report_words import commands, line_shown
 from .rounds import base_of
-from .rows import LEFT_OUT, NOT_DUE, NOT_NEEDED, WELL, WHOLE
-from .standing import CANCELLED, FAILED, NEVER, NOT_KNOWN, OK, WAITING
 
 # The counts of the last line, in order.
 KINDS = ("ok", "failed", "canceled", "not started", "left", "not known", "not needed", "not due",
@@ -31,13 +30,13 @@ def kind_of(phase: str) -> str:
 
 def how_it_stands(row: rows.Row) -> str:
     """How a command stands, in one line."""
-    if row.phase in (NEVER, NOT_NEEDED):
+    if row.phase in (Phase.NOT_STARTED, Phase.NOT_NEEDED):
         return f"{row.phase}, because {row.end}"
-    if row.phase == LEFT_OUT:
+    if row.phase == Phase.LEFT_OUT:
         return f"{row.phase} {row.end}"
-    if row.phase in (NOT_KNOWN, NOT_DUE):
+    if row.phase in (Phase.NOT_KNOWN, Phase.NOT_DUE):
         return f"{row.phase}: {row.end}"
-    if row.phase == WAITING and row.end:
+    if row.phase == Phase.WAITING and row.end:
         return f"{row.phase}: {retry(row.end)}"
     return row.end or row.phase
 
@@ -48,7 +47,8 @@ def retry(end: str) -> str:
 
 
 def list_lines(report: rows.Report) -> list[str]:
-    return [f"{it.group} {it.key}: {how_it_stands(it)}" for it in report.rows if it.phase != OK]
+    return [f"{it.group} {it.key}: {how_it_stands(it)}" for it in report.rows
+            if it.phase != Phase.OK]
 
 
 def failures(report: rows.Report) -> list[str]:
@@ -57,7 +57,7 @@ def failures(report: rows.Report) -> list[str]:
     for it in report.rows:
         if it.phase in WHOLE:
             continue
-        is_shown = it.output and it.phase in (FAILED, CANCELLED)
+        is_shown = it.output and it.phase in (Phase.FAILED, Phase.CANCELED)
         where = f"; {it.output}" if is_shown else ""
         lines.append(f"{it.group} {it.key}: {how_it_stands(it)}{where}")
         lines += [f"    {line_shown(line)}" for line in (it.tail if is_shown else ())]
@@ -70,7 +70,7 @@ def changed(jobs: Jobs, report: rows.Report, lines: Mapping[Tried, Line]) -> lis
            for (group, key, _), line in lines.items() if line.end.is_ok and line.command != "-"}
     return [f"{it.group} {it.key}: its command has changed since it ended; --redo"
             f" {it.group}/{it.key} runs it again"
-            for it in report.rows if it.phase == OK
+            for it in report.rows if it.phase == Phase.OK
             and had.get((it.group, it.key), None) not in (None, text_of_line(it.command))]
 
 
@@ -99,7 +99,7 @@ def is_whole(report: rows.Report) -> bool:
 
 
 def failed_count(report: rows.Report) -> int:
-    return sum(it.phase in (FAILED, CANCELLED, NEVER) for it in report.rows)
+    return sum(it.phase in (Phase.FAILED, Phase.CANCELED, Phase.NOT_STARTED) for it in report.rows)
 
 
 def left_count(report: rows.Report) -> int:

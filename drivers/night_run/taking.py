@@ -19,11 +19,11 @@ from .ends import canceled
 from .facts import Book, Facts, reopened_groups
 from .past import Past
 from .petitions import FAILED, REFUSED, Petition, Petitions
+from .phases import Phase
 from .report_words import moment
 from .rounds import Round
-from .rows import NOT_DUE
 from .settings import OF_ALL
-from .standing import WAITING, Standing, groups_left
+from .standing import Standing, groups_left
 from .telling import error_text, note, tell
 from .tonight import Tonight, write_notes
 from .wants import By, Verb, Want
@@ -193,7 +193,8 @@ def fresh_night(jobs: Jobs, number: int) -> Night:
     """A night of which nothing has begun, and which begins today."""
     day = datetime.date.today() if jobs.has_days else None
     return Night(jobs, Book(number, Round()), Facts(day=day), {
-        name: Standing(WAITING if job.is_due(day) else NOT_DUE) for name, job in jobs.all.items()})
+        name: Standing(Phase.WAITING if job.is_due(day) else Phase.NOT_DUE)
+        for name, job in jobs.all.items()})
 
 
 # --- as a run begins

@@ -17,11 +17,12 @@ from .log import Line, Tried, read_log
 from .nights import know_day, read_nights
 from .opening import check, inspected
 from .past import Past, read_past
+from .phases import Phase
 from .planner import Planner
 from .processes import Process, this_process
 from .rounds import base_of
 from .settings import OF_ALL
-from .standing import NOT_KNOWN, Standing
+from .standing import Standing
 from .state import State
 from .tries import Named, running_now
 
@@ -128,7 +129,7 @@ def without_past(files: Files, planner: Planner, why: str) -> rows.Report:
     known = {*view.facts.ends, *view.facts.interrupted, *view.facts.busy}
     made = report(files, planner.jobs, view)
     return replace(made, rows=tuple(
-        it if (it.group, it.key) in known else replace(it, phase=NOT_KNOWN, end=why)
+        it if (it.group, it.key) in known else replace(it, phase=Phase.NOT_KNOWN, end=why)
         for it in made.rows))
 
 
