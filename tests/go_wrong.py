@@ -78,6 +78,12 @@ WRONGS = {
         "doesn't say that a task was abandoned", "group.go",
         "row.phase == phaseInterrupted && !g.called[named.key] {",
         "row.phase == phaseInterrupted && g.called[named.key] {", "TestAbandoned"),
+    "exits": Wrong(
+        "waits for a function that has ended its goroutine", "command.go",
+        "		c.group.s.takeEnd(c, nil, ErrGoexit)\n", "", "TestGoexit"),
+    "panics": Wrong(
+        "takes a panic for a failure", "command.go",
+        "			panic(why)\n", "			_ = why\n", "TestAPanicIsntRecorded"),
     "shares": Wrong(
         "opens a store that another program has", "lock.go",
         "syscall.LOCK_EX|syscall.LOCK_NB", "syscall.LOCK_UN", "TestAnotherRunHasTheLock"),

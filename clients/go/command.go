@@ -47,8 +47,25 @@ func (c *command) work() {
 	if why != nil {
 		cancel(why)
 	}
-	result, err := c.run(context.WithValue(ctx, commandKey{}, c))
-	s.takeEnd(c, result, err)
+	c.call(context.WithValue(ctx, commandKey{}, c))
+}
+
+// call calls the function, and takes its end. One that ends its goroutine has failed. A panic is no
+// end: it goes on with its stack, and ends the program.
+func (c *command) call(ctx context.Context) {
+	hasReturned := false
+	defer func() {
+		if hasReturned {
+			return
+		}
+		if why := recover(); why != nil {
+			panic(why)
+		}
+		c.group.s.takeEnd(c, nil, ErrGoexit)
+	}()
+	result, err := c.run(ctx)
+	hasReturned = true
+	c.group.s.takeEnd(c, result, err)
 }
 
 // takeEnd takes the end of a function. An error that comes after the end of this run, or of a

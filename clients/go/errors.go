@@ -12,6 +12,9 @@ var (
 	ErrAbandoned = errors.New("pokhnier: interrupted tasks weren't called again")
 	// ErrFull says that the store has no room left for another task.
 	ErrFull = errors.New("pokhnier: the store is full")
+	// ErrGoexit says that a function ended its goroutine with runtime.Goexit, as t.FailNow does, and
+	// so returned nothing. Its task has failed.
+	ErrGoexit = errors.New("pokhnier: the function called runtime.Goexit")
 	// ErrInterrupted says that this run of the program ends, by Close or by the context that was
 	// given to Open. What it left undone is no failure: the next run takes it up.
 	ErrInterrupted = errors.New("pokhnier: this run was interrupted")
