@@ -592,6 +592,47 @@ def full_and_set_back(tries: Shared) -> None:
     on_full_disk(tries, kind, part, "16m")
 
 
+def canceled_as_replaced(tries: Shared) -> None:
+    """A run that waits for room to replace the store answers cancels meanwhile, and what it has
+    answered holds once it has room."""
+    kind = "a cancel as a store waits to be replaced"
+
+    def part(room: Room) -> None:
+        room.set([job("g", "first"), "g a echo g.a >> begun; sleep 100", "g b echo g.b >> begun",
+                  "g b: after a", "h c echo h.c >> begun", "h c: after g", "i d echo i.d >> begun",
+                  "i d: after g/first"])
+        run = room.start("m/s", "JOBS", "-j", "1", "--again")
+        room.until(lambda: "g.a" in room.lines("begun"))
+        hit(run, "all")
+        room.ended(run)
+        room.settle()
+        ran = tries.run("script", f"{room.path}/m/s",
+                        lines=[f"advance {int(time.time()) + 86_400}", "flush"])
+        tries.is_same(f"{kind}: its clock is ahead", room.path, ran.status, 0)
+        fill(f"{room.path}/m")
+        os.truncate(f"{room.path}/m/hog", os.path.getsize(f"{room.path}/m/hog") - (1 << 16))
+        run = room.start("m/s", "JOBS", "--quiet")
+        tries.holds(f"{kind}: it waits", room.path, room.until(
+            lambda: "commands are started later" in room.text("errors"), 30), room.text("errors"))
+        for words, wanted in (
+                (["g/a", "not", "tonight"], (0, "g/a: canceled: not tonight\n", "")),
+                (["h", "by", "Anna"], (0, "h: canceled: by Anna\n", "")),
+                (["g/z"], (2, "", "g has no command z\n")), (["z"], (2, "", "s has no group z\n"))):
+            status, output = room.run("m/s", "--cancel", *words, seconds=30, errors="said")
+            said = re.sub("^night-run: (/.*/)?", "", room.text("said"))
+            tries.is_same(f"{kind}: {' '.join(words)}", room.path, (status, output, said), wanted)
+        tries.is_same(f"{kind}: it goes on waiting", room.path, run.poll(), None)
+        os.remove(f"{room.path}/m/hog")
+        status, output = room.ended(run)
+        tries.is_same(kind, room.path, (status, room.begun()),
+                      (1, {"g.first": 2, "g.a": 1, "i.d": 1}))
+        tries.is_same(f"{kind}: the reasons", room.path, [
+            it.partition(";")[0] for it in output.splitlines() if it.startswith(("g a:", "h c:"))],
+            ["g a: canceled: not tonight", "h c: canceled: by Anna"])
+
+    on_full_disk(tries, kind, part, "16m")
+
+
 def full_at_first(tries: Shared) -> None:
     """A night that begins while the disk is full waits for room."""
     kind = "a disk that is full from the first moment"
@@ -703,5 +744,6 @@ def renewed_badly(tries: Shared) -> None:
 
 TRIES = [outlived, counted_once, began_then, outlived_twice, of_its_shell, passed_meanwhile,
          many_left, limited, keeps, cut_off, of_others, forged, another_process, given,
-         full_at_first, full_and_set_back, fails_on_full_disk, never_began, ends_on_full_disk,
+         full_at_first, full_and_set_back, canceled_as_replaced, fails_on_full_disk, never_began,
+         ends_on_full_disk,
          torn_far, renewed_badly]

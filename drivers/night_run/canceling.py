@@ -1,5 +1,5 @@
 """What `--cancel` does. If a driver is active, it is asked to cancel (`cancels`); otherwise the
-cancel is done here.
+cancel is done here. A driver that has no session yet does it in the same way.
 
 A group, or all groups together, is a scope of the store, and that scope is canceled. A command has
 no scope: a task of it is made, and ends as canceled before it begins. `--failed` runs again
@@ -13,7 +13,7 @@ import errno
 import os
 import re
 import time
-from collections.abc import Iterator
+from collections.abc import Callable, Iterator
 from dataclasses import dataclass
 
 from . import Fault, Mistake, Name, cancels
@@ -22,7 +22,7 @@ from .facts import book_of, facts_of
 from .files import Files
 from .guesses import no_command, no_group
 from .jobs import Jobs
-from .night import ALREADY_DONE, FULL, Session, refusal
+from .night import ALREADY_DONE, FULL, NightEnded, Session, refusal
 from .opening import advance, inspected, now_of, opened, withdraw
 from .parsing import check_group, check_key
 from .past import read_past
@@ -34,7 +34,7 @@ from .settings import OF_ALL
 from .state import JOB
 from .status_plan import names_of_plan
 from .strangers import keep_out
-from .telling import note
+from .telling import error_text, note
 from .tries import running_now
 
 BY_HAND = "by hand"
@@ -83,7 +83,8 @@ def cancel(files: Files, jobs: str | None, word: str, *words: str) -> str:
     why = " ".join(words) or BY_HAND
     if text_of(why) != why:
         raise Mistake("WHY is 1 to 64 bytes of printable ASCII")
-    return f"{target}: {in_words(cancelled(files, jobs, target, why))}"
+    its = (lambda: Jobs(jobs)) if jobs is not None else None
+    return f"{target}: {in_words(cancelled(files, its, target, why))}"
 
 
 def in_words(state: str) -> str:
@@ -96,10 +97,29 @@ def in_words(state: str) -> str:
     return f"{how}: {found[2]}"
 
 
-def cancelled(files: Files, jobs: str | None, target: Target, why: str) -> str:
+def obeys(files: Files, jobs: Jobs) -> bool:
+    """Obeys the cancels that this driver is asked for before it has a session; whether there are
+    any."""
+    desk = cancels.Desk(files)
+    requests = desk.requests()
+    for it in requests:
+        desk.answer({it: answer_to(files, jobs, it)})
+    return bool(requests)
+
+
+def answer_to(files: Files, jobs: Jobs, it: cancels.Request) -> str:
+    try:
+        return Alone(files, lambda: jobs).cancel(Target(it.group, it.key), it.why)
+    except OSError as error:
+        return f"{cancels.REFUSED}{error_text(error)}"
+    except (Mistake, Fault, NightEnded) as why:
+        return f"{cancels.REFUSED}{why}"
+
+
+def cancelled(files: Files, jobs: Callable[[], Jobs] | None, target: Target, why: str) -> str:
     """How it is, once it is canceled."""
     if files.lock.take_for_cancel():
-        return Alone(files, jobs).cancel(target, why)
+        return cancelled_alone(files, jobs, target, why)
     request = cancels.ask(files, target.group, target.key, why)
     end = time.monotonic() + SECONDS
     try:
@@ -113,7 +133,7 @@ def cancelled(files: Files, jobs: str | None, target: Target, why: str) -> str:
                 return answer
             if files.lock.take_for_cancel():
                 # (its driver has ended)
-                return Alone(files, jobs).cancel(target, why)
+                return cancelled_alone(files, jobs, target, why)
             time.sleep(LOOK)
     finally:
         cancels.withdraw(files, request.name)
@@ -126,10 +146,20 @@ def cancelled(files: Files, jobs: str | None, target: Target, why: str) -> str:
                 f" {target} is not canceled")
 
 
-class Alone:
-    """A cancel where no driver runs."""
+def cancelled_alone(files: Files, jobs: Callable[[], Jobs] | None, target: Target,
+                    why: str) -> str:
+    """The same where no driver runs."""
+    found = Alone(files, jobs).cancel(target, why)
+    for name in sorted({it.name for it in running_now(files)}):
+        if name == target.name or not target.key and target.group in (OF_ALL, name[0]):
+            note(f"{' '.join(name)} still runs from the last run; the next one stops it")
+    return found
 
-    def __init__(self, files: Files, jobs: str | None) -> None:
+
+class Alone:
+    """A cancel where nobody has a session. `jobs` reads the file of commands, if it is known."""
+
+    def __init__(self, files: Files, jobs: Callable[[], Jobs] | None) -> None:
         self.files, self.jobs = files, jobs
         self.past = read_past(files)
         self.state = inspected(files)
@@ -144,12 +174,8 @@ class Alone:
         if top and role_name(top.name, Role.ENDED) in self.state.by_name:
             raise Mistake(f"{self.files.shown}: night {self.night} has ended, and nothing of it is"
                           " left to cancel")
-        found = self.command(target, why, scope.name) if target.key else \
+        return self.command(target, why, scope.name) if target.key else \
             self.group(target.group, why, scope.name)
-        for name in sorted({it.name for it in running_now(self.files)}):
-            if name == target.name or not target.key and target.group in (OF_ALL, name[0]):
-                note(f"{' '.join(name)} still runs from the last run; the next one stops it")
-        return found
 
     def group(self, group: str, why: str, scope: str) -> str:
         key = why.partition(" ")[0]
@@ -167,18 +193,19 @@ class Alone:
         if self.jobs is not None:
             # (what is wrong in the file keeps no group from being canceled)
             with contextlib.suppress(Mistake):
-                found |= {key for it, key in Jobs(self.jobs).all if it == group}
+                found |= {key for it, key in self.jobs().all if it == group}
         return found
 
     def command(self, target: Target, why: str, scope: str) -> str:
         if self.jobs is None:
             raise Mistake(f"no night-run runs: night-run {self.files.shown} JOBS --cancel {target}"
                           " cancels this command, by its file of commands")
-        jobs = Jobs(self.jobs)
+        jobs = self.jobs()
         if target.name not in jobs.all:
             raise Mistake(no_command(target.group, target.key, jobs.all))
         facts = facts_of(self.state, self.past, {}, self.book, time.time(), {})
-        found = Planner(jobs).standings(facts)[target.name]
+        with contextlib.closing(Planner(jobs)) as planner:
+            found = planner.standings(facts)[target.name]
         if found.phase == Phase.CANCELED:
             return found.why
         if found.is_final:

@@ -122,6 +122,13 @@ class Files:
         """A part that is a folder."""
         return self.folder.folder(self.name(part), make)
 
+    def may_have_room(self, size: int) -> bool:
+        """Whether the disk may have room for a file of this size. Of one that counts no blocks, or
+        counts them for each user, that isn't known."""
+        found = os.fstatvfs(self.folder.file)
+        free = found.f_bavail if os.geteuid() else found.f_bfree
+        return not found.f_blocks or free * found.f_frsize >= size
+
     # --- the store
 
     def exists(self) -> bool:

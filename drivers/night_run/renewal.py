@@ -148,27 +148,32 @@ def format_new(files: Files) -> None:
 
 
 def replace_store(files: Files, log: Log, past: Past, state: State, ahead: int, catch_up: CatchUp,
-                  signals: Signals) -> Past:
+                  signals: Signals, obeys: Callable[[], bool]) -> Past:
     """Makes another store in the place of one whose clock is ahead, since no clock of a store goes
     back: each deadline there would have passed. What has ended is kept. On a full disk it waits for
-    room, without which no command begins either, or until a signal comes."""
+    room, without which no command begins either, or until a signal comes. Meanwhile it obeys
+    cancels, which the old store has room for; `obeys` says whether there were any."""
     note(f"{files.shown}: its clock is {ahead} s ahead of the machine's; a new store replaces"
          f" it, and {files.shown}.ended keeps how commands have ended")
-    holding = Holding()
+    holding, why = Holding(), ""
     while True:
         try:
-            kept = keep(files, log, past, state, 0, catch_up)
-            make(files)
-            return kept
+            if not why or files.may_have_room(SIZES[0]):
+                kept = keep(files, log, past, state, 0, catch_up)
+                make(files)
+                return kept
         except (OSError, NightEnded) as error:
             why = lack_of_room(error)
             if not why:
                 raise
+            files.remove(Part.MAKING)  # (a request needs a little of that room)
         holding.hold(f"{files.shown}: {why}")
         signals.wait(SECONDS)
         signals.drain()
         if signals.steps:
             raise KeyboardInterrupt
+        if obeys():
+            state = inspected(files)
 
 
 def lack_of_room(error: OSError | NightEnded) -> str:

@@ -21,7 +21,7 @@ from typing import NoReturn
 from . import (Fault, Mistake, Name, cancels, clock, descriptors, early, exits, foreign,
                raised, rows, status_command, status_output, strangers, telling)
 from .beside import Part, Umask
-from .canceling import cancel
+from .canceling import cancel, obeys
 from .changes import Night
 from .counted import Counted
 from .exits import Hooks, Outcome, hooks_of, outcome_of
@@ -679,8 +679,9 @@ class Run:
             note(f"this machine's clock shows {clock.shown()}, and so isn't set: the deadlines of"
                  " this night wait until it is")
         elif ahead > MOST_AHEAD:
-            driver.course.past = replace_store(self.files, self.log, self.past, state, ahead,
-                                               driver.executor.catch_up, self.signals)
+            driver.course.past = replace_store(
+                self.files, self.log, self.past, state, ahead, driver.executor.catch_up,
+                self.signals, lambda: obeys(self.files, self.jobs))
             self.files.lock.sign()
             return None
         if state.is_nearly_full():
