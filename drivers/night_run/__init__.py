@@ -1,37 +1,63 @@
 """Runs shell commands as the tasks of a store of `night`, over runs of `night script`.
 
+What the command line and the file of commands ask for:
+
     words      the command line                    jobs        the file of commands
     lines      of that file, and what it includes  lists       lines that stand for several
     parsing    commands and settings of the lines  settings    each setting
     reading    the words of a line                 ordering    what comes after what
-    state      what `inspect --json` prints        facts       what a night has so far
-    planner    what may be begun, by `night plan`  loop        the rules, and the loop
-    night      the program `night`                 opening     a session, made ready for the loop
-    commands   processes: begun, stopped, reaped   leftovers   those of a driver that was killed
-    far        commands that run elsewhere         outputs     what the commands print
-    wants      what an operator wants of a night besides the file of commands: petitions are
-               requests for that, and wanting asks; changes says what comes of it, tonight keeps
-               it, and taking has a driver do it
-    cancels    what another terminal asks for      renewal     of a store that is nearly full
-    files      what lies beside the store          past, log   two of these files
-    views      rows for a list and a report        summary     what is printed at the end
+    limits     what a command may use              days        on which days it is due
+
+What decides a night. The `loop` has it hear what executes, and give orders (`orders`):
+
+    decider    what ends, begins and stops         course      what is known of the night
+    starts     the tasks and the numbers of tries  capacity    whether the store has room
+    planner    what may be begun, by `night plan`: asking is that process, and plan_moments and
+               plan_pools write moments and limits for it
+    facts      what a night has so far             standing    how commands stand, in phases
+    obeying    the cancels that others ask for     taking      what operators want of it
+    counted    which earlier tries count           timing      when deadlines pass, and the clock
+    changes    what comes of a wish: wants says what these are, petitions are requests for them,
+               and wanting asks; tonight keeps what is wanted
+
+What is recorded:
+
+    sessions   runs of `night script`: opening makes the store ready, scoping makes scopes, and
+               restarts says whether another one follows
+    night      the program `night`                 batches     lines that are sent together
+    state      what `inspect --json` prints        renewal     of a store that is nearly full
+    past       ends that a renewal gave back       keeping     what is kept of earlier nights
+    nights     when these began: STORE.nights      last_night  the `night` of a killed driver
+
+What executes it:
+
+    executor   what runs, by whomever begun        own         the commands of this driver
+    commands   a try of a job, and how it ended    beginnings  the shell that begins it
+    running    a session, and how it is stopped    stopping    what has to end
+    leftovers  those of a driver that was killed   far         commands that run elsewhere
+    tries      the files of tries                  outputs     what the commands print
+    recording  the lines of the log                holding     what keeps all from beginning
+    means      how limits are put on a command     used        what a try has used
+
+What is said of it:
+
     exits      the one way out of a run            alarms      what is run as a night ends
-    early      signals before a run listens        signals     what asks for the end
-    keeping    what is kept of earlier nights      nights      when these began: STORE.nights
-    asking     that process                        timing      when deadlines pass, and the clock
-    standing   how commands stand, in words
-    scoping    the scopes of an opening            stopping    what has to end
-    restarts   whether another `night` follows     sight       whether the store is in its place
-    batches    lines that are sent together        terminal    standard error, never waited for
-    mounts     looks that may never end            clock       whether the machine's is set
-    strangers  others who have the store open      foreign     files that aren't night-run's
-    limits     what a command may use              means       how that is put on it
-    used       what a try has used                 history     the last nights
-    raised     alarms that were given              descriptors how many files may be open
+    views      rows for a list and a report        summary     what is printed at the end
+    raised     alarms that were given              history     the last nights
+    terminal   standard error, never waited for
     status     how a night stands now: status_command prints it, status_screen lays it out, and
                status_output prints what commands print. status_plan is what the last run was to do,
                status_times how long commands usually take, status_forecast when a night will end,
                and status_line the line of progress
+
+And what all of these use:
+
+    files      what lies beside the store          beside      which opens each of these files
+    cancels    what another terminal asks for      signals     what asks for the end
+    early      signals before a run listens        sight       whether the store is in its place
+    mounts     looks that may never end            clock       whether the machine's is set
+    strangers  others who have the store open      foreign     files that aren't night-run's
+    processes  of this machine                     descriptors how many files may be open
 
 docs/pipe.md has the rules that keep it safe, and docs/troubles.md its limits.
 """
