@@ -745,5 +745,4 @@ def renewed_badly(tries: Shared) -> None:
 TRIES = [outlived, counted_once, began_then, outlived_twice, of_its_shell, passed_meanwhile,
          many_left, limited, keeps, cut_off, of_others, forged, another_process, given,
          full_at_first, full_and_set_back, canceled_as_replaced, fails_on_full_disk, never_began,
-         ends_on_full_disk,
-         torn_far, renewed_badly]
+         ends_on_full_disk, torn_far, renewed_badly]

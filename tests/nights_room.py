@@ -1,23 +1,19 @@
 """A folder with a file of commands, a store and drivers over it, and what is done to them."""
 
 import compileall
-import fcntl
-import hashlib
 import multiprocessing
 import os
 import random
 import shutil
-import signal
 import subprocess
 import tempfile
 import time
 from collections.abc import Callable, Iterable
 from concurrent.futures import ProcessPoolExecutor
 from dataclasses import dataclass
-from typing import Any
 
-from by_hand import Store
-from driver_room import children
+from nights_folder import Folder
+from nights_hits import hit
 from nights_oracle import Cancel, Run, Seen, Stop, read_acked, read_trace
 from nights_pace import Pace
 from nights_plan import SECRET, Plan
@@ -90,12 +86,13 @@ def workers(count: int) -> ProcessPoolExecutor:
     return ProcessPoolExecutor(count, multiprocessing.get_context("fork"), PACE.start)
 
 
-class Room:
-    """A folder in which a night runs."""
+class Room(Folder):
+    """A night's folder, and what runs in it and is seen there."""
 
     def __init__(self, tools: Tools, plan: Plan, dice: random.Random) -> None:
+        super().__init__(tempfile.mkdtemp(prefix="room-", dir=tools.folder))
         self.tools, self.plan, self.dice = tools, plan, dice
-        self.path = tempfile.mkdtemp(prefix="room-", dir=tools.folder)
+        self.begun = 0  # how much was written as the night that is played began
         for it in ("locks", "tries", "in", "x"):
             os.mkdir(f"{self.path}/{it}")
         os.symlink("../s", f"{self.path}/x/s")
@@ -114,37 +111,11 @@ class Room:
         self.limits = {it.name: it.limit for it in plan.groups.values() if it.limit is not None}
         self.bound()
         if plan.filled:
-            self.fill(plan.filled)
+            self.fill(plan.filled, f"{tools.folder}/night.real")
 
-    # --- files
-
-    def fill(self, count: int) -> None:
-        """Makes a small store, in which this many tasks of a night have ended."""
-        store = Store(False)
-        store.made()
-        with open(f"{self.path}/s", "wb") as file:
-            file.write(bytes(store.bytes))
-        os.chmod(f"{self.path}/s", 0o600)
-        lines = ["derive night root cause", "derive f night cause", "bare f f"]
-        for it in range(count):
-            lines += [f"go f sh f{it}", "start", f"finish {it} ok"]
-        subprocess.run([f"{self.tools.folder}/night.real", "script", f"{self.path}/s"], check=True,
-                       input="".join(f"{it}\n" for it in lines), text=True, capture_output=True)
-
-    def write(self, name: str, text: str) -> None:
-        with open(f"{self.path}/.new", "w", encoding="utf-8") as file:
-            file.write(text)
-        os.rename(f"{self.path}/.new", f"{self.path}/{name}")
-
-    def text(self, name: str) -> str:
-        try:
-            with open(f"{self.path}/{name}", encoding="utf-8", errors="replace") as file:
-                return file.read()
-        except (FileNotFoundError, IsADirectoryError):  # (that of a damaged log)
-            return ""
-
-    def trace_size(self) -> int:
-        return size_of(f"{self.path}/trace")
+    def has_begun(self) -> bool:
+        """Whether something of this night has begun, so that it is what a cancel is of."""
+        return self.trace_size() > self.begun
 
     def bound(self) -> None:
         """Writes down for the commands how many of them may run at a time."""
@@ -279,95 +250,3 @@ class Room:
         read_trace(seen, f"{self.path}/trace")
         read_acked(seen, f"{self.path}/acked")
         return seen
-
-    def snapshot(self) -> dict[str, tuple[int, int, str]]:
-        """Each file of the store's, with its times and its bytes."""
-        found = {}
-        for folder, _, files in os.walk(self.path):
-            for name in (*files, "."):
-                path = os.path.join(folder, name)
-                at = os.stat(path, follow_symlinks=False)
-                is_ours = name.startswith("errors") or path == f"{self.path}/."
-                if not is_ours:
-                    found[path] = at.st_mtime_ns, at.st_ino, digest(path)
-        return found
-
-    def are_free(self) -> bool:
-        """Whether no command runs: each lock is free."""
-        for it in os.listdir(f"{self.path}/locks"):
-            if it.startswith("key."):
-                file = os.open(f"{self.path}/locks/{it}", os.O_RDONLY)
-                try:
-                    fcntl.flock(file, fcntl.LOCK_EX | fcntl.LOCK_NB)
-                except BlockingIOError:
-                    return False
-                finally:
-                    os.close(file)
-        return True
-
-    def processes(self) -> list[int]:
-        """The commands of this room that are there, and what they left."""
-        return [it for it in processes() if f"{self.path}\0" in command_line(it)]
-
-    def clear(self) -> None:
-        """Ends what is left of it."""
-        for it in self.processes():
-            kill(it)
-
-
-def digest(path: str) -> str:
-    if not os.path.isfile(path):
-        return ""
-    with open(path, "rb") as file:
-        return hashlib.sha256(file.read()).hexdigest()
-
-
-def size_of(path: str) -> int:
-    """The bytes of a file, 0 if there is none."""
-    try:
-        return os.path.getsize(path)
-    except FileNotFoundError:
-        return 0
-
-
-def processes() -> list[int]:
-    return [int(it) for it in os.listdir("/proc") if it.isdigit()]
-
-
-def command_line(pid: int) -> str:
-    try:
-        with open(f"/proc/{pid}/cmdline", encoding="utf-8", errors="replace") as file:
-            return file.read()
-    except OSError:
-        return ""
-
-
-def kill(pid: int, how: int = signal.SIGKILL) -> None:
-    try:
-        os.kill(pid, how)
-    except ProcessLookupError:
-        pass
-
-
-def kill_group(pid: int) -> None:
-    try:
-        os.killpg(pid, signal.SIGKILL)
-    except ProcessLookupError:
-        pass
-
-
-def hit(driver: subprocess.Popen[Any], who: str) -> int:
-    """Kills the driver, its `night`, both, all but the commands, or all. How many `night`s."""
-    if who in ("rest", "all"):
-        # (so that it begins no other)
-        kill(driver.pid, signal.SIGSTOP)
-    below = children(driver.pid) if who != "driver" else {}
-    nights = [it for it, name in below.items() if name in ("night", "night.real")]
-    if who != "night":
-        kill(driver.pid)
-    for it, name in below.items():
-        if it in nights or who in ("rest", "all") and name.startswith("python"):
-            kill(it)
-        elif who == "all":
-            kill_group(it)
-    return len(nights)

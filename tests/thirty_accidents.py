@@ -17,7 +17,8 @@ from collections.abc import Callable
 
 from driver_room import children
 from driver_tries import fill
-from nights_room import command_line, hit
+from nights_folder import command_line
+from nights_hits import hit
 from thirty_evening import AHEAD, Evening
 from thirty_oracle import Cancel, Redo, Skip, Stop, shown
 from thirty_plan import DAY, Command, Deadline, Plan, plan_of

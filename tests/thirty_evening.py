@@ -8,7 +8,7 @@ import time
 from collections.abc import Collection
 
 from nights_oracle import Try
-from nights_room import hit
+from nights_hits import hit
 from thirty_oracle import Facts, Stop
 from thirty_plan import Command, Name
 from thirty_room import JOBS, STORE, Room, Run, text_of

@@ -14,9 +14,11 @@ from collections.abc import Callable
 from dataclasses import dataclass, field
 from typing import Any
 
+from nights_folder import processes, size_of
+from nights_hits import hit
 from nights_oracle import Trace, trace_in
 from nights_pace import Pace
-from nights_room import SECONDS, TRACEBACK, Tools, hit, processes, size_of
+from nights_room import SECONDS, TRACEBACK, Tools
 from thirty_plan import ACT, GRACE, MOST, PAIRS, Act, Name, Plan
 
 # The size of the store's disk. A small one is filled sooner.
