@@ -1,12 +1,16 @@
 -- Nights that are opened in a store with the rows of two nights.
-use Rattle.std.specs.Prelude.{ℕ, List, [], ◌∷◌, Option, Some, None, codes}
+use Rattle.std.specs.Prelude.{ℕ, List, [], ◌∷◌, Option, Some, None, codes, fold}
 use Rattle.run_model.specs.declared.commands.Command.TheVariants as call
 use Rattle.run_model.specs.declared.commands.Step.{Step}
 use Rattle.run_model.specs.declared.commands.Step.TheVariants as step
 use Rattle.run_model.specs.declared.commands.Wish.TheVariants as wish
 use Rattle.run_model.specs.declared.layouts.Layout.TheVariants.{Small}
+use Rattle.run_model.specs.declared.scopes.Kind.TheVariants as kind
 use Rattle.run_model.specs.declared.tasks.Outcome.TheVariants as outcome
+use Rattle.run_model.specs.Event as event
 use Rattle.run_model.specs.Session.{Session, opened}
+use Rattle.run_model.specs.State.{State}
+use Rattle.run_model.specs.Step as change
 use Rattle.drive_nights.specs.declared.untils.Until.{Until}
 use Rattle.drive_nights.specs.Rooms.{derive}
 
@@ -51,6 +55,20 @@ third_night =
     ∷ step.Command (call.Bare (codes "tapes--3") (codes "tapes--3"))
     ∷ step.Flush ∷ []
 
+-- What is left of the first night is ended: a group and the top.
+abbrev pub end_of_first : List Step
+end_of_first =
+    step.Command (call.Wait (codes "disks"))
+    ∷ step.Command (call.Cancel (codes "night") (Some (codes "over"))) ∷ []
+
+-- The same of both nights.
+abbrev pub end_of_both : List Step
+end_of_both =
+    step.Command (call.Wait (codes "disks")) ∷ step.Command (call.Wait (codes "disks--2"))
+    ∷ step.Command (call.Wait (codes "tapes--2")) ∷ step.Command (call.Wait (codes "disks--2-2"))
+    ∷ step.Command (call.Cancel (codes "night") (Some (codes "over")))
+    ∷ step.Command (call.Cancel (codes "night--2") (Some (codes "over"))) ∷ []
+
 -- The first night of a new store, with a deadline for all groups together.
 abbrev pub first_night : List Step
 first_night =
@@ -66,3 +84,15 @@ first_night =
 -- A store that was just formatted and opened.
 abbrev pub new_store : Session
 new_store = opened Small
+
+-- A store whose first night has a deadline for all groups together, and no group.
+abbrev pub dated : State
+dated =
+    fold change.step new_store.state (event.Derive (codes "night--until") 0 (kind.Deadline 600 None)
+    ∷ event.Derive (codes "night") 1 kind.Cause ∷ [])
+
+-- The end of that night.
+abbrev pub end_of_dated : List Step
+end_of_dated =
+    step.Command (call.Cancel (codes "night") (Some (codes "over")))
+    ∷ step.Command (call.Cancel (codes "night--until") None) ∷ []

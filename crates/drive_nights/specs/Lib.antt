@@ -4,6 +4,7 @@ pub mod Nights
 pub mod Rooms
 pub mod Openings
 pub mod Marks
+pub mod Endings
 pub mod Effects
 pub mod Examples
 pub mod Resting

@@ -10,6 +10,8 @@ ghost use Rattle.run_model.specs.declared.commands.Wish.TheVariants as wish;
 ghost use Rattle.night_drive.specs.Examples.{two_nights};
 ghost use Rattle.drive_nights.specs.declared.names.Role.TheVariants as role;
 ghost use Rattle.drive_nights.specs.Effects.{IsOpening, is_kept};
+ghost use Rattle.drive_nights.specs.Endings.{endings_of};
+ghost use Rattle.drive_nights.specs.Examples.{dated, end_of_both, end_of_dated, end_of_first};
 ghost use Rattle.drive_nights.specs.Examples.{first_night, going_on, later_disks, new_store};
 ghost use Rattle.drive_nights.specs.Examples.{none_of_two, third_night, two_groups, until_of};
 ghost use Rattle.drive_nights.specs.Marks.{mark_of};
@@ -85,6 +87,16 @@ pub fn a_canceled_group_is_not_opened_again()
 /// The third night has scopes and groups of its own.
 pub fn another_night_begins()
     ensures { opening_of two_nights 3 two_groups none_of_two None ≡ third_night }
+{}
+
+/// In the second night, what is left of the first one is ended: its group is waited for, and its top
+/// is canceled. In a third night the same is done with the second one. A deadline of all groups
+/// together is canceled, too. A new store has nothing to end.
+pub fn older_nights_are_ended()
+    ensures second { endings_of two_nights 2 ≡ end_of_first }
+    ensures third { endings_of two_nights 3 ≡ end_of_both }
+    ensures dated { endings_of dated 2 ≡ end_of_dated }
+    ensures new { endings_of new_store.state 1 ≡ [] }
 {}
 
 /// In a new store the first night is opened, and no step is refused. The names of its scopes have

@@ -156,7 +156,7 @@ pub fn base_of<A: Allocator>(state: &State<A>, night: u64) -> Option<u16>
 }
 
 /// Returns whether a scope can be the base of a night.
-fn is_base<A: Allocator>(state: &State<A>, night: u64, s: u16) -> bool
+pub(crate) fn is_base<A: Allocator>(state: &State<A>, night: u64, s: u16) -> bool
     ensures { result ≡ is_base state.now night s }
 {
     match state.scopes().get(s as usize) {
@@ -202,7 +202,7 @@ fn is_same_text(text: Option<&Text>, night: u64) -> bool
 }
 
 /// Returns whether a scope belongs to this night.
-fn is_tonight<A: Allocator>(state: &State<A>, night: u64, s: u16) -> bool
+pub(crate) fn is_tonight<A: Allocator>(state: &State<A>, night: u64, s: u16) -> bool
     ensures { result ≡ is_same (night_of state.now s) (night_text night) }
 {
     is_same_text(state.value(s, &name_copy(b"night")).as_ref(), night)
@@ -220,7 +220,7 @@ pub fn top_above<A: Allocator>(state: &State<A>, night: u64, base: u16) -> u16
 }
 
 /// Returns the number of the scope above this one.
-fn parent_of<A: Allocator>(state: &State<A>, s: u16) -> u16
+pub(crate) fn parent_of<A: Allocator>(state: &State<A>, s: u16) -> u16
     ensures { result ≡ parent_of state.now s }
 {
     match state.scopes().get(s as usize) {

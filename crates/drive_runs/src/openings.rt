@@ -15,6 +15,7 @@ use crate::plays::play;
 use crate::sittings::Sitting;
 use crate::tries::try_name;
 use drive_lines::orders::Order;
+use drive_nights::endings::endings_of;
 use drive_nights::names::is_short;
 use drive_nights::openings::opening_of;
 use drive_steps::reported::Begun;
@@ -66,8 +67,26 @@ pub fn open_night<D: RunDisk, A: Allocator>(
         &sitting.all,
     )?;
     let replies = play(alloc, book, steps.as_slice())?;
-    let fault = first_fault(replies.as_slice());
+    let fault = match first_fault(replies.as_slice()) {
+        Some(fault) => Some(fault),
+        None => end_others(alloc, book, night)?,
+    };
     Ok(hindered_by(fault, book.state(), sitting))
+}
+
+/// Ends what is left of other nights, as far as the store has room for that. Returns a fault, if one
+/// is met.
+#[tactic(auto, using(crate::proofs::Moving::moves_none, crate::proofs::Moving::moves_then))]
+fn end_others<D: RunDisk, A: Allocator>(
+    alloc: Global,
+    book: &mut Book<D, A>,
+    night: u64,
+) -> Result<Option<Fault>, AllocError>
+    ensures { Moves D.state book.old book.new }
+{
+    let steps = endings_of(alloc, book.state(), night)?;
+    let replies = play(alloc, book, steps.as_slice())?;
+    Ok(first_fault(replies.as_slice()))
 }
 
 /// Returns what hinders a night: a fault, or that a group has no place in the store.
