@@ -1,5 +1,7 @@
 pub mod Opening
 pub mod Reading
+pub mod Indexing
+pub mod Tallying
 pub mod Searching
 pub mod Staying
 pub mod Turning

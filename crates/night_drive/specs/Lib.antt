@@ -2,6 +2,8 @@ pub mod Names
 pub mod Searches
 pub mod Tries
 pub mod Seen
+pub mod Index
+pub mod Tallies
 pub mod Openings
 pub mod Turns
 pub mod Distinct

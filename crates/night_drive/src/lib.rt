@@ -11,10 +11,13 @@
 
 pub mod ends;
 pub mod examples;
+mod index;
+mod keys;
 pub mod names;
 pub mod nights;
 pub mod openings;
 pub mod plan_turns;
 pub mod seen;
+mod tallies;
 pub mod tries;
 pub mod turns;

@@ -1,16 +1,17 @@
 //! The facts in a store about the commands and the groups of a plan, in one night.
 
-ghost use Rattle.std.specs.Prelude.{◌≡◌, ◌&&◌, IfOk, length};
-ghost use Rattle.run_model.specs.Tasks.{has_stage};
-ghost use Rattle.night_drive.specs.Searches.{count_below, last_below};
+ghost use Rattle.std.specs.Prelude.{◌≡◌, IfOk, length};
+ghost use Rattle.night_drive.specs.Searches.{last_below};
 ghost use Rattle.night_drive.specs.Seen.{AreKnownTo, AreNames, AreOverTo, IsSeen, is_try};
-ghost use Rattle.night_drive.specs.Seen.{known_of, moment_of, phase_after};
-ghost use Rattle.night_drive.specs.Tries.{has_failed};
+ghost use Rattle.night_drive.specs.Seen.{moment_of, phase_after};
+ghost use Rattle.night_drive.specs.Tallies.{known_by};
 
 use crate::ends::Ends;
+use crate::index::Index;
 use crate::names::Names;
 use crate::nights::{is_over, is_owned};
-use crate::tries::{counts, has_failed, phase_by};
+use crate::tallies::{Tally, tallies, tally_at};
+use crate::tries::{counts, phase_by};
 use night_plan::commands::Plan;
 use night_plan::facts::{Facts, Known, Phase};
 use run_model::{Name, Text, is_spelled};
@@ -49,11 +50,13 @@ fn all_known<A: Allocator>(
     ensures known { IfOk result (λ known. AreKnownTo (length plan.now.commands.items) state.now
         ends.now names.now plan.now.commands.items known.items) }
 {
+    let index = Index::of(alloc, plan, names)?;
+    let tallies = tallies(alloc, state, plan, names, &index)?;
     let mut known = Vec::new(alloc);
     for (c, command) in plan.commands.iter().enumerate() {
-        let group = &names.groups[command.group];
         let key = &names.keys[c];
-        known.push(known_of(state, ends, &names.night, group, key))?;
+        let tally = tally_at(tallies.as_slice(), &index, command.group, key);
+        known.push(known_by(state, ends, tally))?;
     }
     Ok(known)
 }
@@ -75,19 +78,13 @@ fn all_over<A: Allocator>(
     Ok(done)
 }
 
-/// Returns the facts about the command with this key, in a group of this name and in this night.
-pub fn known_of<A: Allocator>(
-    state: &State<A>,
-    ends: &Ends,
-    night: &Option<Text>,
-    group: &Name,
-    key: &Name,
-) -> Known
-    ensures { result ≡ known_of state.now (moment_of ends.now) night.now group.now key.now }
+/// Returns the facts about a command with this tally.
+fn known_by<A: Allocator>(state: &State<A>, ends: &Ends, tally: Tally) -> Known
+    ensures { result ≡ known_by state.now (moment_of ends.now) tally }
 {
     Known {
-        phase: phase_after(state, ends, last_try(state, night, group, key)),
-        failures: failures(state, night, group, key),
+        phase: phase_after(state, ends, tally.last),
+        failures: tally.failures,
         canceled: false,
     }
 }
@@ -111,34 +108,6 @@ pub fn last_try<A: Allocator>(
     last
 }
 
-/// Returns how many tries of a command have failed.
-fn failures<A: Allocator>(state: &State<A>, night: &Option<Text>, group: &Name, key: &Name) -> u32
-    ensures { result ≡ count_below (λ n. is_try state.now night.now group.now key.now n
-        && has_stage has_failed state.now.work n) (length state.now.work.tasks) }
-{
-    let mut count = 0;
-    for n in 0..state.task_count() as u16 {
-        if is_failed_try(state, night, group, key, n) {
-            count += 1;
-        }
-    }
-    count
-}
-
-/// Returns whether a task is a try of this command, and has failed.
-fn is_failed_try<A: Allocator>(
-    state: &State<A>,
-    night: &Option<Text>,
-    group: &Name,
-    key: &Name,
-    n: u16,
-) -> bool
-    ensures { result ≡ (is_try state.now night.now group.now key.now n
-        && has_stage has_failed state.now.work n) }
-{
-    is_try(state, night, group, key, n) && is_failure(state, n)
-}
-
 /// Returns whether a task is a try of this command.
 fn is_try<A: Allocator>(
     state: &State<A>,
@@ -155,16 +124,6 @@ fn is_try<A: Allocator>(
                 && counts(&task.stage)
                 && is_owned(state, night, group, task.group)
         }
-        None => false,
-    }
-}
-
-/// Returns whether a task has failed.
-fn is_failure<A: Allocator>(state: &State<A>, n: u16) -> bool
-    ensures { result ≡ has_stage has_failed state.now.work n }
-{
-    match state.groups().task_row(n) {
-        Some(task) => has_failed(&task.stage),
         None => false,
     }
 }
