@@ -1,16 +1,16 @@
 -- Tallies, in which one task after another is counted.
-use Rattle.std.proofs.Common.{◌≡◌, ◌≢◌, ◌<◌, ◌≤◌, ◌∙◌, ◌⊎◌, ℕ, zero, suc, ◌+◌, ◌==◌, ◌&&◌, nat_lt, min}
+use Rattle.std.proofs.Common.{◌≡◌, ◌≢◌, ◌<◌, ◌≤◌, ◌∙◌, ◌⊎◌, ℕ, zero, suc, ◌+◌, ◌==◌, ◌&&◌}
+use Rattle.std.proofs.Common.{nat_lt, min}
 use Rattle.std.proofs.Common.{Bool, true, false, cond, List, Option, Some, None, slice_get, length}
 use Rattle.std.proofs.Common.{IsSome}
 use Rattle.std.proofs.Common.{set, get_or, [], ◌∷◌, ◌++◌, inl, inr, ap, sym, refl, arith}
-use Rattle.std.proofs.lemmas.Bool.{and_right, false≢true, cases_Bool, cases_eq, cases_lt, eq-eqb, le-ltb}
-use Rattle.std.proofs.lemmas.Bool.{lt-ltb, ne_eqb}
+use Rattle.std.proofs.lemmas.Bool.{and_right, false≢true, cases_Bool, cases_eq, cases_lt}
+use Rattle.std.proofs.lemmas.Bool.{eq-eqb, le-ltb, lt-ltb, ne_eqb}
 use Rattle.std.proofs.lemmas.List.{length-map}
-use Rattle.std.proofs.lemmas.Option.{get_or_from_slice_get, none-some, same_Some, slice_get-map}
-use Rattle.std.proofs.lemmas.Option.{slice_get_past, slice_get_within}
+use Rattle.std.proofs.lemmas.Option.{get_or_from_slice_get, same_Some, slice_get-map}
+use Rattle.std.proofs.lemmas.Option.{slice_get_within}
 use Rattle.std.specs.Option.{option_map, option_map_or}
 use Rattle.std.specs.Str.{bytes_eq}
-use Rattle.run_model.specs.declared.groups.Group.{Group}
 use Rattle.run_model.specs.declared.tasks.Task.{Task}
 use Rattle.run_model.specs.State.{State}
 use Rattle.run_model.specs.Tasks.{has_stage}
@@ -22,7 +22,6 @@ use Rattle.night_drive.specs.declared.index.Index.{Index}
 use Rattle.night_drive.specs.declared.names.Names.{Names}
 use Rattle.night_drive.specs.declared.tallies.Tally.{Tally}
 use Rattle.night_drive.specs.Index.{found_in}
-use Rattle.night_drive.specs.Names.{belongs, is_same, night_of}
 use Rattle.night_drive.specs.Searches.{count_below, last_below}
 use Rattle.night_drive.specs.Seen.{AreKnownTo, is_owned, is_try, moment_of}
 use Rattle.night_drive.specs.Tallies.{AddsTo, AddsTry, AreOwners, AreTallies, CountsTask, IsApart}
@@ -33,25 +32,7 @@ use Rattle.night_drive.proofs.Reading.{known_more, longer, pushed}
 
 -- ---- one group of the plan
 
--- A group that doesn't own the task counts nothing.
-pub adds_none : (index : Index) (owns : Bool) (g : ℕ) (key : List ℕ) (n : ℕ) (failed : Bool)
-    (old : List Tally) → owns ≡ false → AddsTo index owns g key n failed old old
-adds_none index owns g key n failed old lacks h c other tally found there =
-    there ∙ ap (λ b. Some (counted (b && is_key g key h other) n failed tally)) (sym lacks)
-
--- Nor does a group that has no command with this key.
-pub adds_unfound : (index : Index) (owns : Bool) (g : ℕ) (key : List ℕ) (n : ℕ) (failed : Bool)
-    (old : List Tally) → found_in index g key ≡ None → AddsTo index owns g key n failed old old
-adds_unfound index owns g key n failed old none h c other tally found there =
-    elim (cases_Bool (is_key g key h other)) [
-      | inl same ↦
-          absurd (none-some c (sym none ∙ found_alike index g h key other same ∙ found))
-      | inr apart ↦
-          there ∙ ap (λ b. Some (counted b n failed tally))
-          (sym (and_right owns (is_key g key h other) apart))
-    ]
-
--- Otherwise its command has one try more.
+-- If a group owns the task, its command with this key has one try more.
 pub adds_found : (index : Index) (owns : Bool) (g : ℕ) (key : List ℕ) (n : ℕ) (failed : Bool)
     (old : List Tally) (c : ℕ) (tally : Tally) → IsApart index → owns ≡ true
     → found_in index g key ≡ Some c → slice_get old c ≡ Some tally
@@ -83,13 +64,6 @@ adds_found index owns g key n failed old c tally apart owned here is h d other t
     no_key (inr lacks) it = and_right owns (is_key g key h other) lacks
 
 -- ---- one group more
-
-pub try_none : (index : Index) (owners : List Bool) (key : List ℕ) (n : ℕ) (failed : Bool)
-    (old : List Tally) → AddsTry 0 index owners key n failed old old
-try_none index owners key n failed old h c other tally found there =
-    there
-    ∙ ap (λ b. Some (counted ((b && get_or owners h false) && bytes_eq key other) n failed tally))
-    (sym (le-ltb h 0 (omega arith)))
 
 -- What two groups count, one after the other.
 two_counted : (m h : ℕ) (owns o be : Bool) (n : ℕ) (failed : Bool) (tally : Tally)
@@ -131,14 +105,6 @@ try_more index owners owns m key n failed old mid new is before more h c other t
 
 -- ---- one task
 
--- A task that is no try of any command.
-pub task_uncounted : (p : State) (names : Names) (index : Index) (n : ℕ) (old : List Tally)
-    → ((group key : List ℕ) → is_try p names.night group key n ≡ false)
-    → CountsTask p names index n old old
-task_uncounted p names index n old none g c group key tally is found there =
-    there
-    ∙ ap (λ b. Some (counted b n (has_stage has_failed p.work n) tally)) (sym (none group key))
-
 -- Whether a task is a try, by its row.
 try_by : (p : State) (night : Option (List ℕ)) (group key : List ℕ) (n : ℕ) (task : Task)
     → slice_get p.work.tasks n ≡ Some task
@@ -147,41 +113,6 @@ try_by : (p : State) (night : Option (List ℕ)) (group key : List ℕ) (n : ℕ
 try_by p night group key n task row =
     ap (λ (o : Option Task). option_map_or (λ task. bytes_eq task.argument key
     && (counts task.stage && is_owned p night group task.group)) o false) row
-
-pub no_task : (p : State) (names : Names) (n : ℕ) → slice_get p.work.tasks n ≡ None
-    → (group key : List ℕ) → is_try p names.night group key n ≡ false
-no_task p names n row group key =
-    ap (λ (o : Option Task). option_map_or (λ task. bytes_eq task.argument key
-    && (counts task.stage && is_owned p names.night group task.group)) o false) row
-
-pub no_count : (p : State) (names : Names) (n : ℕ) (task : Task)
-    → slice_get p.work.tasks n ≡ Some task → counts task.stage ≡ false → (group key : List ℕ)
-    → is_try p names.night group key n ≡ false
-no_count p names n task row lacks group key =
-    try_by p names.night group key n task row
-    ∙ ap (λ b. bytes_eq task.argument key && (b && is_owned p names.night group task.group)) lacks
-    ∙ and_right (bytes_eq task.argument key) false refl
-
--- Nobody owns the tasks of a group that isn't there.
-pub no_owner : (p : State) (names : Names) (owners : List (List Bool)) (n : ℕ) (task : Task)
-    → AreOwners (length p.work.groups) p names owners → slice_get p.work.tasks n ≡ Some task
-    → slice_get owners task.group ≡ None → (group key : List ℕ)
-    → is_try p names.night group key n ≡ false
-no_owner p names owners n task all row none group key =
-    try_by p names.night group key n task row
-    ∙ ap (λ b. bytes_eq task.argument key && (counts task.stage && b))
-    (unowned (cases_lt task.group (length p.work.groups)))
-    ∙ ap (λ b. bytes_eq task.argument key && b) (and_right (counts task.stage) false refl)
-    ∙ and_right (bytes_eq task.argument key) false refl
-  where
-    unowned : (task.group < length p.work.groups) ⊎ (length p.work.groups ≤ task.group)
-        → is_owned p names.night group task.group ≡ false
-    unowned (inl less) =
-        absurd (none-some (owners_of p names task.group) (sym none ∙ all.1 task.group less))
-    unowned (inr past) =
-        ap (λ (o : Option Group). option_map_or (λ row. belongs group row.name
-        && is_same (night_of p row.scope) names.night) o false)
-        (slice_get_past p.work.groups task.group past)
 
 swapped : (a b : Bool) → (a && b) ≡ (b && a)
 swapped true true = refl
@@ -195,7 +126,8 @@ pub task_counted : (p : State) (names : Names) (index : Index) (row : List Bool)
     → counts task.stage ≡ true → row ≡ owners_of p names task.group
     → AddsTry (length row) index row task.argument n (has_failed task.stage) old new
     → CountsTask p names index n old new
-task_counted p names index row n task old new is holds own adds g c group key tally name found there =
+task_counted p names index row n task old new is holds own adds g c group key tally name found
+    there =
     adds g c key tally found there
     ∙ ap (λ b. Some (counted b n (has_failed task.stage) tally)) same
     ∙ ap (λ b. Some (counted (is_try p names.night group key n) n b tally)) (sym failed)
@@ -232,9 +164,6 @@ task_counted p names index row n task old new is holds own adds g c group key ta
         ∙ sym (try_by p names.night group key n task is)
 
 -- ---- the owners
-
-pub owners_none : (p : State) (names : Names) → AreOwners 0 p names []
-owners_none p names = (refl, λ h never. absurd (omega (arith, never)))
 
 pub owners_more : (p : State) (names : Names) (n : ℕ) (owners : List (List Bool)) (row : List Bool)
     → row ≡ owners_of p names n → AreOwners n p names owners
@@ -318,8 +247,8 @@ pub known_tallied : (p : State) (ends : Ends) (names : Names) (commands : List C
     → AreTallies (length p.work.tasks) p names index tallies
     → k ≡ known_by p (moment_of ends) tally → AreKnownTo n p ends names commands known
     → AreKnownTo (n + 1) p ends names commands (known ++ k ∷ [])
-known_tallied p ends names commands index tallies known n command key tally k sized is key_is own some
-    at all made before =
+known_tallied p ends names commands index tallies known n command key tally k sized is key_is own
+    some at all made before =
     let group : (x : List ℕ) × (slice_get names.groups.items command.group ≡ Some x) =
     row_at names.groups.items command.group own in
     let there : (d : ℕ) × (found_in index command.group key ≡ Some d) =

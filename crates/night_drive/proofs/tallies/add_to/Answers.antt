@@ -13,7 +13,7 @@ returns-clause-adds c =
     let at_c : slice_get old c.in-Some.c ≡ Some c.index-tally.result.now =
     read old c.in-Some.c c.index-tally.result.now
     (c.requires.within c.args.g c.in-Some.c c.args.key.now found) c.index-tally.ensures in
-    subst (λ (t : Tally). AddsTo index c.args.owns c.args.g c.args.key.now c.args.n c.args.failed old
-    (set old c.in-Some.c t)) (sym c.with_try.ensures)
+    subst (λ (t : Tally). AddsTo index c.args.owns c.args.g c.args.key.now c.args.n c.args.failed
+    old (set old c.in-Some.c t)) (sym c.with_try.ensures)
     (adds_found index c.args.owns c.args.g c.args.key.now c.args.n c.args.failed old c.in-Some.c
     c.index-tally.result.now c.requires.apart c.if-not-owns.false found at_c)

@@ -26,6 +26,6 @@ returns-clause-counts g c =
     task_counted p names c.args.index.now c.as_slice.result.now c.args.n task
     c.args.tallies.now.items c.add_try.new.tallies.items is
     (sym c.counts.ensures ∙ c.if-not-counts.false) (c.as_slice.ensures.value ∙ own)
-    (subst (λ (b : Bool). AddsTry (length c.as_slice.result.now) c.args.index.now c.as_slice.result.now task.argument c.args.n b
-    c.args.tallies.now.items c.add_try.new.tallies.items) c.has_failed-failed.ensures
-    c.add_try.ensures.adds)
+    (subst (λ (b : Bool). AddsTry (length c.as_slice.result.now) c.args.index.now
+    c.as_slice.result.now task.argument c.args.n b c.args.tallies.now.items
+    c.add_try.new.tallies.items) c.has_failed-failed.ensures c.add_try.ensures.adds)
