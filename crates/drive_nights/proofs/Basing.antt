@@ -92,7 +92,7 @@ unfolding digits
 one_spelled = refl
 
 -- The name of a top of the first night, in any round.
-first_top : (n k : ℕ) → 1 ≤ n → nat_le n 1 ≡ true
+pub first_top : (n k : ℕ) → 1 ≤ n → nat_le n 1 ≡ true
     → is_first_top (round_name (codes "night") n k) ≡ true
 first_top n k least is =
     subst (λ (m : ℕ). is_first_top (round_name (codes "night") m k) ≡ true) one

@@ -28,7 +28,7 @@ drop_all [] rest = refl
 drop_all (x ∷ xs) rest = drop_all xs rest
 
 -- What follows a group's name belongs to it.
-follows : (group rest : List ℕ) → is_round rest ≡ true → belongs group (group ++ rest) ≡ true
+pub follows : (group rest : List ℕ) → is_round rest ≡ true → belongs group (group ++ rest) ≡ true
 follows group rest round =
     and_from (begins (group ++ rest) group) (is_round (drop (length group) (group ++ rest)))
     (and_from (nat_le (length group) (length (group ++ rest)))

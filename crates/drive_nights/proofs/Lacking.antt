@@ -23,7 +23,7 @@ some_follow [] x e = cc
 some_follow (y ∷ xs) x e = cc
 
 -- A group without a step for its limit has none.
-no_limit : (row : Group) → unlimited row ≡ [] → is_none row.limit ≡ true
+pub no_limit : (row : Group) → unlimited row ≡ [] → is_none row.limit ≡ true
 no_limit row e = by_limit row.limit e
   where
     by_limit : (limit : Option ℕ)

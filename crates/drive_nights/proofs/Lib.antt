@@ -6,6 +6,10 @@ pub mod Belonging
 pub mod Withdrawing
 pub mod Placing
 pub mod Rooming
+pub mod Adding
+pub mod Founding
+pub mod Settling
+pub mod Resulting
 pub mod Basing
 pub mod Lacking
 pub mod Opening

@@ -1,13 +1,15 @@
 -- After its mark a night has ended.
 use Rattle.std.proofs.Common.{◌≡◌, ◌<◌, ◌∙◌, ◌&&◌, ◌||◌, ◌+◌, ℕ, suc, Bool, true, false, cond}
 use Rattle.std.proofs.Common.{List, [], ◌∷◌, Option, Some, None, length, length-append, slice_get}
-use Rattle.std.proofs.Common.{is_some, nat_le, codes, ap, refl, sym, subst, arith}
+use Rattle.std.proofs.Common.{is_some, nat_le, codes, ap, refl, sym, subst, arith, ◌⊎◌, ◌↔◌, inl}
+use Rattle.std.proofs.Common.{inr}
+use Rattle.std.specs.Prelude.{unwrap_or}
 use Rattle.std.proofs.Math.Bool.{or-true}
 use Rattle.std.proofs.lemmas.Bool.{and_parts, false≢true}
 use Rattle.std.proofs.lemmas.Option.{same_Some}
 use Rattle.std.specs.Fmt.{decimal}
 use Rattle.std.specs.Option.{option_and_then, option_map_or}
-use Rattle.run_model.proofs.RowLemmas.{slice_get-push_last}
+use Rattle.run_model.proofs.RowLemmas.{row_there, slice_get-push_last}
 use Rattle.run_model.specs.Allowed.{takes_cause}
 use Rattle.run_model.specs.declared.commands.Command.{Command}
 use Rattle.run_model.specs.declared.commands.Command.TheVariants as call
@@ -30,12 +32,12 @@ use Rattle.night_drive.specs.Names.{is_same, night_of}
 use Rattle.night_drive.specs.Searches.{last_below}
 use Rattle.night_drive.proofs.Searching.{last_alike_below, last_passes, last_within}
 use Rattle.drive_nights.specs.declared.names.Role.TheVariants as role
-use Rattle.drive_nights.specs.Effects.{MarksEnd, NightsGoOn, is_taken}
+use Rattle.drive_nights.specs.Effects.{IsClosed, MarksEnd, NightsEnd, NightsGoOn, is_taken}
 use Rattle.drive_nights.specs.Marks.{mark_at, mark_of}
 use Rattle.drive_nights.specs.Names.{role_name}
 use Rattle.drive_nights.specs.Nights.{base_of, is_base, is_base_row, is_ended, is_first_top}
 use Rattle.drive_nights.specs.Nights.{last_night, name_at}
-use Rattle.drive_nights.specs.Nights.{night_of_store, night_text, top_above}
+use Rattle.drive_nights.specs.Nights.{night_text, top_above}
 use Rattle.drive_nights.proofs.Making.{Grows, derive_grows}
 use Rattle.drive_nights.proofs.Placing.{derive_last, derived}
 use Rattle.drive_nights.proofs.Taking.{command_taken, consistent_after}
@@ -211,12 +213,22 @@ ended_so p n b s text consistent based after =
         (option_map_or (λ (row : Scope). row.parent) o 0))
         (grows.scopes b (has_top p n b consistent based).within)
 
+-- The scope of this name is the top.
+top_found : (p : State) (n b : ℕ) → IsConsistent p → base_of p n ≡ Some b
+    → scope_of p (name_at p (top_above p n b)) ≡ top_above p n b
+top_found p n b consistent based =
+    let top : ℕ = top_above p n b in
+    let row = row_there p.tree.scopes top (has_top p n b consistent based).top_within in
+    ap (λ (o : Option Scope). scope_of p (option_map_or (λ (x : Scope). x.name) o (codes "root")))
+    row.1
+    ∙ ap (λ (o : Option ℕ). unwrap_or o (length p.tree.scopes))
+    (place_of_name (λ (x : Scope). x.name) p.tree.scopes top row.0 consistent.numbered.scope_names
+    row.1)
+
 pub marks_end : MarksEnd
 marks_end s n mark it =
     subst (λ (x : Step). is_taken (reply_of_step s x) ≡ true
-    → (is_ended (after_step s x).state n ≡ true)
-    × (last_night s.state ≡ n → (next : Bool)
-    → night_of_store (after_step s x).state next ≡ n + 1)) (sym its.mark_is) by_call
+    → IsClosed s.state (after_step s x).state n) (sym its.mark_is) by_call
     (and_parts (is_taken (reply_of_step s mark)) true it.taken).0
   where
     p : State
@@ -231,17 +243,17 @@ marks_end s n mark it =
         (wish.Value (codes "ended") (decimal s.state.tree.clock))
 
     by_call : is_taken (reply_of_step s (step.Command asked)) ≡ true
-        → (is_ended (after_step s (step.Command asked)).state n ≡ true)
-        × (last_night s.state ≡ n → (next : Bool)
-        → night_of_store (after_step s (step.Command asked)).state next ≡ n + 1)
+        → IsClosed s.state (after_step s (step.Command asked)).state n
     by_call taken =
         let b : ℕ = its.base in
         let name : List ℕ = role_name (name_at p (top_above p n b)) role.Ended in
-        let top : ℕ = scope_of p (name_at p (top_above p n b)) in
+        let top : ℕ = top_above p n b in
         let text : List ℕ = decimal p.tree.clock in
         let to : after_step s (step.Command asked)
         ≡ with_event s (Some (event.Derive name top (kind.Value (codes "ended") text))) =
-        command_taken s asked refl taken in
+        command_taken s asked refl taken
+        ∙ ap (λ (t : ℕ). with_event s (Some (event.Derive name t
+        (kind.Value (codes "ended") text)))) (top_found p n b it.consistent its.based) in
         let after : IsConsistent (marked p name top text) =
         subst (λ (x : Session). IsConsistent x.state) to
         (consistent_after s (step.Command asked ∷ []) it.consistent) in
@@ -249,17 +261,43 @@ marks_end s n mark it =
         ended_so p n b top text it.consistent its.based after in
         let base : is_some (base_of (marked p name top text) n) ≡ true =
         ap is_some (base_marked p name top text n it.consistent ∙ its.based) in
-        subst (λ (x : Session). (is_ended x.state n ≡ true)
-        × (last_night p ≡ n → (next : Bool) → night_of_store x.state next ≡ n + 1)) (sym to) (
-          ended,
-          λ last next.
+        let here : IsClosed p (marked p name top text) n = record {
+          base = b;
+          based = its.based;
+          scopes = refl;
+          work = refl;
+          ended = ended;
+          another = λ last next.
               let q : State = marked p name top text in
               let same : last_night q ≡ n = last_marked p name top text it.consistent ∙ last in
               ap (λ (m : ℕ). cond (is_some (base_of q m) && (next || is_ended q m)) (m + 1) m) same
               ∙ ap (λ c. cond (c && (next || is_ended q n)) (n + 1) n) base
               ∙ ap (λ c. cond (next || c) (n + 1) n) ended
-              ∙ ap (λ c. cond c (n + 1) n) (or-true next),
-        )
+              ∙ ap (λ c. cond c (n + 1) n) (or-true next);
+        } in
+        subst (λ (x : Session). IsClosed p x.state n) (sym to) here
+
+-- One more than a number, or the number, by three answers.
+begins_another : (last : ℕ) (begun next ended : Bool)
+    → ((cond (begun && (next || ended)) (last + 1) last ≡ last + 1)
+    ↔ ((begun ≡ true) × ((next ≡ true) ⊎ (ended ≡ true))))
+    × ((cond (begun && (next || ended)) (last + 1) last ≡ last + 1)
+    ⊎ (cond (begun && (next || ended)) (last + 1) last ≡ last))
+begins_another last false next ended =
+    ((λ same. absurd (omega (arith, same)), λ both. absurd (false≢true both.0)), inr refl)
+begins_another last true false false =
+    ((λ same. absurd (omega (arith, same)), λ both. absurd (neither both.1)), inr refl)
+  where
+    neither : (false ≡ true) ⊎ (false ≡ true) → ⊥
+    neither (inl e) = false≢true e
+    neither (inr e) = false≢true e
+begins_another last true false true = ((λ same. (refl, inr refl), λ both. refl), inl refl)
+begins_another last true true ended = ((λ same. (refl, inl refl), λ both. refl), inl refl)
+
+pub nights_end : NightsEnd
+nights_end p next =
+    begins_another (last_night p) (is_some (base_of p (last_night p))) next
+    (is_ended p (last_night p))
 
 pub nights_go_on : NightsGoOn
 nights_go_on p going =

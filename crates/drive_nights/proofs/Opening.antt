@@ -49,7 +49,7 @@ use Rattle.drive_nights.proofs.Withdrawing.{Withdrawn, all_withdrawn, none_waits
 
 -- ---- the name of the top
 
-night_plain : IsPlain (codes "night")
+pub night_plain : IsPlain (codes "night")
 night_plain zero one two = absurd (omega (arith, one))
 night_plain (suc zero) one two = absurd (omega (arith, one))
 night_plain (suc (suc zero)) one two = absurd (omega (arith, one))
@@ -93,7 +93,7 @@ base_place p n s last =
     }
 
 -- The value scope with the number of a night, below its top.
-number_step : (t : Session) (name top text : List ℕ) (over : Bool) → IsConsistent t.state
+pub number_step : (t : Session) (name top text : List ℕ) (over : Bool) → IsConsistent t.state
     → Place t.state top None over
     → is_taken (reply_of_step t (derive name top (wish.Value (codes "night") text))) ≡ true
     → Based t.state (after_step t (derive name top (wish.Value (codes "night") text))).state name
@@ -118,7 +118,7 @@ number_step t name top text over consistent it taken =
     subst (λ (y : Session). Based q y.state name (Some text) over) (sym to) here
 
 -- A new top, and the base that comes with it.
-top_made : (p : State) (t : Session) (n : ℕ) (all : Option Until) → IsConsistent t.state
+pub top_made : (p : State) (t : Session) (n : ℕ) (all : Option Until) → IsConsistent t.state
     → n < 2 ^ 64 → AreTaken t (top_steps p n all)
     → Based t.state (session_after t (top_steps p n all)).state (new_base p n) (night_text n)
     (has_come t.state all)
@@ -192,7 +192,7 @@ top_made p t n all consistent small taken = by_number (nat_le n 1) taken
         (Some (decimal n)) (has_come t.state all)) (sym (steps_join first number t)) here
 
 -- The base after the steps for it.
-base_made : (p : State) (t : Session) (n : ℕ) (all : Option Until) → Comes p t → n < 2 ^ 64
+pub base_made : (p : State) (t : Session) (n : ℕ) (all : Option Until) → Comes p t → n < 2 ^ 64
     → AreTaken t (base_steps p n all)
     → Based t.state (session_after t (base_steps p n all)).state (base_name p n all)
     (night_text n) (is_base_over p n all)
@@ -226,16 +226,16 @@ base_made p t n all comes small taken = by_kept (kept_base p n all) refl taken
 -- ---- the groups
 
 -- The groups below this number have what they need, and the others are as they were.
-record AreRoomed (p t u : State) (n : ℕ) (all : Option Until) (groups : List (List ℕ))
+pub record AreRoomed (p t u : State) (n : ℕ) (all : Option Until) (groups : List (List ℕ))
     (untils : List (Option Until)) (most : ℕ) : Type 0 where
-  consistent : IsConsistent u
-  grows : Grows t u
-  housed : (g : ℕ) (group : List ℕ) → g < most → slice_get groups g ≡ Some group
+  pub consistent : IsConsistent u
+  pub grows : Grows t u
+  pub housed : (g : ℕ) (group : List ℕ) → g < most → slice_get groups g ≡ Some group
       → Housed u (night_text n) group
-  last : last_night u ≡ last_night t
-  made : (g : ℕ) (group : List ℕ) → g < most → slice_get groups g ≡ Some group
+  pub last : last_night u ≡ last_night t
+  pub made : (g : ℕ) (group : List ℕ) → g < most → slice_get groups g ≡ Some group
       → is_over u (night_text n) group ≡ is_over_after p n all group (until_at untils g)
-  left : (g : ℕ) (group : List ℕ) → most ≤ g → slice_get groups g ≡ Some group
+  pub left : (g : ℕ) (group : List ℕ) → most ≤ g → slice_get groups g ≡ Some group
       → is_over u (night_text n) group ≡ is_over p (night_text n) group
 
 -- One group more, with number k.
@@ -287,7 +287,7 @@ one_more p t u v n all groups untils k group named at before here = record {
         here.others (night_text n) other (named.plain g other there)
         (λ same. apart (named.apart g k other there (at ∙ ap (λ (x : List ℕ). Some x) same)))
 
-rooms_made : (p : State) (t : Session) (n : ℕ) (all : Option Until) (base : List ℕ)
+pub rooms_made : (p : State) (t : Session) (n : ℕ) (all : Option Until) (base : List ℕ)
     (groups : List (List ℕ)) (untils : List (Option Until)) (k : ℕ) → Comes p t → n < 2 ^ 64
     → AreNamed groups → Place t.state base (night_text n) (is_base_over p n all)
     → ((g : ℕ) (group : List ℕ) → slice_get groups g ≡ Some group
@@ -365,7 +365,7 @@ rooms_made p t n all base groups untils (suc k) comes small named place same tak
 -- ---- the opening
 
 -- The state after the withdrawals comes from the one before.
-after_withdrawals : (p : State) (t : Session) (k : ℕ) → IsConsistent t.state
+pub after_withdrawals : (p : State) (t : Session) (k : ℕ) → IsConsistent t.state
     → Withdrawn p t.state k → Comes p t
 after_withdrawals p t k consistent it = record {
   consistent = consistent;

@@ -93,18 +93,18 @@ derive_taken t name parent w night over numbered it taken =
 -- ---- the new scope
 
 -- The row of a new scope that this hit ends, if there is one.
-abbrev ticked : List ℕ → ℕ → Kind → Option Hit → Scope
+abbrev pub ticked : List ℕ → ℕ → Kind → Option Hit → Scope
 ticked name s k o = option_map_or (λ hit. with_hit hit (new_scope name s k)) o (new_scope name s k)
 
-ticked_name : (name : List ℕ) (s : ℕ) (k : Kind) (o : Option Hit) → (ticked name s k o).name ≡ name
+pub ticked_name : (name : List ℕ) (s : ℕ) (k : Kind) (o : Option Hit) → (ticked name s k o).name ≡ name
 ticked_name name s k None = refl
 ticked_name name s k (Some hit) = refl
 
-ticked_kind : (name : List ℕ) (s : ℕ) (k : Kind) (o : Option Hit) → (ticked name s k o).kind ≡ k
+pub ticked_kind : (name : List ℕ) (s : ℕ) (k : Kind) (o : Option Hit) → (ticked name s k o).kind ≡ k
 ticked_kind name s k None = refl
 ticked_kind name s k (Some hit) = refl
 
-ticked_parent : (name : List ℕ) (s : ℕ) (k : Kind) (o : Option Hit)
+pub ticked_parent : (name : List ℕ) (s : ℕ) (k : Kind) (o : Option Hit)
     → (ticked name s k o).parent ≡ s
 ticked_parent name s k None = refl
 ticked_parent name s k (Some hit) = refl
@@ -128,7 +128,7 @@ joined_done up n (Some hit) = sym (or-true (is_some (option_map (λ a. a.1) up))
 abbrev pub derived : State → List ℕ → ℕ → Kind → State
 derived q name s k = change.step q (event.Derive name s k)
 
-new_row : (q : State) (name : List ℕ) (s : ℕ) (k : Kind)
+pub new_row : (q : State) (name : List ℕ) (s : ℕ) (k : Kind)
     → slice_get (derived q name s k).tree.scopes (length q.tree.scopes)
     ≡ Some (ticked name s k (hit_due (q.count + 1) q.tree.clock k))
 new_row q name s k =

@@ -67,7 +67,7 @@ pub record Scoped (t u : State) (name : List ℕ) (night : Option (List ℕ)) (o
   pub others : (other : Option (List ℕ)) (group : List ℕ) → belongs group name ≡ false
       → is_over u other group ≡ is_over t other group
 
-deadline_due : (e clock moment : ℕ) (cause : Option (List ℕ))
+pub deadline_due : (e clock moment : ℕ) (cause : Option (List ℕ))
     → is_some (hit_due e clock (kind.Deadline moment cause)) ≡ nat_le moment clock
 deadline_due e clock moment cause = by_come (nat_le moment clock) _
   where
@@ -260,7 +260,7 @@ kept_is f (Some x) s e = by_test (f x) e
     by_test false e = e
 
 -- The last scope of a group stands in the night.
-scope_place : (p : State) (n : ℕ) (group : List ℕ) (s : ℕ) → last_scope p n group ≡ Some s
+pub scope_place : (p : State) (n : ℕ) (group : List ℕ) (s : ℕ) → last_scope p n group ≡ Some s
     → Place p (name_at p s) (night_text n) (is_done p.tree.scopes s)
 scope_place p n group s last =
     by_row (slice_get p.tree.scopes s) refl
@@ -286,7 +286,7 @@ scope_place p n group s last =
         }
 
 -- A limit changes no scope.
-limit_tree : (t : Session) (name : List ℕ) (limit : Option ℕ)
+pub limit_tree : (t : Session) (name : List ℕ) (limit : Option ℕ)
     → (after_step t (step.Command (call.SetLimit name limit))).state.tree ≡ t.state.tree
 limit_tree t name limit = by_event (event_of_step t x) refl
   where
@@ -301,7 +301,7 @@ limit_tree t name limit = by_event (event_of_step t x) refl
         (made_Some (decide t.state t.log (call.SetLimit name limit)) made at) in
         sym (ap (λ (e : Event). (change.step t.state e).tree) leads.asks)
 
-unlimited_makes : (o : Option Group) → list_all is_making (option_map_or unlimited o []) ≡ true
+pub unlimited_makes : (o : Option Group) → list_all is_making (option_map_or unlimited o []) ≡ true
 unlimited_makes None = refl
 unlimited_makes (Some row) = by_limit (is_some row.limit)
   where
@@ -311,7 +311,7 @@ unlimited_makes (Some row) = by_limit (is_some row.limit)
     by_limit true = refl
     by_limit false = refl
 
-unlimited_tree : (t : Session) (o : Option Group)
+pub unlimited_tree : (t : Session) (o : Option Group)
     → (session_after t (option_map_or unlimited o [])).state.tree ≡ t.state.tree
 unlimited_tree t None = refl
 unlimited_tree t (Some row) = by_limit (is_some row.limit)

@@ -39,6 +39,8 @@ use Rattle.night_drive.proofs.Staying.{error_keeps}
 use Rattle.night_drive.proofs.Withdrawing.{withdrawal_leaves}
 use Rattle.drive_nights.specs.Effects.{AreTaken, is_taken}
 use Rattle.drive_nights.specs.Openings.{withdrawals_below, withdrawn_if}
+use Rattle.drive_nights.specs.Results.{KeepsGroups}
+use Rattle.drive_nights.proofs.Adding.{groups_erred, groups_here, groups_on}
 use Rattle.drive_nights.proofs.Making.{own_of, unmarked_owns}
 use Rattle.drive_nights.proofs.Taking.{steps_join, taken_join}
 
@@ -52,6 +54,9 @@ pub record Withdrawn (p q : State) (k : ℕ) : Type 0 where
   pub owned : (night : Option (List ℕ)) (group : List ℕ) (g : ℕ)
       → is_owned q night group g ≡ is_owned p night group g
   pub groups : length q.work.groups ≡ length p.work.groups
+  pub keeps : KeepsGroups p q
+  pub same : (m : ℕ) → has_stage is_fresh p.work m ≡ false
+      → slice_get q.work.tasks m ≡ slice_get p.work.tasks m
   pub many : length q.work.tasks ≡ length p.work.tasks
   pub ran : (m : ℕ) → has_stage is_running q.work m ≡ true → has_stage is_running p.work m ≡ true
   pub known : (ended : ℕ → ℕ) (night : Option (List ℕ)) (group key : List ℕ)
@@ -65,6 +70,8 @@ nothing_withdrawn p bare = record {
   none = λ m less. absurd (omega (arith, less));
   owned = λ night group g. refl;
   groups = refl;
+  keeps = groups_here p;
+  same = λ m stale. refl;
   many = refl;
   ran = λ m runs. runs;
   known = λ ended night group key. refl;
@@ -135,6 +142,13 @@ started_it s n fresh runs = by_event (event_of_step s step.Start) refl runs
 
 -- ---- one task
 
+-- The stage of task k is the one that it had at first.
+stage_was : (p q : State) (k : ℕ) → Withdrawn p q k
+    → has_stage is_fresh q.work k ≡ has_stage is_fresh p.work k
+stage_was p q k it =
+    ap (λ o. option_map_or (λ (task : Task). is_fresh task.stage) o false)
+    (it.later k (omega arith))
+
 both_withdrawn : (p q : State) (k : ℕ) → Withdrawn p q k → has_stage is_fresh q.work k ≡ true
     → Withdrawn p (change.step (change.step q (event.Start k))
     (event.Finish k (outcome.Failure (codes "withdrawn")))) (suc k)
@@ -153,6 +167,14 @@ both_withdrawn p q k it fresh = record {
   owned = λ night group g. (finished r k w).owned night group g ∙ it.owned night group g;
   groups = length-at_row (with_error (codes "withdrawn")) (group_of_task r.work k) q.work.groups
       ∙ it.groups;
+  keeps = groups_on p q (change.step r (event.Finish k w)) it.keeps
+      (groups_erred (group_of_task r.work k) (codes "withdrawn") r);
+  same = λ m stale.
+      let other : m ≢ k = λ e. absurd (false≢true (sym stale
+      ∙ ap (has_stage is_fresh p.work) e ∙ sym (stage_was p q k it) ∙ fresh)) in
+      slice_get-at_row_other (with_stage failed) k m r.work.tasks other
+      ∙ slice_get-at_row_other (with_stage stage.Running) k m q.work.tasks other
+      ∙ it.same m stale;
   many = length-at_row (with_stage failed) k r.work.tasks
       ∙ length-at_row (with_stage stage.Running) k q.work.tasks ∙ it.many;
   ran = λ m runs. by_ran m (cases_eq m k) runs;
@@ -208,13 +230,6 @@ both_withdrawn p q k it fresh = record {
         ∙ slice_get-at_row_other (with_stage stage.Running) k m q.work.tasks other)
         ∙ it.none m (omega (arith, less, other))
 
--- The stage of task k is the one that it had at first.
-stage_was : (p q : State) (k : ℕ) → Withdrawn p q k
-    → has_stage is_fresh q.work k ≡ has_stage is_fresh p.work k
-stage_was p q k it =
-    ap (λ o. option_map_or (λ (task : Task). is_fresh task.stage) o false)
-    (it.later k (omega arith))
-
 none_to : (p q : State) (k : ℕ) → Withdrawn p q k → has_stage is_fresh p.work k ≡ false
     → Withdrawn p q (suc k)
 none_to p q k it stale = record {
@@ -228,6 +243,8 @@ none_to p q k it stale = record {
   ];
   owned = it.owned;
   groups = it.groups;
+  keeps = it.keeps;
+  same = it.same;
   many = it.many;
   ran = it.ran;
   known = it.known;

@@ -1,12 +1,17 @@
 -- The effect of the steps of an opening on a night.
-use Rattle.std.specs.Prelude.{◌≡◌, ◌<◌, ◌≤◌, ◌⊎◌, ◌+◌, ◌^◌, ◌||◌, ℕ, nat_le, Bool, true, false}
-use Rattle.std.specs.Prelude.{if◌then◌else◌, List, [], ◌∷◌, codes, Option, Some, None, is_none}
+use Rattle.std.specs.Prelude.{◌≡◌, ◌<◌, ◌≤◌, ◌⊎◌, ◌↔◌, ◌+◌, ◌^◌, ◌||◌, ℕ, nat_le, Bool, true}
+use Rattle.std.specs.Prelude.{false, if◌then◌else◌, List, [], ◌∷◌, ◌++◌, codes, Option, Some, None}
+use Rattle.std.specs.Prelude.{is_none}
+use Rattle.std.specs.Fmt.{decimal}
 use Rattle.std.specs.Prelude.{is_some, max, slice_get}
 use Rattle.std.specs.List.{list_all}
 use Rattle.std.specs.Option.{option_map_or}
 use Rattle.run_model.specs.declared.answers.Reply.{Reply}
 use Rattle.run_model.specs.declared.answers.Reply.TheVariants as reply
 use Rattle.run_model.specs.declared.commands.Step.{Step}
+use Rattle.run_model.specs.declared.scopes.Kind.TheVariants as kind
+use Rattle.run_model.specs.declared.scopes.Scope.{Scope}
+use Rattle.run_model.specs.Rows.{new_scope}
 use Rattle.run_model.specs.Rules.{IsConsistent}
 use Rattle.run_model.specs.Scopes.{is_done}
 use Rattle.run_model.specs.Session.{Session, after_step, replies, session_after}
@@ -22,8 +27,11 @@ use Rattle.night_drive.specs.PlanTurns.{AreBare, night_in}
 use Rattle.night_drive.specs.Seen.{AreNames, is_over, known_of}
 use Rattle.drive_nights.specs.declared.nights.TheConstants.{MOST_NIGHTS}
 use Rattle.drive_nights.specs.declared.untils.Until.{Until}
+use Rattle.drive_nights.specs.declared.names.Role.TheVariants.{Ended}
 use Rattle.drive_nights.specs.Marks.{mark_of}
-use Rattle.drive_nights.specs.Nights.{base_of, is_ended, last_night, night_of_store, night_text}
+use Rattle.drive_nights.specs.Names.{role_name}
+use Rattle.drive_nights.specs.Nights.{base_of, is_ended, last_night, name_at, night_of_store}
+use Rattle.drive_nights.specs.Nights.{night_text, top_above}
 use Rattle.drive_nights.specs.Openings.{growth_of, opening_of, until_at}
 use Rattle.drive_nights.specs.Rooms.{is_changed, is_room, kept_base, kept_scope, last_room}
 use Rattle.drive_nights.specs.Rooms.{last_scope, room_steps, was_canceled}
@@ -202,13 +210,37 @@ pub record IsMarked (s : Session) (n : ℕ) (mark : Step) : Type 0 where
   pub mark_is : mark_of s.state n ≡ Some mark
   pub taken : AreTaken s (mark ∷ [])
 
--- After its mark a night has ended. If it was the last one, the next opening begins another one.
+-- The row of the mark below this top: a value with the time of the store's clock.
+abbrev pub mark_row : State → (top : ℕ) → Scope
+mark_row p top =
+    new_scope (role_name (name_at p top) Ended) top
+    (kind.Value (codes "ended") (decimal p.tree.clock))
+
+-- The mark below the top of the night is recorded, and nothing else. With it the night has ended.
+-- If it was the last one, the next opening begins another one.
+pub record IsClosed (p q : State) (n : ℕ) : Type 0 where
+  pub base : ℕ
+  pub based : base_of p n ≡ Some base
+  pub scopes : q.tree.scopes ≡ p.tree.scopes ++ mark_row p (top_above p n base) ∷ []
+  pub work : q.work ≡ p.work
+  pub ended : is_ended q n ≡ true
+  pub another : last_night p ≡ n → (next : Bool) → night_of_store q next ≡ n + 1
+
+-- A mark that is taken ends its night.
 abbrev pub MarksEnd : Type 0
 MarksEnd =
     (s : Session) (n : ℕ) (mark : Step) → IsMarked s n mark
-    → (is_ended (after_step s mark).state n ≡ true)
-    × (last_night s.state ≡ n → (next : Bool)
-    → night_of_store (after_step s mark).state next ≡ n + 1)
+    → IsClosed s.state (after_step s mark).state n
+
+-- Another night begins with the next opening if and only if the last one has begun, and has its mark
+-- or another one is wanted. Otherwise the last one goes on.
+abbrev pub NightsEnd : Type 0
+NightsEnd =
+    (p : State) (next : Bool)
+    → ((night_of_store p next ≡ last_night p + 1)
+    ↔ ((is_some (base_of p (last_night p)) ≡ true)
+    × ((next ≡ true) ⊎ (is_ended p (last_night p) ≡ true))))
+    × ((night_of_store p next ≡ last_night p + 1) ⊎ (night_of_store p next ≡ last_night p))
 
 -- A night that has begun and has no mark goes on, unless another one is wanted.
 abbrev pub NightsGoOn : Type 0

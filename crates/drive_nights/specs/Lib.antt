@@ -6,6 +6,7 @@ pub mod Openings
 pub mod Marks
 pub mod Endings
 pub mod Effects
+pub mod Results
 pub mod Examples
 pub mod Resting
 pub mod Owners

@@ -2,12 +2,14 @@
 
 ghost use Rattle.drive_nights.specs.Effects.{CanceledGroupsStay, GrowthsHouse, MarksEnd};
 ghost use Rattle.drive_nights.specs.Effects.{NewNightsAreEmpty};
-ghost use Rattle.drive_nights.specs.Effects.{NightsGoOn, NothingIsLacking, OpeningsAreNoTurns};
+ghost use Rattle.drive_nights.specs.Effects.{NightsEnd, NightsGoOn, NothingIsLacking};
+ghost use Rattle.drive_nights.specs.Effects.{OpeningsAreNoTurns};
 ghost use Rattle.drive_nights.specs.Effects.{OpenedNightsGoOn, OpeningsOpen};
 ghost use Rattle.drive_nights.specs.Effects.{SameDeadlinesStay};
 ghost use Rattle.drive_nights.specs.Names.{NamesBelong};
 ghost use Rattle.drive_nights.specs.Nights.{NoneIsLater};
 ghost use Rattle.drive_nights.specs.Resting.{OpeningsRest};
+ghost use Rattle.drive_nights.specs.Results.{OpeningsMakeAll};
 
 /// After an opening no task waits to be started, and each group of the plan has a group of the
 /// store for its tasks. Nothing that was known of a command has changed. A group that keeps its
@@ -16,6 +18,16 @@ ghost use Rattle.drive_nights.specs.Resting.{OpeningsRest};
 /// the store is this one, unless it was a later one. No step of the opening was refused.
 pub fn an_opening_opens_a_night()
     ensures { OpeningsOpen }
+{}
+
+/// After an opening all that the plan asks for is there. The night has its base. Each group of the
+/// plan has a group of the store that takes tasks, in its last scope. That is the scope that it had,
+/// if the words of its deadline and of that of all groups are the same, or if it was canceled, and
+/// otherwise a new one with the deadline that the plan gives. All scopes, all groups and all tasks
+/// that were there before are as they were, but for limits, and for tasks that were withdrawn. No
+/// step of the opening was refused.
+pub fn an_opening_makes_all()
+    ensures { OpeningsMakeAll }
 {}
 
 /// After an opening the state is one between two rounds, if no task ran before it. So commands can
@@ -66,15 +78,17 @@ pub fn a_new_night_is_empty()
     ensures { NewNightsAreEmpty }
 {}
 
-/// After its mark a night has ended. If it was the last one of the store, the next opening begins
-/// another one.
+/// The mark of a night is recorded below its top, and nothing else. After it the night has ended. If
+/// it was the last one of the store, the next opening begins another one.
 pub fn a_mark_ends_a_night()
     ensures { MarksEnd }
 {}
 
-/// A night that hasn't ended goes on, unless another one is wanted.
+/// The next opening begins another night if and only if the last one has begun, and has its mark or
+/// another one is wanted. Otherwise the last night goes on.
 pub fn a_night_goes_on_until_its_mark()
-    ensures { NightsGoOn }
+    ensures ends { NightsEnd }
+    ensures goes_on { NightsGoOn }
 {}
 
 /// After the steps in which a group is added to a night, it has a group of the store for its tasks.
