@@ -1,16 +1,18 @@
 -- How the steps of cancels are made.
 use Rattle.std.proofs.Common.{◌≡◌, ◌<◌, ◌≤◌, ◌∙◌, ◌==◌, ◌&&◌, ◌||◌, ◌+◌, ◌⊎◌, ℕ, zero, suc, Bool}
 use Rattle.std.proofs.Common.{true}
-use Rattle.std.proofs.Common.{false, List, [], ◌∷◌, ◌++◌, Option, Some, None, length}
+use Rattle.std.proofs.Common.{cond, false, List, [], ◌∷◌, ◌++◌, Option, Some, None, length}
 use Rattle.std.proofs.Common.{drop, get_or, map, slice_get, take, append_assoc, drop-cons}
 use Rattle.std.proofs.Common.{add-one, ap, refl, sym, subst, inl, inr, arith}
-use Rattle.std.proofs.lemmas.Bool.{eq-eqb, eqb-true, false≢true, le-leb}
+use Rattle.std.proofs.Math.Bool.{or-true}
+use Rattle.std.proofs.lemmas.Bool.{eq-eqb, eqb-true, false_from_ne_true, false≢true, le-leb}
 use Rattle.std.proofs.lemmas.List.{length-take, take_more}
 use Rattle.std.proofs.lemmas.List.Elements.{All-get_or, Contains-append_left}
 use Rattle.std.proofs.lemmas.List.Elements.{Contains-append_right}
+use Rattle.std.proofs.lemmas.List.Folds.{find-append}
 use Rattle.std.proofs.lemmas.Option.{none-some, same_Some}
-use Rattle.std.specs.List.{All, Contains, cons_option, list_all, list_any}
-use Rattle.std.specs.Option.{option_map}
+use Rattle.std.specs.List.{All, Contains, cons_option, find, list_all, list_any}
+use Rattle.std.specs.Option.{option_map, option_or}
 use Rattle.std.specs.Prelude.{is_some, unwrap_or}
 use Rattle.run_model.proofs.Common.{and_from, and_parts}
 use Rattle.run_model.specs.declared.commands.Command.{Command as Call}
@@ -202,6 +204,34 @@ not_named (y ∷ taken) c (suc i) x none at same =
     later true is = cc
     later false is = is
 
+-- The first cancel of a command stays the first one.
+first_left : (seen : List CommandCancel) (more x : CommandCancel)
+    → find (λ (y : CommandCancel). y.command == x.command) seen ≡ Some x
+    → find (λ (y : CommandCancel). y.command == x.command) (seen ++ more ∷ []) ≡ Some x
+first_left seen more x is =
+    find-append (λ (y : CommandCancel). y.command == x.command) seen (more ∷ [])
+    ∙ ap (λ (o : Option CommandCancel). option_or o
+    (find (λ (y : CommandCancel). y.command == x.command) (more ∷ []))) is
+
+none_found : (test : CommandCancel → Bool) (xs : List CommandCancel)
+    → ((i : ℕ) (x : CommandCancel) → slice_get xs i ≡ Some x → test x ≡ false)
+    → find test xs ≡ None
+none_found test [] none = refl
+none_found test (x ∷ xs) none =
+    ap (λ b. cond b (Some x) (find test xs)) (none zero x refl)
+    ∙ none_found test xs (λ i y at. none (suc i) y at)
+
+-- A command of one of the cancels is named.
+named_by : (taken : List CommandCancel) (c : ℕ)
+    → Contains (map (λ (x : CommandCancel). x.command) taken) c
+    → list_any (λ (x : CommandCancel). x.command == c) taken ≡ true
+named_by [] c (k, less, is) = absurd (omega (arith, less))
+named_by (x ∷ taken) c (zero, less, is) =
+    ap (λ b. b || list_any (λ (y : CommandCancel). y.command == c) taken) (eq-eqb x.command c is)
+named_by (x ∷ taken) c (suc k, less, is) =
+    ap (λ b. (x.command == c) || b) (named_by taken c (k, omega (arith, less), is))
+    ∙ or-true (x.command == c)
+
 -- One more is looked at, and isn't recorded.
 taken_same : (p : State) (names : Names) (commands : List Command) (heard : List Ended)
     (seen taken : List CommandCancel) (cancel : CommandCancel)
@@ -213,6 +243,7 @@ taken_same p names commands heard seen taken cancel why was = record {
   each = λ i x at.
       let it = was.each i x at in
       (Contains-append_left seen (cancel ∷ []) x it.0, it.1);
+  first = λ i x at. first_left seen cancel x (was.first i x at);
   once = was.once;
   every = λ i x at can. elim (at_push seen cancel x i at) [
     | inl old ↦ was.every i x old can
@@ -247,6 +278,12 @@ taken_new p names commands heard seen taken cancel none can was = record {
       ap (λ (y : CommandCancel). can_cancel p names commands heard y.command) (sym new.1) ∙ can,
     )
   ];
+  first = λ i x at. elim (at_push taken cancel x i at) [
+    | inl old ↦ first_left seen cancel x (was.first i x old)
+    | inr new ↦
+        subst (λ (y : CommandCancel). find (λ (z : CommandCancel). z.command == y.command)
+        (seen ++ cancel ∷ []) ≡ Some y) new.1 first_new
+  ];
   once = λ i j a b at there same. by_places i j a b same (at_push taken cancel a i at)
       (at_push taken cancel b j there);
   every = λ i x at can_x. elim (at_push seen cancel x i at) [
@@ -257,6 +294,26 @@ taken_new p names commands heard seen taken cancel none can was = record {
   ];
 }
   where
+    other : (i : ℕ) (x : CommandCancel) → slice_get seen i ≡ Some x
+        → (x.command == cancel.command) ≡ false
+    other i x at =
+        false_from_ne_true (x.command == cancel.command)
+        (λ is.
+        let same : x.command ≡ cancel.command = eqb-true x.command cancel.command is in
+        false≢true (sym none ∙ named_by taken cancel.command
+        (subst (λ (c : ℕ). Contains (map (λ (z : CommandCancel). z.command) taken) c) same
+        (was.every i x at (ap (can_cancel p names commands heard) same ∙ can)))))
+
+    first_new : find (λ (z : CommandCancel). z.command == cancel.command) (seen ++ cancel ∷ [])
+        ≡ Some cancel
+    first_new =
+        find-append (λ (z : CommandCancel). z.command == cancel.command) seen (cancel ∷ [])
+        ∙ ap (λ (o : Option CommandCancel). option_or o
+        (find (λ (z : CommandCancel). z.command == cancel.command) (cancel ∷ [])))
+        (none_found (λ (z : CommandCancel). z.command == cancel.command) seen other)
+        ∙ ap (λ b. cond b (Some cancel) None)
+        (eq-eqb cancel.command cancel.command refl)
+
     by_places : (i j : ℕ) (a b : CommandCancel) → a.command ≡ b.command
         → (slice_get taken i ≡ Some a) ⊎ ((i ≡ length taken) × (cancel ≡ a))
         → (slice_get taken j ≡ Some b) ⊎ ((j ≡ length taken) × (cancel ≡ b)) → i ≡ j

@@ -64,7 +64,7 @@ kept_on p x y kept only = record {
 
 -- ---- the last scope
 
-scope_alike : (p x : State) → KeepsScopes p.tree.scopes x.tree.scopes
+pub scope_alike : (p x : State) → KeepsScopes p.tree.scopes x.tree.scopes
     → (night : Option (List ℕ)) (group : List ℕ) (s : ℕ)
     → is_scope x night group s ≡ is_scope p night group s
 scope_alike p x kept night group s =
@@ -100,16 +100,16 @@ last_same p x kept night group n last =
     ∙ ap (last_below (is_scope p night group)) kept.long ∙ last
 
 -- There is a row, and it takes a cause.
-record FoundScope (p : State) (n : ℕ) : Type 0 where
-  row : Scope
-  found : slice_get p.tree.scopes n ≡ Some row
-  cause : takes_cause row.kind ≡ true
+pub record FoundScope (p : State) (n : ℕ) : Type 0 where
+  pub row : Scope
+  pub found : slice_get p.tree.scopes n ≡ Some row
+  pub cause : takes_cause row.kind ≡ true
 
 first_true : (a b : Bool) → (a && b) ≡ true → a ≡ true
 first_true true b is = refl
 first_true false b is = cc
 
-found_scope : (p : State) (night : Option (List ℕ)) (group : List ℕ) (n : ℕ)
+pub found_scope : (p : State) (night : Option (List ℕ)) (group : List ℕ) (n : ℕ)
     → is_scope p night group n ≡ true → FoundScope p n
 found_scope p night group n is = by_row (slice_get p.tree.scopes n) refl is
   where
@@ -122,7 +122,7 @@ found_scope p night group n is = by_row (slice_get p.tree.scopes n) refl is
         record { row = row; found = found; cause = first_true (takes_cause row.kind) _ is }
 
 -- It is found by its name.
-named_scope : (p x : State) → KeepsScopes p.tree.scopes x.tree.scopes → AreNumbered x → (n : ℕ)
+pub named_scope : (p x : State) → KeepsScopes p.tree.scopes x.tree.scopes → AreNumbered x → (n : ℕ)
     → (at : FoundScope p n) → scope_of x (scope_name p n) ≡ n
 named_scope p x kept numbered n at =
     by_row (slice_get x.tree.scopes n) refl (kept n ∙ ap (option_map unhit) at.found)

@@ -17,6 +17,7 @@ pub mod Halting
 pub mod Fitting
 pub mod Stopping
 pub mod Ceasing
+pub mod Sparing
 pub mod Rounding
 pub mod Following
 pub mod Showing

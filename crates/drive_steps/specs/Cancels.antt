@@ -1,5 +1,5 @@
 -- The steps that cancel commands that don't run, and groups.
-use Rattle.std.specs.Prelude.{◌≡◌, ◌==◌, ◌++◌, ◌+◌, ◌&&◌, ℕ, not, Bool, true, false}
+use Rattle.std.specs.Prelude.{◌≡◌, ◌==◌, ◌++◌, ◌+◌, ◌&&◌, ◌⊎◌, ℕ, not, Bool, true, false}
 use Rattle.std.specs.Prelude.{if◌then◌else◌, List, [], ◌∷◌, codes, Option, None, Some, is_some}
 use Rattle.std.specs.Prelude.{drop, find, length, map, slice_get, take, unwrap_or, Contains}
 use Rattle.std.specs.List.{cons_option, list_any}
@@ -15,16 +15,18 @@ use Rattle.run_model.specs.declared.tasks.Outcome.TheVariants as outcome
 use Rattle.run_model.specs.declared.tasks.Stage.{Stage}
 use Rattle.run_model.specs.declared.tasks.Stage.TheVariants as stage
 use Rattle.run_model.specs.Rules.{IsConsistent}
-use Rattle.run_model.specs.Scopes.{is_done}
+use Rattle.run_model.specs.Scopes.{chain, is_done}
 use Rattle.run_model.specs.Session.{Session, replies, session_after}
 use Rattle.run_model.specs.State.{State}
 use Rattle.run_model.specs.Tasks.{has_stage}
 use Rattle.run_model.specs.WorkChanges.{stage_of}
+use Rattle.model_laws.specs.Hits.{is_on}
 use Rattle.night_plan.specs.declared.commands.Command.{Command}
 use Rattle.night_drive.specs.declared.names.Names.{Names}
 use Rattle.night_drive.specs.Searches.{last_below}
 use Rattle.night_drive.specs.Seen.{is_over, is_scope}
 use Rattle.night_drive.specs.Tries.{is_cancel}
+use Rattle.night_drive.specs.Turns.{has_come, of_last}
 use Rattle.drive_steps.specs.declared.cancels.CommandCancel.{CommandCancel}
 use Rattle.drive_steps.specs.declared.cancels.GroupCancel.{GroupCancel}
 use Rattle.drive_steps.specs.declared.heard.Ended.{Ended}
@@ -56,11 +58,13 @@ can_cancel p names commands heard c =
     option_map_or (is_open_after p heard) (last_of p names commands c) true
 
 -- These are the cancels that are recorded: one for each command that was canceled and for which it
--- can be recorded.
+-- can be recorded. Of several cancels of a command it is the first one.
 pub record AreTaken (p : State) (names : Names) (commands : List Command) (heard : List Ended)
     (cancels taken : List CommandCancel) : Type 0 where
   pub each : (i : ℕ) (cancel : CommandCancel) → slice_get taken i ≡ Some cancel
       → Contains cancels cancel × (can_cancel p names commands heard cancel.command ≡ true)
+  pub first : (i : ℕ) (cancel : CommandCancel) → slice_get taken i ≡ Some cancel
+      → find (λ (x : CommandCancel). x.command == cancel.command) cancels ≡ Some cancel
   pub once : (i j : ℕ) (a b : CommandCancel) → slice_get taken i ≡ Some a
       → slice_get taken j ≡ Some b → a.command ≡ b.command → i ≡ j
   pub every : (i : ℕ) (cancel : CommandCancel) → slice_get cancels i ≡ Some cancel
@@ -134,3 +138,27 @@ GroupsAreCanceled =
     → is_over (session_after s
     (stops_of p names groups ++ step.Command (call.Advance now) ∷ [])).state names.night group
     ≡ true
+
+-- The cancel of a group reaches a group of this name: its scope is the last one of that group, or
+-- stands above it.
+pub record IsReached (p : State) (names : Names) (groups : List GroupCancel)
+    (night : Option (List ℕ)) (other : List ℕ) : Type 0 where
+  pub cancel : GroupCancel
+  pub listed : Contains groups cancel
+  pub scope : ℕ
+  pub last : last_below
+      (is_scope p names.night (unwrap_or (slice_get names.groups.items cancel.group) []))
+      (length p.tree.scopes) ≡ Some scope
+  pub above : of_last p night other (λ s. is_on scope (chain p.tree.scopes s)) ≡ true
+
+-- Once the cancels of groups were played and the clock has moved, no other group is done: one that
+-- is was done before, or its deadline has come, or one of the cancels reaches it.
+abbrev pub OthersGoOn : Type 0
+OthersGoOn =
+    (p : State) (s : Session) (names : Names) (groups : List GroupCancel) (now : ℕ)
+    (night : Option (List ℕ)) (other : List ℕ) → s.state.tree ≡ p.tree → IsConsistent s.state
+    → is_over (session_after s
+    (stops_of p names groups ++ step.Command (call.Advance now) ∷ [])).state night other
+    ≡ true
+    → (is_over p night other ≡ true)
+    ⊎ ((of_last p night other (has_come p now) ≡ true) ⊎ IsReached p names groups night other)

@@ -8,6 +8,7 @@ ghost use Rattle.run_model.specs.Tasks.{has_stage};
 ghost use Rattle.run_model.specs.WorkChanges.{stage_of};
 ghost use Rattle.night_drive.specs.Seen.{AreNames};
 ghost use Rattle.drive_steps.specs.Cancels.{GroupsAreCanceled};
+ghost use Rattle.drive_steps.specs.Cancels.{OthersGoOn};
 ghost use Rattle.drive_steps.specs.Cancels.{AreTaken, can_cancel, canceled_text, cuts_of, end_in};
 ghost use Rattle.drive_steps.specs.Cancels.{is_open, is_open_after, open_scope, scope_name};
 ghost use Rattle.drive_steps.specs.Cancels.{stops_of};
@@ -264,9 +265,11 @@ fn stop_of<A: Allocator>(state: &State<A>, scope: u16, why: &Text) -> Step
 }
 
 /// Once what was heard is recorded, each canceled group is done, if it has a scope and the log had
-/// room. So none of its commands begins in the same round but cleanups. The ends of tries and the
-/// cancels of commands, which are recorded before, change no scope, since the groups of a night are
-/// bare.
+/// room. So none of its commands begins in the same round but cleanups. No other group is done
+/// then, unless it was before, or its deadline has come, or its scope stands below that of a
+/// canceled group. The ends of tries and the cancels of commands, which are recorded before, change
+/// no scope, since the groups of a night are bare.
 pub fn canceled_groups_are_done()
-    ensures { GroupsAreCanceled }
+    ensures canceled { GroupsAreCanceled }
+    ensures others { OthersGoOn }
 {}
