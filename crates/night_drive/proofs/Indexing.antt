@@ -1,6 +1,7 @@
 -- An index of a plan, to which one command after another is added.
 use Rattle.std.proofs.Common.{◌≡◌, ◌<◌, ◌∙◌, ℕ, ◌+◌, ◌==◌, ◌&&◌, Bool, true, cond}
-use Rattle.std.proofs.Common.{List, Option, Some, None, IsSome, slice_get, length, inl, inr, ap, subst, sym, refl, arith}
+use Rattle.std.proofs.Common.{List, Option, Some, None, IsSome, slice_get, length, inl}
+use Rattle.std.proofs.Common.{inr, ap, subst, sym, refl, arith}
 use Rattle.std.proofs.lemmas.Bool.{and_from, and_parts, both_ways, cases_Bool, cases_eq}
 use Rattle.std.proofs.lemmas.Bool.{cond-false, cond-true, eq-eqb, eqb-true}
 use Rattle.std.proofs.lemmas.Option.{none-some, same_Some, slice_get_within}
