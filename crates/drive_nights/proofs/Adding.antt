@@ -1,14 +1,12 @@
--- A derive adds a scope at the end, and a bare group is added at the end, too. So the last ones of a
--- night are known.
-use Rattle.std.proofs.Common.{◌≡◌, ◌<◌, ◌∙◌, ◌&&◌, ◌+◌, ◌++◌, ℕ, suc, Bool, true, false, cond}
+-- A derive adds a scope at the end, and a bare group is added at the end, too. So the last ones of
+-- a night are known.
+use Rattle.std.proofs.Common.{◌≡◌, ◌<◌, ◌∙◌, ◌&&◌, ◌+◌, ℕ, suc, Bool, true, false, cond}
 use Rattle.std.proofs.Common.{List, [], ◌∷◌, Option, Some, None, length, length-append, slice_get}
 use Rattle.std.proofs.Common.{nat_le, codes, ap, refl, sym, subst, arith, inl, inr}
-use Rattle.std.proofs.Math.Bool.{and-false}
 use Rattle.std.proofs.lemmas.Bool.{cases_eq}
-use Rattle.std.proofs.lemmas.Option.{same_Some, slice_get_within}
+use Rattle.std.proofs.lemmas.Option.{slice_get_within}
 use Rattle.std.specs.Fmt.{decimal}
 use Rattle.std.specs.Option.{option_map, option_map_or}
-use Rattle.std.specs.Prelude.{is_none, unwrap_or}
 use Rattle.run_model.proofs.Common.{and_from}
 use Rattle.run_model.proofs.RowLemmas.{slice_get-at_row_other, slice_get-at_row_same}
 use Rattle.run_model.proofs.RowLemmas.{slice_get-push_last, slice_get-push_left}
@@ -30,7 +28,6 @@ use Rattle.run_model.specs.State.{State, TreeState, WorkState}
 use Rattle.run_model.specs.Step as change
 use Rattle.run_model.specs.TreeChanges.{hit_due}
 use Rattle.run_model.specs.WorkChanges.{with_error, with_limit}
-use Rattle.model_laws.proofs.Names.{place_of_name}
 use Rattle.night_drive.specs.Names.{belongs, is_same, night_of}
 use Rattle.night_drive.specs.Searches.{last_below}
 use Rattle.night_drive.specs.Seen.{is_owned, is_scope}

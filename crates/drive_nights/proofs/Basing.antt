@@ -1,6 +1,6 @@
 -- After an opening a night has a base.
 use Rattle.std.proofs.Common.{◌≡◌, ◌<◌, ◌≤◌, ◌∙◌, ◌&&◌, ◌||◌, ℕ, Bool, true, false, cond}
-use Rattle.std.proofs.Common.{List, [], ◌∷◌, ◌++◌, Option, Some, None, length, slice_get, codes}
+use Rattle.std.proofs.Common.{List, [], ◌++◌, Option, Some, None, length, slice_get, codes}
 use Rattle.std.proofs.Common.{take}
 use Rattle.std.proofs.Common.{nat_le, ap, max, refl, sym, subst, arith}
 use Rattle.std.proofs.Math.Bool.{or-true}
@@ -14,7 +14,6 @@ use Rattle.std.specs.Prelude.{is_none}
 use Rattle.std.specs.Str.{bytes_eq}
 use Rattle.run_model.proofs.Common.{and_from}
 use Rattle.run_model.specs.Allowed.{takes_cause}
-use Rattle.run_model.specs.declared.commands.Step.{Step}
 use Rattle.run_model.specs.declared.commands.Wish.TheVariants as wish
 use Rattle.run_model.specs.declared.scopes.Kind.{Kind}
 use Rattle.run_model.specs.declared.scopes.Kind.TheVariants as kind
@@ -25,21 +24,20 @@ use Rattle.run_model.specs.Session.{Session, after_step, reply_of_step, session_
 use Rattle.run_model.specs.State.{State}
 use Rattle.night_drive.specs.Names.{is_same, night_of}
 use Rattle.night_drive.proofs.Searching.{last_passes, last_within}
-use Rattle.drive_nights.specs.declared.names.Role.TheVariants as role
 use Rattle.drive_nights.specs.declared.nights.TheConstants.{MOST_NIGHTS}
 use Rattle.drive_nights.specs.declared.untils.Until.{Until}
 use Rattle.drive_nights.specs.Effects.{AreTaken, has_come, is_taken}
-use Rattle.drive_nights.specs.Names.{free_round, role_name, round_name}
+use Rattle.drive_nights.specs.Names.{free_round, round_name}
 use Rattle.drive_nights.specs.Nights.{base_of, is_base, is_base_row, is_first_top, night_text}
 use Rattle.drive_nights.specs.Nights.{last_night, night_at, number_in, top_above}
 use Rattle.drive_nights.specs.Openings.{base_steps, new_top, top_steps}
-use Rattle.drive_nights.specs.Rooms.{derive, is_changed, is_replaced, kept_base, scope_steps}
+use Rattle.drive_nights.specs.Rooms.{derive, is_changed, is_replaced, kept_base}
 use Rattle.drive_nights.proofs.Making.{Grows}
 use Rattle.drive_nights.proofs.Numbering.{greatest_least, none_is_later, number_read}
 use Rattle.drive_nights.proofs.Placing.{Place, Stands, derive_greatest, derive_taken, number_stands}
 use Rattle.drive_nights.proofs.Placing.{root_place}
-use Rattle.drive_nights.proofs.Rooming.{kept_is, scope_made}
-use Rattle.drive_nights.proofs.Taking.{steps_join, taken_join}
+use Rattle.drive_nights.proofs.Rooming.{Scoped, kept_is, scope_made}
+use Rattle.drive_nights.proofs.Topping.{round_of, top_by, top_first, top_number}
 
 -- A scope can be the base of the night.
 pub record HasBase (q : State) (n : ℕ) : Type 0 where
@@ -194,67 +192,60 @@ pub record Stood (t u : State) (n : ℕ) : Type 0 where
 top_stood : (p : State) (t : Session) (n : ℕ) (all : Option Until) → IsConsistent t.state
     → 1 ≤ n → AreTaken t (top_steps p n all)
     → Stood t.state (session_after t (top_steps p n all)).state n
-top_stood p t n all consistent least taken = by_number (nat_le n 1) refl taken
+top_stood p t n all consistent least taken =
+    top_by (λ (x : Session) (name : List ℕ) (night : Option (List ℕ)). Stood t.state x.state n) p t
+    n all taken in_first in_later
   where
     top : List ℕ
     top = new_top p n
 
-    first : List Step
-    first = scope_steps (new_top p n) (codes "root") all
+    t1 : Session
+    t1 = session_after t (top_first p n all)
 
-    number : List Step
-    number =
-        derive (role_name (new_top p n) role.Round) (new_top p n)
-        (wish.Value (codes "night") (decimal n)) ∷ []
+    scoped : AreTaken t (top_first p n all)
+        → Scoped t.state (session_after t (top_first p n all)).state (new_top p n) None
+        (has_come t.state all)
+    scoped taken =
+        scope_made t (new_top p n) (codes "root") all None false consistent
+        (root_place t.state consistent.numbered) taken
 
-    by_number : (b : Bool) → nat_le n 1 ≡ b
-        → AreTaken t (scope_steps (new_top p n) (codes "root") all
-        ++ cond b [] (derive (cond b (new_top p n) (role_name (new_top p n) role.Round))
-        (new_top p n) (wish.Value (codes "night") (decimal n)) ∷ []))
-        → Stood t.state (session_after t (scope_steps (new_top p n) (codes "root") all
-        ++ cond b [] (derive (cond b (new_top p n) (role_name (new_top p n) role.Round))
-        (new_top p n) (wish.Value (codes "night") (decimal n)) ∷ []))).state n
-    by_number true is taken =
-        let parts = taken_join first [] t taken in
-        let one = scope_made t top (codes "root") all None false consistent
-        (root_place t.state consistent.numbered) parts.0 in
-        let t1 : Session = session_after t first in
+    in_first : nat_le n 1 ≡ true → AreTaken t (top_first p n all)
+        → Stood t.state (session_after t (top_first p n all)).state n
+    in_first is taken =
+        let one = scoped taken in
         let stands : Stands t1.state top kind.Cause (night_text n) =
         subst (λ (x : Option (List ℕ)). Stands t1.state top kind.Cause x)
         (sym (ap (λ b. cond b None (Some (decimal n))) is)) one.stands in
         let once : 1 ≤ last_night t.state =
         greatest_least (night_at t.state) (length t.state.tree.scopes) in
         let below : n ≤ last_night t.state = omega (arith, once, leb-true n 1 is) in
-        let here : Stood t.state t1.state n = record {
+        record {
           there = first_there t1.state n top stands is
               (first_top n (free_round p (codes "night") n) least is);
           last = λ small. one.last ∙ sym (max-eq_left below);
-        } in
-        subst (λ (x : Session). Stood t.state x.state n) (sym (steps_join first [] t)) here
-    by_number false is taken =
-        let parts = taken_join first number t taken in
-        let one = scope_made t top (codes "root") all None false consistent
-        (root_place t.state consistent.numbered) parts.0 in
-        let t1 : Session = session_after t first in
-        let last = and_parts (is_taken (reply_of_step t1
-        (derive (role_name top role.Round) top (wish.Value (codes "night") (decimal n))))) true
-        parts.1 in
-        let made = number_stands t1 (role_name top role.Round) top (decimal n)
-        (has_come t.state all) one.consistent one.place last.0 in
-        let t2 : Session = session_after t1 number in
-        let stands : Stands t2.state (role_name top role.Round)
-        (kind.Value (codes "night") (decimal n)) (night_text n) =
-        subst (λ (x : Option (List ℕ)). Stands t2.state (role_name top role.Round)
+        }
+
+    in_later : nat_le n 1 ≡ false → AreTaken t (top_first p n all)
+        → is_taken (reply_of_step (session_after t (top_first p n all)) (top_number p n)) ≡ true
+        → Stood t.state
+        (after_step (session_after t (top_first p n all)) (top_number p n)).state n
+    in_later is taken last =
+        let one = scoped taken in
+        let name : List ℕ = round_of p n in
+        let t2 : Session = after_step t1 (top_number p n) in
+        let made = number_stands t1 name top (decimal n) (has_come t.state all) one.consistent
+        one.place last in
+        let stands : Stands t2.state name (kind.Value (codes "night") (decimal n)) (night_text n) =
+        subst (λ (x : Option (List ℕ)). Stands t2.state name
         (kind.Value (codes "night") (decimal n)) x)
         (sym (ap (λ b. cond b None (Some (decimal n))) is)) made in
-        let here : Stood t.state t2.state n = record {
-          there = later_there t2.state n (role_name top role.Round) stands is;
+        record {
+          there = later_there t2.state n name stands is;
           last = λ small.
-              number_last t1 (role_name top role.Round) top n (has_come t.state all) one.consistent
-              one.place last.0 least small
+              number_last t1 name top n (has_come t.state all) one.consistent one.place last least
+              small
               ∙ ap (λ m. max m n) one.last;
-        } in
-        subst (λ (x : Session). Stood t.state x.state n) (sym (steps_join first number t)) here
+        }
 
 -- The base that is kept, or a new one.
 pub base_stood : (p : State) (t : Session) (n : ℕ) (all : Option Until) → IsConsistent t.state

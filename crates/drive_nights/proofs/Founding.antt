@@ -1,12 +1,10 @@
 -- A scope with its deadline is made, and is the last one of its group.
-use Rattle.std.proofs.Common.{◌≡◌, ◌<◌, ◌∙◌, ◌&&◌, ◌||◌, ◌+◌, ℕ, suc, Bool, true, false, cond}
-use Rattle.std.proofs.Common.{List, [], ◌∷◌, Option, Some, None, length, slice_get, nat_le, codes}
-use Rattle.std.proofs.Common.{ap, refl, sym, subst, arith}
-use Rattle.std.proofs.Math.Bool.{or-false}
+use Rattle.std.proofs.Common.{◌≡◌, ◌<◌, ◌∙◌, ◌&&◌, ◌||◌, ◌+◌, ℕ, Bool, true, false}
+use Rattle.std.proofs.Common.{List, Option, Some, None, length, slice_get, nat_le, codes}
+use Rattle.std.proofs.Common.{ap, refl, sym, subst}
 use Rattle.std.proofs.lemmas.Bool.{and_parts}
 use Rattle.std.proofs.lemmas.Option.{slice_get_within}
 use Rattle.std.specs.Option.{option_and_then, option_map, option_map_or}
-use Rattle.run_model.specs.Allowed.{takes_cause}
 use Rattle.run_model.specs.declared.commands.Step.{Step}
 use Rattle.run_model.specs.declared.commands.Wish.TheVariants as wish
 use Rattle.run_model.specs.declared.scopes.Kind.{Kind}
@@ -22,12 +20,12 @@ use Rattle.drive_nights.specs.declared.names.Role.TheVariants as role
 use Rattle.drive_nights.specs.declared.untils.Until.{Until}
 use Rattle.drive_nights.specs.Effects.{AreTaken, is_taken}
 use Rattle.drive_nights.specs.Names.{role_name}
-use Rattle.drive_nights.specs.Nights.{base_of, name_at, night_text, parent_of}
+use Rattle.drive_nights.specs.Nights.{base_of, night_text, parent_of}
 use Rattle.drive_nights.specs.Results.{HasDeadline, kind_at}
 use Rattle.drive_nights.specs.Rooms.{derive, scope_steps, words_of}
 use Rattle.drive_nights.proofs.Adding.{Adds, base_left, base_own, is_base_of, last_in, no_base}
 use Rattle.drive_nights.proofs.Adding.{one_adds, place_is, scope_left, scope_own}
-use Rattle.drive_nights.proofs.Making.{Grows, grows_on}
+use Rattle.drive_nights.proofs.Making.{Grows}
 use Rattle.drive_nights.proofs.Placing.{Place, one_derive}
 use Rattle.drive_nights.proofs.Rooming.{deadline_due}
 

@@ -6,6 +6,7 @@ pub mod Belonging
 pub mod Withdrawing
 pub mod Placing
 pub mod Rooming
+pub mod Topping
 pub mod Adding
 pub mod Founding
 pub mod Settling

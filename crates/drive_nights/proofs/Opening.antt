@@ -24,18 +24,17 @@ use Rattle.night_drive.specs.Distinct.{IsPlain}
 use Rattle.night_drive.specs.Names.{belongs, is_same, night_of}
 use Rattle.night_drive.specs.Seen.{is_over, is_owned}
 use Rattle.night_drive.proofs.Searching.{last_passes}
-use Rattle.drive_nights.specs.declared.names.Role.TheVariants as role
 use Rattle.drive_nights.specs.declared.untils.Until.{Until}
 use Rattle.drive_nights.specs.Effects.{AreNamed, AreTaken, IsOpen, OpeningsOpen, has_come}
 use Rattle.drive_nights.specs.Effects.{is_base_over, is_kept, is_over_after, is_taken}
-use Rattle.drive_nights.specs.Names.{free_round, role_name}
+use Rattle.drive_nights.specs.Names.{free_round}
 use Rattle.drive_nights.specs.Nights.{base_of, is_base, is_base_row, last_night, name_at}
 use Rattle.drive_nights.specs.Nights.{night_text, top_above}
 use Rattle.drive_nights.specs.Openings.{base_name, base_named, base_steps, new_base, new_top}
 use Rattle.drive_nights.specs.Openings.{opening_of, rooms_below, top_steps, until_at}
 use Rattle.drive_nights.specs.Openings.{withdrawals_below}
 use Rattle.drive_nights.specs.Rooms.{derive, is_changed, is_replaced, kept_base}
-use Rattle.drive_nights.specs.Rooms.{room_steps, scope_steps}
+use Rattle.drive_nights.specs.Rooms.{room_steps}
 use Rattle.drive_nights.proofs.Basing.{HasBase, base_stays, base_stood}
 use Rattle.drive_nights.proofs.Belonging.{round_is_of_one}
 use Rattle.drive_nights.proofs.Making.{Grows, derive_grows, grows_nowhere, grows_on}
@@ -45,6 +44,7 @@ use Rattle.drive_nights.proofs.Rooming.{Comes, Housed, Roomed, Scoped, comes_on,
 use Rattle.drive_nights.proofs.Rooming.{kept_is, last_by_tree}
 use Rattle.drive_nights.proofs.Rooming.{last_found, over_by_tree, room_made, scope_made}
 use Rattle.drive_nights.proofs.Taking.{consistent_after, steps_join, taken_join}
+use Rattle.drive_nights.proofs.Topping.{round_of, top_by, top_first, top_number}
 use Rattle.drive_nights.proofs.Withdrawing.{Withdrawn, all_withdrawn, none_waits}
 
 -- ---- the name of the top
@@ -122,22 +122,18 @@ pub top_made : (p : State) (t : Session) (n : ℕ) (all : Option Until) → IsCo
     → n < 2 ^ 64 → AreTaken t (top_steps p n all)
     → Based t.state (session_after t (top_steps p n all)).state (new_base p n) (night_text n)
     (has_come t.state all)
-top_made p t n all consistent small taken = by_number (nat_le n 1) taken
+top_made p t n all consistent small taken =
+    top_by (λ (x : Session) (name : List ℕ) (night : Option (List ℕ)). Based t.state x.state name
+    night (has_come t.state all)) p t n all taken in_first in_later
   where
     top : List ℕ
     top = new_top p n
 
-    first : List Step
-    first = scope_steps (new_top p n) (codes "root") all
+    t1 : Session
+    t1 = session_after t (top_first p n all)
 
-    number : List Step
-    number =
-        derive (role_name (new_top p n) role.Round) (new_top p n)
-        (wish.Value (codes "night") (decimal n)) ∷ []
-
-    scoped : AreTaken t (scope_steps (new_top p n) (codes "root") all)
-        → Scoped t.state
-        (session_after t (scope_steps (new_top p n) (codes "root") all)).state (new_top p n) None
+    scoped : AreTaken t (top_first p n all)
+        → Scoped t.state (session_after t (top_first p n all)).state (new_top p n) None
         (has_come t.state all)
     scoped taken =
         scope_made t (new_top p n) (codes "root") all None false consistent
@@ -149,47 +145,36 @@ top_made p t n all consistent small taken = by_number (nat_le n 1) taken
         round_is_of_one (codes "night") group n (free_round p (codes "night") n) small night_plain
         plain apart
 
-    by_number : (b : Bool)
-        → AreTaken t (scope_steps (new_top p n) (codes "root") all
-        ++ cond b [] (derive (cond b (new_top p n) (role_name (new_top p n) role.Round))
-        (new_top p n) (wish.Value (codes "night") (decimal n)) ∷ []))
-        → Based t.state (session_after t (scope_steps (new_top p n) (codes "root") all
-        ++ cond b [] (derive (cond b (new_top p n) (role_name (new_top p n) role.Round))
-        (new_top p n) (wish.Value (codes "night") (decimal n)) ∷ []))).state
-        (cond b (new_top p n) (role_name (new_top p n) role.Round))
-        (cond b None (Some (decimal n))) (has_come t.state all)
-    by_number true taken =
-        let parts = taken_join first [] t taken in
-        let one = scoped parts.0 in
-        let here : Based t.state (session_after t first).state top None (has_come t.state all) =
+    in_first : nat_le n 1 ≡ true → AreTaken t (top_first p n all)
+        → Based t.state (session_after t (top_first p n all)).state (new_top p n) None
+        (has_come t.state all)
+    in_first is taken =
+        let one = scoped taken in
         record {
           consistent = one.consistent;
           grows = one.grows;
           place = one.place;
           others = λ other group plain apart. one.others other group (left group plain apart);
-        } in
-        subst (λ (x : Session). Based t.state x.state top None (has_come t.state all))
-        (sym (steps_join first [] t)) here
-    by_number false taken =
-        let parts = taken_join first number t taken in
-        let one = scoped parts.0 in
-        let t1 : Session = session_after t first in
-        let last = and_parts (is_taken (reply_of_step t1
-        (derive (role_name top role.Round) top (wish.Value (codes "night") (decimal n))))) true
-        parts.1 in
-        let two = number_step t1 (role_name top role.Round) top (decimal n) (has_come t.state all)
-        one.consistent one.place last.0 in
-        let here : Based t.state (session_after t1 number).state (role_name top role.Round)
-        (Some (decimal n)) (has_come t.state all) = record {
+        }
+
+    in_later : nat_le n 1 ≡ false → AreTaken t (top_first p n all)
+        → is_taken (reply_of_step (session_after t (top_first p n all)) (top_number p n)) ≡ true
+        → Based t.state
+        (after_step (session_after t (top_first p n all)) (top_number p n)).state (round_of p n)
+        (Some (decimal n)) (has_come t.state all)
+    in_later is taken last =
+        let one = scoped taken in
+        let two = number_step t1 (round_of p n) top (decimal n) (has_come t.state all)
+        one.consistent one.place last in
+        record {
           consistent = two.consistent;
-          grows = grows_on t.state t1.state (session_after t1 number).state one.grows two.grows;
+          grows = grows_on t.state t1.state (after_step t1 (top_number p n)).state one.grows
+              two.grows;
           place = two.place;
           others = λ other group plain apart.
               two.others other group plain apart
               ∙ one.others other group (left group plain apart);
-        } in
-        subst (λ (x : Session). Based t.state x.state (role_name top role.Round)
-        (Some (decimal n)) (has_come t.state all)) (sym (steps_join first number t)) here
+        }
 
 -- The base after the steps for it.
 pub base_made : (p : State) (t : Session) (n : ℕ) (all : Option Until) → Comes p t → n < 2 ^ 64

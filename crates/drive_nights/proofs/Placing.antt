@@ -96,7 +96,8 @@ derive_taken t name parent w night over numbered it taken =
 abbrev pub ticked : List ℕ → ℕ → Kind → Option Hit → Scope
 ticked name s k o = option_map_or (λ hit. with_hit hit (new_scope name s k)) o (new_scope name s k)
 
-pub ticked_name : (name : List ℕ) (s : ℕ) (k : Kind) (o : Option Hit) → (ticked name s k o).name ≡ name
+pub ticked_name : (name : List ℕ) (s : ℕ) (k : Kind) (o : Option Hit)
+    → (ticked name s k o).name ≡ name
 ticked_name name s k None = refl
 ticked_name name s k (Some hit) = refl
 

@@ -2,7 +2,7 @@
 use Rattle.std.proofs.Common.{◌≡◌, ◌<◌, ◌≤◌, ◌∙◌, ◌&&◌, ◌||◌, ◌^◌, ℕ, zero, suc, Bool, true, false}
 use Rattle.std.proofs.Common.{cond, List, [], ◌∷◌, ◌++◌, Option, Some, None, length, slice_get}
 use Rattle.std.proofs.Common.{nat_le, codes, ap, refl, sym, subst, inl, inr, arith, is_some}
-use Rattle.std.proofs.lemmas.Bool.{and_parts, cases_eq, false≢true}
+use Rattle.std.proofs.lemmas.Bool.{cases_eq}
 use Rattle.std.proofs.lemmas.Option.{same_Some, slice_get_within}
 use Rattle.std.proofs.lemmas.Slice.Eq.{bytes_eq-Decides}
 use Rattle.std.specs.Fmt.{decimal}
@@ -19,7 +19,7 @@ use Rattle.run_model.specs.declared.scopes.Scope.{Scope}
 use Rattle.run_model.specs.declared.tasks.Task.{Task}
 use Rattle.run_model.specs.Rows.{root}
 use Rattle.run_model.specs.Rules.{IsConsistent}
-use Rattle.run_model.specs.Scopes.{is_done, text_under}
+use Rattle.run_model.specs.Scopes.{text_under}
 use Rattle.run_model.specs.Session.{Session, after_step, reply_of_step, session_after}
 use Rattle.run_model.specs.State.{State, TreeState}
 use Rattle.night_drive.specs.Distinct.{IsPlain}
@@ -27,24 +27,23 @@ use Rattle.night_drive.specs.Names.{belongs, is_same, night_of}
 use Rattle.night_drive.specs.Searches.{last_below}
 use Rattle.night_drive.specs.Seen.{is_over, is_owned}
 use Rattle.night_drive.proofs.Searching.{last_alike, last_within}
-use Rattle.drive_nights.specs.declared.names.Role.TheVariants as role
 use Rattle.drive_nights.specs.declared.untils.Until.{Until}
 use Rattle.drive_nights.specs.Effects.{AreNamed, AreTaken, has_come, is_base_over, is_taken}
-use Rattle.drive_nights.specs.Names.{free_round, role_name}
-use Rattle.drive_nights.specs.Nights.{base_of, is_base, is_first_top, name_at, night_text}
+use Rattle.drive_nights.specs.Names.{free_round}
+use Rattle.drive_nights.specs.Nights.{base_of, is_base, is_first_top, night_text}
 use Rattle.drive_nights.specs.Nights.{top_above}
 use Rattle.drive_nights.specs.Openings.{base_name, base_named, base_steps, new_base, new_top}
 use Rattle.drive_nights.specs.Openings.{opening_of, rooms_below, top_steps, until_at}
 use Rattle.drive_nights.specs.Openings.{withdrawals_below}
 use Rattle.drive_nights.specs.Results.{HasDeadline, HasRoom, IsMade, KeepsGroups, OpeningsMakeAll}
-use Rattle.drive_nights.specs.Rooms.{derive, is_changed, is_replaced, kept_base, kept_scope}
-use Rattle.drive_nights.specs.Rooms.{last_room, last_scope, room_steps, scope_steps}
+use Rattle.drive_nights.specs.Rooms.{is_changed, is_replaced, kept_base, kept_scope}
+use Rattle.drive_nights.specs.Rooms.{last_scope, room_steps}
 use Rattle.drive_nights.proofs.Adding.{base_own, groups_by_work, groups_on, is_base_of, last_in}
 use Rattle.drive_nights.proofs.Adding.{last_in_tree, one_adds, owned_by_work, place_is, scope_left}
 use Rattle.drive_nights.proofs.Basing.{first_top}
 use Rattle.drive_nights.proofs.Belonging.{round_is_of_one}
-use Rattle.drive_nights.proofs.Founding.{Below, below_is, below_stays, scope_founded}
-use Rattle.drive_nights.proofs.Making.{Grows, grows_nowhere, grows_on}
+use Rattle.drive_nights.proofs.Founding.{Below, Founded, below_is, below_stays, scope_founded}
+use Rattle.drive_nights.proofs.Making.{Grows, grows_on}
 use Rattle.drive_nights.proofs.Opening.{AreRoomed, after_withdrawals, base_made, night_plain}
 use Rattle.drive_nights.proofs.Opening.{number_step, rooms_made}
 use Rattle.drive_nights.proofs.Placing.{Place, place_stays, root_place}
@@ -52,7 +51,8 @@ use Rattle.drive_nights.proofs.Rooming.{Comes, comes_on, kept_is, over_by_tree, 
 use Rattle.drive_nights.proofs.Rooming.{scope_made}
 use Rattle.drive_nights.proofs.Settling.{From, IsUnmoved, Settled, Settles, settle, settled_stays}
 use Rattle.drive_nights.proofs.Taking.{consistent_after, steps_join, taken_join}
-use Rattle.drive_nights.proofs.Withdrawing.{Withdrawn, all_withdrawn}
+use Rattle.drive_nights.proofs.Topping.{round_of, top_by, top_first, top_number}
+use Rattle.drive_nights.proofs.Withdrawing.{all_withdrawn}
 
 -- ---- the base
 
@@ -81,23 +81,23 @@ record Grounds (t u : State) (n : ℕ) (all : Option Until) (name : List ℕ) (k
 top_grounds : (p : State) (t : Session) (n : ℕ) (all : Option Until) → IsConsistent t.state
     → 1 ≤ n → n < 2 ^ 64 → AreTaken t (top_steps p n all)
     → Grounds t.state (session_after t (top_steps p n all)).state n all (new_base p n) None
-top_grounds p t n all consistent least small taken = by_number (nat_le n 1) refl taken
+top_grounds p t n all consistent least small taken =
+    top_by (λ (x : Session) (name : List ℕ) (night : Option (List ℕ)). Grounds t.state x.state n all
+    name None) p t n all taken in_first in_later
   where
     top : List ℕ
     top = new_top p n
 
-    first : List Step
-    first = scope_steps (new_top p n) (codes "root") all
+    t1 : Session
+    t1 = session_after t (top_first p n all)
 
-    number : List Step
-    number =
-        derive (role_name (new_top p n) role.Round) (new_top p n)
-        (wish.Value (codes "night") (decimal n)) ∷ []
-
-    at_root : (root_place t.state consistent.numbered).place ≡ 0
-    at_root =
-        place_is t.state (codes "root") None false consistent.numbered
-        (root_place t.state consistent.numbered) 0 root consistent.numbered.rooted refl
+    founded : AreTaken t (top_first p n all)
+        → Founded t.state (session_after t (top_first p n all)).state (new_top p n) 0 all None
+    founded taken =
+        scope_founded t (new_top p n) (codes "root") all None false consistent
+        (root_place t.state consistent.numbered) 0
+        (place_is t.state (codes "root") None false consistent.numbered
+        (root_place t.state consistent.numbered) 0 root consistent.numbered.rooted refl) taken
 
     not_its : (group : List ℕ) → IsPlain group → (codes "night" ≡ group → ⊥)
         → belongs group (new_top p n) ≡ false
@@ -105,62 +105,51 @@ top_grounds p t n all consistent least small taken = by_number (nat_le n 1) refl
         round_is_of_one (codes "night") group n (free_round p (codes "night") n) small night_plain
         plain apart
 
-    by_number : (b : Bool) → nat_le n 1 ≡ b
-        → AreTaken t (scope_steps (new_top p n) (codes "root") all
-        ++ cond b [] (derive (cond b (new_top p n) (role_name (new_top p n) role.Round))
-        (new_top p n) (wish.Value (codes "night") (decimal n)) ∷ []))
-        → Grounds t.state (session_after t (scope_steps (new_top p n) (codes "root") all
-        ++ cond b [] (derive (cond b (new_top p n) (role_name (new_top p n) role.Round))
-        (new_top p n) (wish.Value (codes "night") (decimal n)) ∷ []))).state n all
-        (cond b (new_top p n) (role_name (new_top p n) role.Round)) None
-    by_number true is taken =
-        let parts = taken_join first [] t taken in
-        let founded = scope_founded t top (codes "root") all None false consistent
-        (root_place t.state consistent.numbered) 0 at_root parts.0 in
-        let u : State = (session_after t first).state in
+    in_first : nat_le n 1 ≡ true → AreTaken t (top_first p n all)
+        → Grounds t.state (session_after t (top_first p n all)).state n all (new_top p n) None
+    in_first is taken =
+        let it = founded taken in
         let own : is_base_of n kind.Cause top ≡ true =
         ap (λ b. cond b (is_first_top top) (is_same None (night_text n))) is
         ∙ first_top n (free_round p (codes "night") n) least is in
-        let here : Grounds t.state u n all top None = record {
-          base = founded.number;
-          row = founded.row;
-          found = founded.found;
-          called = founded.called;
-          is = founded.based n own (ap (λ b. cond b None (Some (decimal n))) is);
-          work = founded.work;
+        record {
+          base = it.number;
+          row = it.row;
+          found = it.found;
+          called = it.called;
+          is = it.based n own (ap (λ b. cond b None (Some (decimal n))) is);
+          work = it.work;
           old = λ s some. cc;
           new = λ none. record {
-            top = founded.number;
-            row = founded.row;
-            found = founded.found;
-            below = founded.below;
-            above = ap (λ b. cond b founded.number (option_map_or (λ (row : Scope). row.parent)
-                (slice_get u.tree.scopes founded.number) 0)) is;
+            top = it.number;
+            row = it.row;
+            found = it.found;
+            below = it.below;
+            above = ap (λ b. cond b it.number (option_map_or (λ (row : Scope). row.parent)
+                (slice_get t1.state.tree.scopes it.number) 0)) is;
           };
-          others = λ night group plain apart.
-              founded.others night group (not_its group plain apart);
-        } in
-        subst (λ (x : Session). Grounds t.state x.state n all top None)
-        (sym (steps_join first [] t)) here
-    by_number false is taken =
-        let parts = taken_join first number t taken in
+          others = λ night group plain apart. it.others night group (not_its group plain apart);
+        }
+
+    in_later : nat_le n 1 ≡ false → AreTaken t (top_first p n all)
+        → is_taken (reply_of_step (session_after t (top_first p n all)) (top_number p n)) ≡ true
+        → Grounds t.state
+        (after_step (session_after t (top_first p n all)) (top_number p n)).state n all
+        (round_of p n) None
+    in_later is taken last =
         let one = scope_made t top (codes "root") all None false consistent
-        (root_place t.state consistent.numbered) parts.0 in
-        let founded = scope_founded t top (codes "root") all None false consistent
-        (root_place t.state consistent.numbered) 0 at_root parts.0 in
-        let t1 : Session = session_after t first in
-        let name : List ℕ = role_name top role.Round in
+        (root_place t.state consistent.numbered) taken in
+        let it = founded taken in
+        let name : List ℕ = round_of p n in
+        let over : Bool = has_come t.state all in
         let k : Kind = kind.Value (codes "night") (decimal n) in
-        let asked : Step = derive name top (wish.Value (codes "night") (decimal n)) in
-        let last = and_parts (is_taken (reply_of_step t1 asked)) true parts.1 in
-        let two = number_step t1 name top (decimal n) (has_come t.state all) one.consistent
-        one.place last.0 in
-        let s : ℕ = founded.number in
-        let adds = one_adds t1 name top (wish.Value (codes "night") (decimal n)) None
-        (has_come t.state all) one.consistent one.place s
-        (place_is t1.state top None (has_come t.state all) one.consistent.numbered one.place s
-        founded.row founded.found founded.called) last.0 in
-        let u : State = (session_after t1 number).state in
+        let two = number_step t1 name top (decimal n) over one.consistent one.place last in
+        let s : ℕ = it.number in
+        let adds = one_adds t1 name top (wish.Value (codes "night") (decimal n)) None over
+        one.consistent one.place s
+        (place_is t1.state top None over one.consistent.numbered one.place s it.row it.found
+        it.called) last in
+        let u : State = (after_step t1 (top_number p n)).state in
         let m : ℕ = length t1.state.tree.scopes in
         let numbered : night_text n ≡ Some (decimal n) =
         ap (λ b. cond b None (Some (decimal n))) is in
@@ -173,23 +162,23 @@ top_grounds p t n all consistent least small taken = by_number (nat_le n 1) refl
         let of : is_same (night_of u m) (night_text n) ≡ true =
         ap (is_same (night_of u m)) numbered
         ∙ subst (λ (x : ℕ). is_same (night_of u x) (Some (decimal n)) ≡ true)
-        (place_is u name (Some (decimal n)) (has_come t.state all) two.consistent.numbered
-        two.place m adds.row adds.found adds.called) two.place.of in
+        (place_is u name (Some (decimal n)) over two.consistent.numbered two.place m adds.row
+        adds.found adds.called) two.place.of in
         let within : s < length t1.state.tree.scopes =
-        slice_get_within t1.state.tree.scopes s founded.row founded.found in
-        let here : Grounds t.state u n all name None = record {
+        slice_get_within t1.state.tree.scopes s it.row it.found in
+        record {
           base = m;
           row = adds.row;
           found = adds.found;
           called = adds.called;
           is = base_own t1.state u name s k n adds own of;
-          work = adds.work ∙ founded.work;
+          work = adds.work ∙ it.work;
           old = λ s some. cc;
           new = λ none. record {
             top = s;
-            row = founded.row;
-            found = adds.grows.scopes s within ∙ founded.found;
-            below = below_stays t1.state u founded.row 0 all adds.grows founded.below;
+            row = it.row;
+            found = adds.grows.scopes s within ∙ it.found;
+            below = below_stays t1.state u it.row 0 all adds.grows it.below;
             above = ap (λ b. cond b m (option_map_or (λ (row : Scope). row.parent)
                 (slice_get u.tree.scopes m) 0)) is
                 ∙ ap (λ (o : Option Scope). option_map_or (λ (row : Scope). row.parent) o 0)
@@ -198,10 +187,8 @@ top_grounds p t n all consistent least small taken = by_number (nat_le n 1) refl
           };
           others = λ night group plain apart.
               scope_left t1.state u name s k night group adds refl
-              ∙ founded.others night group (not_its group plain apart);
-        } in
-        subst (λ (x : Session). Grounds t.state x.state n all name None)
-        (sym (steps_join first number t)) here
+              ∙ it.others night group (not_its group plain apart);
+        }
 
 base_grounds : (p : State) (t : Session) (n : ℕ) (all : Option Until) → IsConsistent t.state
     → t.state.tree ≡ p.tree → 1 ≤ n → n < 2 ^ 64 → AreTaken t (base_steps p n all)
@@ -346,8 +333,8 @@ rooms_settled p t n b all base groups untils (suc k) from small named it at same
         let plain = named.plain k group there in
         let here_still : place.place ≡ b =
         place_is u.state base (night_text n) over roomed.consistent.numbered place it.place it.row
-        (roomed.grows.scopes it.place (slice_get_within t.state.tree.scopes it.place it.row it.found)
-        ∙ it.found) it.called
+        (roomed.grows.scopes it.place
+        (slice_get_within t.state.tree.scopes it.place it.row it.found) ∙ it.found) it.called
         ∙ at in
         let room = room_made p u n group base until moved over comes small plain place taken in
         let night : codes "night" ≡ group → ⊥ =

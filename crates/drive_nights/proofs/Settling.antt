@@ -2,7 +2,7 @@
 -- they had.
 use Rattle.std.proofs.Common.{◌≡◌, ◌<◌, ◌∙◌, ◌==◌, ◌&&◌, ◌||◌, ◌^◌, not, ℕ, Bool, true, false, cond}
 use Rattle.std.proofs.Common.{List, [], ◌∷◌, ◌++◌, Option, Some, None, length, slice_get, nat_le}
-use Rattle.std.proofs.Common.{codes, drop, take, ap, refl, sym, subst, arith, is_some}
+use Rattle.std.proofs.Common.{codes, drop, take, ap, refl, sym, subst, is_some}
 use Rattle.std.proofs.Math.Bool.{or-true}
 use Rattle.std.proofs.lemmas.Bool.{and_parts, eq-eqb, false_from_ne_true, false≢true}
 use Rattle.std.proofs.lemmas.List.{take-append-drop}
@@ -44,11 +44,10 @@ use Rattle.drive_nights.proofs.Adding.{groups_on, is_base_of, last_in_tree, one_
 use Rattle.drive_nights.proofs.Adding.{owned_by_work, owned_same, place_is, room_left, room_own}
 use Rattle.drive_nights.proofs.Belonging.{follows, round_belongs, round_is_of_one}
 use Rattle.drive_nights.proofs.Founding.{Below, below_stays, scope_founded}
-use Rattle.drive_nights.proofs.Lacking.{no_limit}
 use Rattle.drive_nights.proofs.Making.{Grows, limit_grows}
 use Rattle.drive_nights.proofs.Opening.{night_plain}
 use Rattle.drive_nights.proofs.Placing.{Place}
-use Rattle.drive_nights.proofs.Rooming.{Comes, kept_is, limit_tree, scope_made, scope_place}
+use Rattle.drive_nights.proofs.Rooming.{Comes, kept_is, scope_made, scope_place}
 use Rattle.drive_nights.proofs.Taking.{command_taken, steps_join, taken_join}
 
 -- ---- the name of a group is that of no top

@@ -232,8 +232,8 @@ MarksEnd =
     (s : Session) (n : ℕ) (mark : Step) → IsMarked s n mark
     → IsClosed s.state (after_step s mark).state n
 
--- Another night begins with the next opening if and only if the last one has begun, and has its mark
--- or another one is wanted. Otherwise the last one goes on.
+-- Another night begins with the next opening if and only if the last one has begun, and has its
+-- mark or another one is wanted. Otherwise the last one goes on.
 abbrev pub NightsEnd : Type 0
 NightsEnd =
     (p : State) (next : Bool)

@@ -21,11 +21,11 @@ pub fn an_opening_opens_a_night()
 {}
 
 /// After an opening all that the plan asks for is there. The night has its base. Each group of the
-/// plan has a group of the store that takes tasks, in its last scope. That is the scope that it had,
-/// if the words of its deadline and of that of all groups are the same, or if it was canceled, and
-/// otherwise a new one with the deadline that the plan gives. All scopes, all groups and all tasks
-/// that were there before are as they were, but for limits, and for tasks that were withdrawn. No
-/// step of the opening was refused.
+/// plan has a group of the store that takes tasks, in its last scope. That is the scope which it
+/// had, if the words of its deadline and of that of all groups are the same, or if it was canceled,
+/// and otherwise a new one with the deadline that the plan gives. All scopes, all groups and all
+/// tasks that were there before are as they were, but for limits and errors of groups, and for
+/// tasks that were withdrawn. No step of the opening was refused.
 pub fn an_opening_makes_all()
     ensures { OpeningsMakeAll }
 {}
@@ -78,8 +78,8 @@ pub fn a_new_night_is_empty()
     ensures { NewNightsAreEmpty }
 {}
 
-/// The mark of a night is recorded below its top, and nothing else. After it the night has ended. If
-/// it was the last one of the store, the next opening begins another one.
+/// The mark of a night is recorded below its top, and nothing else. After it the night has ended.
+/// If it was the last one of the store, the next opening begins another one.
 pub fn a_mark_ends_a_night()
     ensures { MarksEnd }
 {}
