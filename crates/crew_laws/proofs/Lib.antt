@@ -1,7 +1,10 @@
 pub mod Audited
+pub mod Balanced
 pub mod Ended
 pub mod ExampleNights
 pub mod Holding
 pub mod Nightly
 pub mod Noted
 pub mod Once
+pub mod WholeShifts
+pub mod WholeTurns

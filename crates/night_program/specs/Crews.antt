@@ -1,6 +1,6 @@
 -- What a crew's night over a store comes to, and the look before it at the jobs of its tasks.
 use Rattle.std.specs.Prelude.{◌≡◌, ◌⊎◌, Bool, true, false, Some, None, Result, Ok}
-use Rattle.std.specs.Prelude.{All, Err, List, ⊤}
+use Rattle.std.specs.Prelude.{All, Err, List, ℕ, ⊤}
 use Rattle.run_model.specs.declared.faults.Fault.{Fault}
 use Rattle.run_disk.specs.Disk.{DiskState}
 use Rattle.console_lines.specs.declared.faults.RunFault.{RunFault}
@@ -16,10 +16,12 @@ use Rattle.store_words.specs.declared.endings.UnknownJob.{UnknownJob}
 use Rattle.store_words.specs.Failures.{FailsBy}
 use Rattle.night_program.specs.Known.{FindsUnknown}
 
--- Each of these lists of notes is that of a worker's shift. Some desk whose book carries on from
--- what is known gave each answer under the lock, and the gate let each turn pass.
-abbrev pub AreOpenShifts : {D : Type 0} → (D → DiskState) → Known → List (List Note) → Type 0
-AreOpenShifts state known lists =
+-- Each of these lists of notes is that of a worker's shift, however many tasks the workers have
+-- started. Some desk whose book carries on from what is known gave each answer under the lock, and
+-- the gate let each turn pass.
+abbrev pub AreOpenShifts
+    : {D : Type 0} → (D → DiskState) → Known → List (List Note) → (starts : ℕ) → Type 0
+AreOpenShifts state known lists starts =
     All (IsSomeShift (OfDesk state known (λ task turn answer. answer ≡ true) (λ task. ⊤))) lists
 
 -- The result of the program after a night: all is well, the audit found a difference, or the same

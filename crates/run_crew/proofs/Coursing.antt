@@ -17,8 +17,10 @@ use Rattle.run_crew.specs.declared.notes.Note.{Note}
 use Rattle.run_crew.specs.Courses.{AreCourses, AreRounds, AreSaves, AreTurns, Call, EndsAt}
 use Rattle.run_crew.specs.Courses.{IsBegun, IsCourse, IsRun}
 use Rattle.run_crew.specs.Courses.{IsShift, IsFlusherRun, Path}
-use Rattle.run_crew.specs.Courses.{TakesTask, Went, declined, most_turns, round, task_calls}
+use Rattle.run_crew.specs.Courses.{Counts, TakesTask, Went, declined, most_turns, round}
+use Rattle.run_crew.specs.Courses.{starts_in, task_calls}
 use Rattle.run_crew.specs.Courses as call
+use Rattle.run_crew.proofs.StartCounts.{courses_start, starts-append, task_starts}
 
 -- A path over the parts of the states that stay the same, if each call is answered by those parts.
 pub seen_path :
@@ -60,6 +62,18 @@ courses-snoc jobs (first ∷ notes) calls course note all is = (
   courses-snoc jobs notes all.1 course note all.3 is,
   ap (λ l. l ++ course) all.4 ∙ append_assoc all.0 all.1 course,
 )
+
+-- A task was begun, and the calls after its run start none.
+one_task : (jobs before mid after : ℕ) (started : Started) (durable : ℕ)
+    (begun run last : List Call) (how : Outcome) → after ≡ mid
+    → begun ≡ call.Start (Ok started) ∷ call.Save started.event (Ok durable) ∷ []
+    → mid ≡ before + starts_in begun → IsRun jobs started.info run how → starts_in last ≡ 0
+    → after ≡ before + starts_in (task_calls started durable run last)
+one_task jobs before mid after started durable begun run last how same is counted is_run none =
+    let first = ap starts_in is in
+    let one = task_starts jobs started durable run last (task_calls started durable run last) how
+    is_run refl none in
+    omega (arith, same, first, counted, one)
 
 module _ {A : Type 0} (step : A → Call → A → Type 0) where
   -- The calls of two paths lead from the first one's begin to the second one's end.
@@ -188,21 +202,23 @@ module _ {A : Type 0} (step : A → Call → A → Type 0) where
       (run ++ calls) a b d (subst (λ l. Path step a l b) is first)
       (path-append run calls b c d behind last)
 
-  pub refused_start : (answer : Result Started Refusal) (why : Refusal) (a b : A) → answer ≡ Err why
-      → step a (call.Start answer) b → Went step (IsBegun None) a b
-  refused_start answer why a b is start = (
+  pub refused_start : (answer : Result Started Refusal) (why : Refusal) (before after : ℕ) (a b : A)
+      → answer ≡ Err why → after ≡ before → step a (call.Start answer) b
+      → Went step (Counts before after (IsBegun None)) a b
+  refused_start answer why before after a b is none start = (
     call.Start (Err why) ∷ [],
-    inl (why, refl),
+    (inl (why, refl), omega (arith, none)),
     (b, subst (λ x. step a (call.Start x) b) is start, refl),
   )
 
   pub failed_save : (answer : Result Started Refusal) (started : Started) (saved : Result ℕ Trouble)
-      (trouble : Trouble) (a b c : A) → answer ≡ Ok started → saved ≡ Err trouble
-      → step a (call.Start answer) b → step b (call.Save started.event saved) c
-      → Went step (IsBegun None) a c
-  failed_save answer started saved trouble a b c is was start save = (
+      (trouble : Trouble) (before after : ℕ) (a b c : A) → answer ≡ Ok started
+      → saved ≡ Err trouble → after ≡ before + 1 → step a (call.Start answer) b
+      → step b (call.Save started.event saved) c
+      → Went step (Counts before after (IsBegun None)) a c
+  failed_save answer started saved trouble before after a b c is was one start save = (
     call.Start (Ok started) ∷ call.Save started.event (Err trouble) ∷ [],
-    inr (started, trouble, refl),
+    (inr (started, trouble, refl), omega (arith, one)),
     (
       b,
       subst (λ x. step a (call.Start x) b) is start,
@@ -211,12 +227,13 @@ module _ {A : Type 0} (step : A → Call → A → Type 0) where
   )
 
   pub begun_task : (answer : Result Started Refusal) (started : Started) (saved : Result ℕ Trouble)
-      (durable : ℕ) (a b c : A) → answer ≡ Ok started → saved ≡ Ok durable
-      → IfOk saved (λ n. started.event ≤ n) → step a (call.Start answer) b
-      → step b (call.Save started.event saved) c → Went step (IsBegun (Some started)) a c
-  begun_task answer started saved durable a b c is was reached start save = (
+      (durable before after : ℕ) (a b c : A) → answer ≡ Ok started → saved ≡ Ok durable
+      → IfOk saved (λ n. started.event ≤ n) → after ≡ before + 1 → step a (call.Start answer) b
+      → step b (call.Save started.event saved) c
+      → Went step (Counts before after (IsBegun (Some started))) a c
+  begun_task answer started saved durable before after a b c is was reached one start save = (
     call.Start (Ok started) ∷ call.Save started.event (Ok durable) ∷ [],
-    (durable, subst (λ x. IfOk x (λ n. started.event ≤ n)) was reached, refl),
+    ((durable, subst (λ x. IfOk x (λ n. started.event ≤ n)) was reached, refl), omega (arith, one)),
     (
       b,
       subst (λ x. step a (call.Start x) b) is start,
@@ -224,44 +241,58 @@ module _ {A : Type 0} (step : A → Call → A → Type 0) where
     ),
   )
 
-  pub not_finished : (jobs had : ℕ) (answered : Option Started) (started : Started) (how : Outcome)
-      (answer : Result ℕ Refusal) (why : Refusal) (notes : List Note) (a b c d : A) → had ≡ jobs
-      → answered ≡ Some started → answer ≡ Err why → length notes < MOST_TASKS
-      → Went step (IsBegun answered) a b → Went step (λ calls. IsRun had started.info calls how) b c
+  pub not_finished : (jobs had before mid after : ℕ) (answered : Option Started) (started : Started)
+      (how : Outcome) (answer : Result ℕ Refusal) (why : Refusal) (notes : List Note) (a b c d : A)
+      → had ≡ jobs → answered ≡ Some started → answer ≡ Err why → length notes < MOST_TASKS
+      → after ≡ mid → Went step (Counts before mid (IsBegun answered)) a b
+      → Went step (λ calls. IsRun had started.info calls how) b c
       → step c (call.Finish started.info.task how answer) d
-      → Went step (TakesTask jobs false notes notes) a d
-  not_finished jobs had answered started how answer why notes a b c d same some is room first
-      behind finish =
-      let begun = subst (λ s. Went step (IsBegun s) a b) some first in
+      → Went step (Counts before after (TakesTask jobs false notes notes)) a d
+  not_finished jobs had before mid after answered started how answer why notes a b c d same some is
+      room kept first behind finish =
+      let begun = subst (λ s. Went step (Counts before mid (IsBegun s)) a b) some first in
       let run = subst (λ n. Went step (λ calls. IsRun n started.info calls how) b c) same behind in
-      let last : List Call = call.Finish started.info.task how (Err why) ∷ [] in (
-        task_calls started begun.1.0 run.0 last,
-        (refl, inr (room, inr (started, begun.1.0, run.0, how, why, begun.1.1, run.1, refl))),
-        run_and started begun.1.0 begun.0 run.0 last a b c d begun.1.2 begun.2 run.2
+      let last : List Call = call.Finish started.info.task how (Err why) ∷ [] in
+      let went = begun.1.0 in
+      let calls : List Call = task_calls started went.0 run.0 last in (
+        calls,
+        (
+          (refl, inr (room, inr (started, went.0, run.0, how, why, went.1, run.1, refl))),
+          one_task jobs before mid after started went.0 begun.0 run.0 last how kept went.2 begun.1.1
+              run.1 refl,
+        ),
+        run_and started went.0 begun.0 run.0 last a b c d went.2 begun.2 run.2
             (d, subst (λ x. step c (call.Finish started.info.task how x) d) is finish, refl),
       )
 
-  pub finished : (jobs had : ℕ) (answered : Option Started) (started : Started) (how : Outcome)
-      (answer : Result ℕ Refusal) (event : ℕ) (notes after : List Note) (a b c d e f : A)
-      → had ≡ jobs → answered ≡ Some started → answer ≡ Ok event
+  pub finished : (jobs had before mid later : ℕ) (answered : Option Started) (started : Started)
+      (how : Outcome) (answer : Result ℕ Refusal) (event : ℕ) (notes after : List Note)
+      (a b c d e f : A) → had ≡ jobs → answered ≡ Some started → answer ≡ Ok event
       → after ≡ notes ++ record { event = event; task = started.info.task; outcome = how } ∷ []
-      → Went step (IsBegun answered) a b → Went step (λ calls. IsRun had started.info calls how) b c
+      → later ≡ mid → Went step (Counts before mid (IsBegun answered)) a b
+      → Went step (λ calls. IsRun had started.info calls how) b c
       → step c (call.Finish started.info.task how answer) d → step e (call.Wake event) f
-      → step d (call.Report started.info.task) e → Went step (TakesTask jobs true notes after) a f
-  finished jobs had answered started how answer event notes after a b c d e f same some is
-      noted first behind finish wake report =
-      let begun = subst (λ s. Went step (IsBegun s) a b) some first in
+      → step d (call.Report started.info.task) e
+      → Went step (Counts before later (TakesTask jobs true notes after)) a f
+  finished jobs had before mid later answered started how answer event notes after a b c d e f same
+      some is noted kept first behind finish wake report =
+      let begun = subst (λ s. Went step (Counts before mid (IsBegun s)) a b) some first in
+      let went = begun.1.0 in
       let run = subst (λ n. Went step (λ calls. IsRun n started.info calls how) b c) same behind in
       let task = started.info.task in
       let last : List Call =
       call.Finish task how (Ok event) ∷ call.Report task ∷ call.Wake event ∷ [] in (
-        task_calls started begun.1.0 run.0 last,
+        task_calls started went.0 run.0 last,
         (
-          record { event = event; task = task; outcome = how },
-          (started, begun.1.0, run.0, begun.1.1, run.1, refl, refl),
-          noted,
+          (
+            record { event = event; task = task; outcome = how },
+            (started, went.0, run.0, went.1, run.1, refl, refl),
+            noted,
+          ),
+          one_task jobs before mid later started went.0 begun.0 run.0 last how kept went.2 begun.1.1
+              run.1 refl,
         ),
-        run_and started begun.1.0 begun.0 run.0 last a b c f begun.1.2 begun.2 run.2 (
+        run_and started went.0 begun.0 run.0 last a b c f went.2 begun.2 run.2 (
           d,
           subst (λ x. step c (call.Finish task how x) d) is finish,
           (e, report, (f, wake, refl)),
@@ -270,31 +301,45 @@ module _ {A : Type 0} (step : A → Call → A → Type 0) where
 
   -- ---- the shift
 
-  pub next_course : (jobs had : ℕ) (came : Bool) (notes after : List Note) (a b c : A) → had ≡ jobs
-      → came ≡ true → Went step (AreCourses jobs notes) a b
-      → Went step (TakesTask had came notes after) b c → Went step (AreCourses jobs after) a c
-  next_course jobs had came notes after a b c same is before more =
-      let last = subst (λ n. Went step (TakesTask n came notes after) b c) same more in
-      let taken = subst (λ t. Went step (TakesTask jobs t notes after) b c) is last in
-      let all : Went step (AreCourses jobs (notes ++ taken.1.0 ∷ [])) a c = (
+  pub next_course : (jobs had from to : ℕ) (came : Bool) (notes after : List Note) (a b c : A)
+      → had ≡ jobs → came ≡ true → Went step (AreCourses jobs notes) a b
+      → Went step (Counts from to (TakesTask had came notes after)) b c
+      → Went step (AreCourses jobs after) a c
+  next_course jobs had from to came notes after a b c same is before more =
+      let last = subst (λ n. Went step (Counts from to (TakesTask n came notes after)) b c) same
+      more in
+      let taken = subst (λ t. Went step (Counts from to (TakesTask jobs t notes after)) b c) is
+      last in
+      let took = taken.1.0 in
+      let all : Went step (AreCourses jobs (notes ++ took.0 ∷ [])) a c = (
         before.0 ++ taken.0,
-        courses-snoc jobs notes before.0 taken.0 taken.1.0 before.1 taken.1.1,
+        courses-snoc jobs notes before.0 taken.0 took.0 before.1 took.1,
         path-append before.0 taken.0 a b c before.2 taken.2,
       ) in
-      subst (λ l. Went step (AreCourses jobs l) a c) (sym taken.1.2) all
+      subst (λ l. Went step (AreCourses jobs l) a c) (sym took.2) all
 
-  pub ended_shift : (jobs had : ℕ) (came : Bool) (notes after : List Note) (a b c : A) → had ≡ jobs
-      → came ≡ false → Went step (AreCourses jobs notes) a b
-      → Went step (TakesTask had came notes after) b c → Went step (IsShift jobs after) a c
-  ended_shift jobs had came notes after a b c same is before more =
-      let last = subst (λ n. Went step (TakesTask n came notes after) b c) same more in
-      let ended = subst (λ t. Went step (TakesTask jobs t notes after) b c) is last in
-      let all : Went step (IsShift jobs notes) a c = (
+  pub ended_shift : (jobs had from to : ℕ) (came : Bool) (notes after : List Note) (a b c : A)
+      → had ≡ jobs → came ≡ false → from ≡ length notes → Went step (AreCourses jobs notes) a b
+      → Went step (Counts from to (TakesTask had came notes after)) b c
+      → Went step (Counts 0 to (IsShift jobs after)) a c
+  ended_shift jobs had from to came notes after a b c same is counted before more =
+      let last = subst (λ n. Went step (Counts from to (TakesTask n came notes after)) b c) same
+      more in
+      let ended = subst (λ t. Went step (Counts from to (TakesTask jobs t notes after)) b c) is
+      last in
+      let took = ended.1.0 in
+      let sum = starts-append before.0 ended.0 in
+      let each = courses_start jobs notes before.0 before.1 in
+      let rest = ended.1.1 in
+      let all : Went step (Counts 0 to (IsShift jobs notes)) a c = (
         before.0 ++ ended.0,
-        (before.0, ended.0, before.1, ended.1.1, refl),
+        (
+          (before.0, ended.0, before.1, took.1, refl),
+          omega (arith, sum, each, rest, counted),
+        ),
         path-append before.0 ended.0 a b c before.2 ended.2,
       ) in
-      subst (λ l. Went step (IsShift jobs l) a c) (sym ended.1.0) all
+      subst (λ l. Went step (Counts 0 to (IsShift jobs l)) a c) (sym took.0) all
 
   -- ---- the flusher
 

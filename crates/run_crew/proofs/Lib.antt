@@ -9,8 +9,10 @@ pub mod PrintedNights
 pub mod Permuting
 pub mod Rooms
 pub mod SomeShifts
+pub mod StartCounts
 pub mod Stepping
 pub mod Strays
+pub mod Summing
 pub mod Turning
 pub mod Working
 pub mod Zipping

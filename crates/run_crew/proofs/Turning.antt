@@ -252,11 +252,12 @@ module _ {J : Type 0} (answers : J → List ℕ → Bool → Type 0)
             are.3 both.2,
       )
 
-  pub shift_is_done : (jobs : List J) (notes : List Note)
-      → IsOfShift Answered answers turns jobs notes → AreDone answers turns Answered notes jobs
-  shift_is_done jobs notes shift =
+  pub shift_is_done : (jobs : List J) (notes : List Note) (starts : ℕ)
+      → IsOfShift Answered answers turns jobs notes starts
+      → AreDone answers turns Answered notes jobs
+  shift_is_done jobs notes starts shift =
       let went = shift.1 in
-      let is = went.1 in
+      let is = went.1.0 in
       let both = path_split Steps is.0 is.1 jobs shift.0
       (subst (λ l. Walk l jobs shift.0) is.4 went.2) in
       are_done (length jobs) notes is.0 jobs both.0 refl is.2 both.1

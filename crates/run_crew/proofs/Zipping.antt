@@ -1,9 +1,8 @@
 -- Two lists, each element of which has its counterpart at the same place of the other one.
 use Rattle.std.proofs.Common.{◌≡◌, ◌⊎◌, ◌+◌, ◌<◌, ◌∙◌, ℕ, List, [], ◌∷◌, ◌++◌, length, map, ap}
 use Rattle.std.proofs.Common.{append-nil, arith, inl, inr, refl, subst, suc, sym}
-use Rattle.std.proofs.lemmas.List.Elements.{All-cons, All-nil}
 use Rattle.std.specs.List.{AllZip}
-use Rattle.std.specs.Prelude.{All, Err, IfOk, Ok, Result}
+use Rattle.std.specs.Prelude.{Err, IfOk, Ok, Result}
 
 pub zip_push : {A B : Type 0} (R : A → B → Type 0) (xs : List A) (ys : List B) (x : A) (y : B)
     → AllZip R xs ys → R x y → AllZip R (xs ++ x ∷ []) (ys ++ y ∷ [])
@@ -26,7 +25,7 @@ zip_of_maps R f g [] (b ∷ ys) zip = absurd zip
 zip_of_maps R f g (a ∷ xs) [] zip = absurd zip
 zip_of_maps R f g (a ∷ xs) (b ∷ ys) zip = (zip.0, zip_of_maps R f g xs ys zip.1)
 
-pub maps_of_zip : {A B C D : Type 0} (R : C → D → Type 0) (f : A → C) (g : B → D) (xs : List A)
+maps_of_zip : {A B C D : Type 0} (R : C → D → Type 0) (f : A → C) (g : B → D) (xs : List A)
     (ys : List B) → AllZip (λ x y. R (f x) (g y)) xs ys → AllZip R (map f xs) (map g ys)
 maps_of_zip R f g [] [] zip = tt
 maps_of_zip R f g [] (b ∷ ys) zip = absurd zip
@@ -73,14 +72,6 @@ takes_one f g n had left has' left' xs xs' x ys ys' y all more less pushed first
     inl (omega (arith, more, less, few))
 takes_one f g n had left has' left' xs xs' x ys ys' y all more less pushed first same (inr is) =
     inr (pushes f g xs xs' x ys ys' y all pushed first same is)
-
-pub all_of_zip : {A B : Type 0} (R : A → B → Type 0) (P : B → Type 0)
-    → ((x : A) (y : B) → R x y → P y) → (xs : List A) (ys : List B) → AllZip R xs ys → All P ys
-all_of_zip R P each [] [] zip = All-nil P
-all_of_zip R P each [] (b ∷ ys) zip = absurd zip
-all_of_zip R P each (a ∷ xs) [] zip = absurd zip
-all_of_zip R P each (a ∷ xs) (b ∷ ys) zip =
-    All-cons P b ys (each a b zip.0) (all_of_zip R P each xs ys zip.1)
 
 -- A relation between each element and its counterpart is one between the parts that both lists
 -- show, if no element was left out.

@@ -1,6 +1,6 @@
 -- The course of a task: the calls of a worker, in order, with the answer to each. Also the calls
 -- that the flusher makes at the same time.
-use Rattle.std.specs.Prelude.{ℕ, zero, suc, ◌<◌, ◌≤◌, ◌≡◌, ◌⊎◌, Bool, true, false, codes}
+use Rattle.std.specs.Prelude.{ℕ, zero, suc, ◌<◌, ◌≤◌, ◌≡◌, ◌+◌, ◌⊎◌, Bool, true, false, codes}
 use Rattle.std.specs.Prelude.{List, [], ◌∷◌, ◌++◌, All, length, Result, Ok, Err, Option, None}
 use Rattle.std.specs.Prelude.{Some, IfOk, slice_get, slice_set, ⊤}
 use Rattle.run_model.specs.declared.answers.Started.{Started}
@@ -168,6 +168,22 @@ IsShift jobs notes calls =
     (courses : List Call) × (last : List Call) × AreCourses jobs notes courses
     × EndsShift jobs notes last × (calls ≡ courses ++ last)
 
+-- ---- the tasks that were started
+
+-- The number of tasks that a call starts.
+abbrev pub starts_by : Call → ℕ
+starts_by (Start (Ok started)) = 1
+starts_by call = 0
+
+-- The number of tasks that these calls start.
+abbrev pub starts_in : List Call → ℕ
+starts_in [] = 0
+starts_in (call ∷ calls) = starts_by call + starts_in calls
+
+-- The calls have this property, and a count of started tasks goes from the one number to the other.
+abbrev pub Counts : ℕ → ℕ → (List Call → Type 0) → List Call → Type 0
+Counts before after Holds calls = Holds calls × (after ≡ before + starts_in calls)
+
 -- ---- the flusher
 
 -- This many rounds of the flusher, the last of which is for this event. Each round waits until
@@ -247,11 +263,12 @@ abbrev pub StepsShift
 StepsShift Answered answers turns jobs call left =
     Answered call × StepsJobs answers turns jobs call left
 
--- These are the notes of a shift that began with these jobs, each of whose calls has such an
--- answer.
+-- These are the notes of a shift that began with these jobs and started this many tasks. Each of
+-- its calls has such an answer.
 abbrev pub IsOfShift
     : {J : Type 0} → (Call → Type 0) → (J → List ℕ → Bool → Type 0)
-    → (J → TaskInfo → ℕ → Bool → Turn → J → Type 0) → List J → List Note → Type 0
-IsOfShift Answered answers turns jobs notes =
-    (left : List _) × Went (StepsShift Answered answers turns) (IsShift (length jobs) notes)
+    → (J → TaskInfo → ℕ → Bool → Turn → J → Type 0) → List J → List Note → (starts : ℕ) → Type 0
+IsOfShift Answered answers turns jobs notes starts =
+    (left : List _)
+    × Went (StepsShift Answered answers turns) (Counts 0 starts (IsShift (length jobs) notes))
     jobs left

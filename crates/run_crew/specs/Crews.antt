@@ -80,10 +80,11 @@ pub record WasLeft {D : Type 0} (state : D → DiskState) (known : Known) (left 
   pub carries : Carries known state book
   pub disk : book.journal.disk ≡ left
 
--- This many workers left a desk and a list of notes each, and their shifts were like this. Then the
--- desk's book was flushed. The book carries on from what is known about it, and this is its disk.
+-- This many workers left a desk and a list of notes each, and their shifts were like this: they
+-- have started as many tasks as the history has starts. Then the desk's book was flushed. The book
+-- carries on from what is known about it, and this is its disk.
 pub record IsWorked {D : Type 0} (state : D → DiskState) (known : Known)
-    (Shifts : List (List Note) → Type 0) (workers : ℕ)
+    (Shifts : List (List Note) → (starts : ℕ) → Type 0) (workers : ℕ)
     (audited : Result ⊤ Strayed) (starts finishes : ℕ) (flushed : Result ℕ Trouble)
     (left : D) : Type 0
   where
@@ -104,7 +105,7 @@ pub record IsWorked {D : Type 0} (state : D → DiskState) (known : Known)
     pub exactly : OnOk audited (IsPermutation (made_at desk) (all_notes lists))
     pub started : starts ≡ starts_of desk.book.session.history
     pub finished : finishes ≡ finishes_of desk.book.session.history
-    pub shifts : Shifts lists
+    pub shifts : Shifts lists starts
     pub each_has_a_list : length lists ≡ workers
     pub each_is_noted : finishes ≡ noted lists
     pub each_was_started : finishes ≤ starts
@@ -138,7 +139,8 @@ pub record AcksNight (p : State) (work : List Event) (n : ℕ) (s : DiskState) :
 -- opened, but memory or a thread was refused: nothing was printed. Or the workers ran, their shifts
 -- were like this, given the facts known about the opened book, and the report about what they left
 -- was printed.
-abbrev pub CrewEnds : {D : Type 0} → (D → DiskState) → (Shifts : Known → List (List Note) → Type 0)
+abbrev pub CrewEnds : {D : Type 0} → (D → DiskState)
+    → (Shifts : Known → List (List Note) → (starts : ℕ) → Type 0)
     → (given : D) → (workers : ℕ) → Result Bool RunFault → (left : D)
     → (w0 w1 : Option (List ℕ)) → Type 0
 CrewEnds {D = D} state Shifts given workers answer left w0 w1 =

@@ -1,6 +1,5 @@
 -- The calls of a desk under a lock, and the result of a run.
-use Rattle.std.specs.Prelude.{◌≡◌, ◌≤◌, ℕ, Bool, List, Result}
-use Rattle.std.specs.List.{AllZip}
+use Rattle.std.specs.Prelude.{◌≡◌, ◌≤◌, ◌+◌, ℕ, Bool, List, [], ◌∷◌, Result}
 use Rattle.run_model.specs.declared.answers.Started.{Started}
 use Rattle.run_model.specs.declared.answers.TaskInfo.{TaskInfo}
 use Rattle.run_model.specs.declared.answers.Reply.TheVariants as answered
@@ -56,12 +55,16 @@ module _ {D : Type 0} (state : D → DiskState) (known : Known) where
 -- ---- a run
 
 -- There is a list of notes for each list of jobs. They are the notes of a shift with these jobs,
--- each of whose calls has such an answer.
+-- each of whose calls has such an answer. All shifts together have started this many tasks.
 abbrev pub AreShifts : {J L : Type 0} → (Call → Type 0) → (J → List ℕ → Bool → Type 0)
     → (J → TaskInfo → ℕ → Bool → Turn → J → Type 0) → (L → List J) → List L → List (List Note)
-    → Type 0
-AreShifts Answered answers turns items jobs lists =
-    AllZip (λ list notes. IsOfShift Answered answers turns (items list) notes) jobs lists
+    → (starts : ℕ) → Type 0
+AreShifts Answered answers turns items [] [] starts = starts ≡ 0
+AreShifts Answered answers turns items (list ∷ jobs) (notes ∷ lists) starts =
+    (own : ℕ) × (others : ℕ) × (starts ≡ own + others)
+    × IsOfShift Answered answers turns (items list) notes own
+    × AreShifts Answered answers turns items jobs lists others
+AreShifts Answered answers turns items jobs lists starts = ⊥
 
 -- The result of a flush of some book that carries on from the facts known at the opening. Its
 -- history contains each start and finish that the counts hold.

@@ -4,7 +4,8 @@
 ghost use Rattle.std.specs.Prelude.{◌≡◌, ◌⊎◌, ◌<◌, ◌≤◌, ◌+◌, [], length, MatchOption};
 ghost use Rattle.run_model.specs.declared.tasks.Outcome.TheVariants as outcome;
 ghost use Rattle.run_model.specs.Texts.{IsText};
-ghost use Rattle.run_crew.specs.Courses.{AreTurns, IsBegun, IsRun, IsShift, TakesTask, Went};
+ghost use Rattle.run_crew.specs.Courses.{AreTurns, Counts, IsBegun, IsRun, IsShift, TakesTask};
+ghost use Rattle.run_crew.specs.Courses.{Went};
 ghost use Rattle.run_crew.specs.OwnCounts.{one_part, one_start};
 ghost use Rattle.run_crew.specs.Shifts.{AfterTask};
 
@@ -32,7 +33,8 @@ pub fn take_tasks<S: Ledger, F: Ledger, W: WorkerCalls<S, F>, R: Wait>(
     ensures finishes { own.new.finishes ≡ length notes.new }
     ensures starts { (length notes.new ≤ own.new.starts)
         × (own.new.starts ≤ length notes.new + 1) }
-    ensures calls { Went W.step (IsShift (W.jobs worker.old) notes.new) worker.old worker.new }
+    ensures calls { Went W.step (Counts 0 own.new.starts (IsShift (W.jobs worker.old) notes.new))
+        worker.old worker.new }
 {
     for _ in rt.forever() {
         if !take_task(worker, own, notes) {
@@ -52,8 +54,8 @@ pub fn take_task<S: Ledger, F: Ledger, W: WorkerCalls<S, F>>(
     requires parts { (0 < own.old.start_parts) × (0 < own.old.finish_parts) }
     ensures own { AfterTask result own.old own.new (length notes.old) (length notes.new) }
     ensures jobs { W.jobs worker.new ≡ W.jobs worker.old }
-    ensures calls { Went W.step (TakesTask (W.jobs worker.old) result notes.old notes.new)
-        worker.old worker.new }
+    ensures calls { Went W.step (Counts own.old.starts own.new.starts
+        (TakesTask (W.jobs worker.old) result notes.old notes.new)) worker.old worker.new }
 {
     if notes.is_full() {
         return false;
@@ -86,7 +88,8 @@ fn start<S: Ledger, F: Ledger, W: WorkerCalls<S, F>>(
     ensures own { MatchOption result ((own.new ≡ own.old) ⊎ (own.new ≡ one_start own.old))
         (λ _. own.new ≡ one_start own.old) }
     ensures jobs { W.jobs worker.new ≡ W.jobs worker.old }
-    ensures calls { Went W.step (IsBegun result) worker.old worker.new }
+    ensures calls { Went W.step (Counts own.old.starts own.new.starts (IsBegun result))
+        worker.old worker.new }
 {
     let Ok(started) = worker.start(own) else {
         return None;

@@ -47,10 +47,10 @@ pub fn crew<D: RunDisk + Drop + Send, G: Gate + Sync, R: Threads + Wait + Sync, 
     gate: &G,
     output: &mut W,
 ) -> Result<bool, RunFault>
-    ensures { (left : D) × CrewEnds D.state (λ known lists.
+    ensures { (left : D) × CrewEnds D.state (λ known lists starts.
         AreShifts (OfDesk D.state known (G.lets gate.now) (G.reported gate.now))
         ⟦<Box<dyn Job + Send> as Job>⟧.answers ⟦<Box<dyn Job + Send> as Job>⟧.turns
-        (λ list. list.items) jobs.items lists)
+        (λ list. list.items) jobs.items lists starts)
         disk (vec_len jobs) result left (W.contents output.old) (W.contents output.new) }
 {
     let (done, _) = crew_over(rt, alloc, disk, jobs, gate, output);
@@ -68,10 +68,10 @@ pub fn crew_over<D: RunDisk + Drop + Send, G: Gate + Sync, R: Threads + Wait + S
     gate: &G,
     output: &mut W,
 ) -> (Result<bool, RunFault>, D)
-    ensures { CrewEnds D.state (λ known lists.
+    ensures { CrewEnds D.state (λ known lists starts.
         AreShifts (OfDesk D.state known (G.lets gate.now) (G.reported gate.now))
         ⟦<Box<dyn Job + Send> as Job>⟧.answers ⟦<Box<dyn Job + Send> as Job>⟧.turns
-        (λ list. list.items) jobs.items lists)
+        (λ list. list.items) jobs.items lists starts)
         disk (vec_len jobs) result.0 result.1 (W.contents output.old) (W.contents output.new) }
 {
     let book = match Book::open(alloc, disk) {

@@ -16,9 +16,9 @@ use run_disk::RunDisk;
 /// `gate`, `turn limit` or `no such job`. Every turn was made once, by the job as the turn before
 /// had left it.
 pub fn notes_are_what_the_jobs_answered<D: RunDisk, O: Opening, G: Gate, J: Job>()
-    ensures { (gate : G) (jobs : List J) (notes : List Note)
+    ensures { (gate : G) (jobs : List J) (notes : List Note) (starts : ℕ)
         → IsOfShift (OfDesk D.state O.opening (G.lets gate) (G.reported gate)) J.answers J.turns
-        jobs notes
+        jobs notes starts
         → AreDone J.answers J.turns (OfDesk D.state O.opening (G.lets gate) (G.reported gate))
         notes jobs }
 {}
@@ -29,8 +29,8 @@ pub fn notes_are_what_the_jobs_answered<D: RunDisk, O: Opening, G: Gate, J: Job>
 pub fn each_start_is_durable_before_its_turns<D: RunDisk, O: Opening, G: Gate, J: Job>()
     ensures order { (jobs : ℕ) (notes : List Note) (calls : List Call) → IsShift jobs notes calls
         → TurnsFollow calls }
-    ensures desk { (gate : G) (jobs : List J) (notes : List Note)
+    ensures desk { (gate : G) (jobs : List J) (notes : List Note) (starts : ℕ)
         → IsOfShift (OfDesk D.state O.opening (G.lets gate) (G.reported gate)) J.answers J.turns
-        jobs notes
+        jobs notes starts
         → All (λ note. WasDurable D.state O.opening note) notes }
 {}

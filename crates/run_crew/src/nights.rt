@@ -1,6 +1,7 @@
 //! A run over a desk: one worker for each list of jobs, and one more thread that flushes.
 
-ghost use Rattle.std.specs.Prelude.{◌≡◌, ◌⊎◌, ◌<◌, ◌≤◌, [], All, map, vec_len, vec_capacity};
+ghost use Rattle.std.specs.Prelude.{◌≡◌, ◌⊎◌, ◌+◌, ◌-◌, ◌<◌, ◌≤◌, [], All, map, sum_by, vec_len};
+ghost use Rattle.std.specs.Prelude.{vec_capacity};
 ghost use Rattle.std.specs.Prelude.{IfOk, IfErr, OnOk};
 ghost use Rattle.run_model.specs.declared.faults.Fault.TheVariants.{Memory};
 ghost use Rattle.std.specs.List.{AllZip};
@@ -66,7 +67,7 @@ pub fn run_night<
     ensures shifts { IfOk result (λ r.
         AreShifts (OfDesk D.state O.opening (G.lets gate.now) (G.reported gate.now))
         ⟦<Box<dyn Job + Send> as Job>⟧.answers ⟦<Box<dyn Job + Send> as Job>⟧.turns
-        (λ list. list.items) jobs.items r.0.items) }
+        (λ list. list.items) jobs.items r.0.items (own.new.starts - own.old.starts)) }
     ensures flushed { IfOk result (λ r. FlushesNight D.state O.opening own.new r.1) }
     ensures fault { IfErr result (λ fault. fault ≡ Memory) }
 {
@@ -99,7 +100,7 @@ pub fn run_shifts<
     ensures shifts { IfOk result (λ lists. AreShifts
         (IsAnswered T.starts T.holds T.flushes T.reports T.finishes
         (G.lets gate.now) (G.reported gate.now)) J.answers J.turns (λ list. list.items)
-        jobs.items lists.items) }
+        jobs.items lists.items (own.new.starts - own.old.starts)) }
     ensures fault { IfErr result (λ fault. fault ≡ Memory) }
 {
     let Ok(mut notes) = Vec::with_capacity(alloc, jobs.len()) else {
@@ -158,8 +159,8 @@ fn shifts_of<
     ensures len { IfOk result (λ v. vec_len v ≡ vec_len workers) }
     ensures shifts { IfOk result (λ v. AllZip (λ worker end. IsOfShift
         (IsAnswered T.starts T.holds T.flushes T.reports T.finishes
-        (G.lets gate.now) (G.reported gate.now)) J.answers J.turns worker.jobs.items end.notes)
-        workers.items v.items) }
+        (G.lets gate.now) (G.reported gate.now)) J.answers J.turns worker.jobs.items end.notes
+        end.own.starts) workers.items v.items) }
 {
     let count = workers.len();
     let mut handles = Vec::with_capacity(alloc, count)?;
@@ -179,7 +180,7 @@ fn shifts_of<
             ensures shifts { IfOk result (λ v. AllZip (λ worker end. IsOfShift
                 (IsAnswered T.starts T.holds T.flushes T.reports T.finishes
                 (G.lets gate.entry.now) (G.reported gate.entry.now)) J.answers J.turns
-                worker.jobs.items end.notes) workers.items v.items) }
+                worker.jobs.items end.notes end.own.starts) workers.items v.items) }
         {
             let flusher = scope.spawn(move || save_at(rt, shared, arrivals, signal))?;
             start_each(
@@ -240,7 +241,7 @@ fn start_each<
             move || -> WorkerEnd<S, F>
                 ensures { IsOfShift (IsAnswered T.starts T.holds T.flushes T.reports T.finishes
                     (G.lets gate.entry.now) (G.reported gate.entry.now)) J.answers J.turns
-                    worker.jobs.items result.notes }
+                    worker.jobs.items result.notes result.own.starts }
             { worker.work(rt, shared, arrivals, signal, gate) },
         ) {
             Ok(handle) => handles.push_reserved(handle),
@@ -266,7 +267,7 @@ fn joined<S: Ledger, F: Ledger, T: CountedPlace<S, F>, G: Gate, J: Job, R: Threa
     ensures shifts { IfOk result (λ v. AllZip (λ h end. IsOfShift
         (IsAnswered T.starts T.holds T.flushes T.reports T.finishes
         (G.lets gate.now) (G.reported gate.now)) J.answers J.turns h.promise.jobs.value.items
-        end.notes) handles.entry.items v.items) }
+        end.notes end.own.starts) handles.entry.items v.items) }
 {
     for handle in handles {
         shifts.push_reserved(handle.join(rt));
@@ -305,6 +306,8 @@ fn gather<S: Ledger, F: Ledger>(
     ensures len { vec_len notes.new ≡ vec_len shifts }
     ensures notes { notes.new.items ≡ map (λ shift. shift.notes) shifts.items }
     ensures own { JoinsShifts (vec_len notes.new) (noted notes.new.items) own.old own.new }
+    ensures starts { own.new.starts
+        ≡ own.old.starts + sum_by (λ shift. shift.own.starts) shifts.items }
 {
     for shift in shifts {
         let WorkerEnd {

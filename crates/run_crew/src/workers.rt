@@ -58,7 +58,7 @@ impl<'a, S: Ledger, F: Ledger, T: CountedPlace<S, F>, G: Gate, J: Job> Promise<W
     for ShiftOf<'a, T, G, J> {
     ghost kept_by = { λ p end. IsOfShift (IsAnswered T.starts T.holds T.flushes T.reports
         T.finishes (G.lets p.gate.now) (G.reported p.gate.now)) J.answers J.turns
-        p.jobs.value.items end.notes };
+        p.jobs.value.items end.notes end.own.starts };
 }
 
 impl<S: Ledger, F: Ledger, J: Job> WorkerStart<S, F, J> {
@@ -83,7 +83,7 @@ impl<S: Ledger, F: Ledger, J: Job> WorkerStart<S, F, J> {
     ) -> WorkerEnd<S, F>
         ensures { IsOfShift (IsAnswered T.starts T.holds T.flushes T.reports T.finishes
             (G.lets gate.now) (G.reported gate.now)) J.answers J.turns self.jobs.items
-            result.notes }
+            result.notes result.own.starts }
     {
         let WorkerStart {
             jobs,

@@ -1,11 +1,13 @@
-use Rattle.std.proofs.Common.{◌∙◌, ap, length, refl, subst, sym}
+use Rattle.std.proofs.Common.{◌≡◌, ◌∙◌, ap, length, refl, subst, sym}
 use Rattle.std.specs.List.Sorted.{IsPermutation}
 use Rattle.std.specs.Prelude.{MatchResult, OnOk}
 use Rattle.book_model.specs.Books.{BookView}
 use Rattle.run_crew.specs.Audits.{HasStrayed, IsComplete, made_at}
 use Rattle.run_crew.specs.Desks.{DeskView}
+use Rattle.run_crew.specs.Nights.{OfDesk}
 use Rattle.run_crew.specs.Notes.{all_notes}
 use Rattle.run_crew.specs.OwnCounts.{OwnCountsView}
+use Rattle.run_crew.proofs.Summing.{counted_all, shifts_for}
 use Rattle.run_crew.proofs.Working.{acknowledged, no_finishes, no_starts, shares_count}
 use Rattle.run_crew.proofs.crews.work.Goals as goal
 
@@ -21,6 +23,9 @@ returns-clause-worked g c =
     c.in-Ok.ensures.own.finishes c.in-Ok.ensures.own.starts c.in-Ok.ensures.own.one_more
     c.settle-starts.ensures.counted.0 c.settle-starts.ensures.counted.1
     refl in
+    let none = ap (λ (s : OwnCountsView). s.starts) c.new-desk.ensures.own
+    ∙ no_starts c.args.book begun in
+    let settled = c.settle-starts.ensures.counted.0 in
     let is = c.as_slice.ensures.value in
     let desk = c.flush-flushed.new.self in
     record {
@@ -44,7 +49,14 @@ returns-clause-worked g c =
           (IsPermutation (made_at desk) (all_notes l))) is c.audit-audited.ensures.exactly;
       started = c.settle-starts.ensures.history.0;
       finished = c.settle-starts.ensures.history.1;
-      shifts = c.in-Ok.ensures.shifts;
+      shifts = shifts_for
+          (OfDesk g.D.RunDisk.state g.O.Opening.opening (g.G.Gate.lets c.args.gate.now)
+          (g.G.Gate.reported c.args.gate.now))
+          (λ b name answer. (g.dyn-1.0.entry b.vtable).1.answers b.value name answer)
+          (λ b info turn done answer left.
+          (job : _) × (g.dyn-1.0.entry b.vtable).1.turns b.value info turn done answer job
+          × (left ≡ record b { value = job })) (λ list. list.items) c.args.jobs.items
+          c.in-Ok.lists.items _ _ (counted_all _ _ _ none settled) c.in-Ok.ensures.shifts;
       each_has_a_list = ap (λ l. length l) (sym is)
           ∙ (c.as_slice.ensures.len ∙ c.in-Ok.ensures.workers);
       each_is_noted = counts.0;

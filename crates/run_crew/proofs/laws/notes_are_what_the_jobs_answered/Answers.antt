@@ -4,6 +4,6 @@ use Rattle.run_crew.proofs.laws.notes_are_what_the_jobs_answered.Goals as goal
 
 pub returns : goal.returns
 returns g c =
-    λ gate jobs notes shift. shift_is_done g.J.Job.answers g.J.Job.turns
+    λ gate jobs notes starts shift. shift_is_done g.J.Job.answers g.J.Job.turns
     (OfDesk g.D.RunDisk.state g.O.Opening.opening (g.G.Gate.lets gate) (g.G.Gate.reported gate))
-    jobs notes shift
+    jobs notes starts shift

@@ -19,7 +19,7 @@ loop-handle-init g c =
     λ h end. IsOfShift (IsAnswered g.T.CountedPlace.starts g.T.Place.holds g.T.Place.flushes
     g.T.Place.reports g.T.CountedPlace.finishes (g.G.Gate.lets c.args.gate.now)
     (g.G.Gate.reported c.args.gate.now)) g.J.Job.answers g.J.Job.turns h.promise.jobs.value.items
-    end.notes in
+    end.notes end.own.starts in
     let gives = c.into_iter-handle-iterator.ensures.into_iter_gives in
     let r = all_left _ _ _ _ _ c.requires.room c.requires.empty gives.1 c.requires.few in (
       r.0,
@@ -44,7 +44,7 @@ loop-handle-preserved g c =
     λ h end. IsOfShift (IsAnswered g.T.CountedPlace.starts g.T.Place.holds g.T.Place.flushes
     g.T.Place.reports g.T.CountedPlace.finishes (g.G.Gate.lets c.args.gate.now)
     (g.G.Gate.reported c.args.gate.now)) g.J.Job.answers g.J.Job.turns h.promise.jobs.value.items
-    end.notes in
+    end.notes end.own.starts in
     let i = c.loop-handle.invariant in
     let handle = c.in-Some.handle in
     let steps = c.in-Some.ensures.steps in
@@ -54,8 +54,8 @@ loop-handle-preserved g c =
     let kept : R handle c.join.result =
     subst (λ gate. IsOfShift (IsAnswered g.T.CountedPlace.starts g.T.Place.holds g.T.Place.flushes
     g.T.Place.reports g.T.CountedPlace.finishes (g.G.Gate.lets gate) (g.G.Gate.reported gate))
-    g.J.Job.answers g.J.Job.turns handle.promise.jobs.value.items c.join.result.notes) first
-    c.join.ensures in (
+    g.J.Job.answers g.J.Job.turns handle.promise.jobs.value.items c.join.result.notes
+    c.join.result.own.starts) first c.join.ensures in (
       r.0,
       r.1,
       All-rest P _ _ _ steps.0 i.2,

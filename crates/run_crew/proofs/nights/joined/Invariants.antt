@@ -12,5 +12,5 @@ invariant-loop-handle g l =
     × (taken : List _) × (taken ++ into_iter_items l.handle-iterator ≡ l.fn.handles.items)
     × AllZip (λ h end. IsOfShift (IsAnswered g.T.CountedPlace.starts g.T.Place.holds
     g.T.Place.flushes g.T.Place.reports g.T.CountedPlace.finishes (g.G.Gate.lets l.gate)
-    (g.G.Gate.reported l.gate)) g.J.Job.answers g.J.Job.turns h.promise.jobs.value.items end.notes)
-    taken l.shifts.items
+    (g.G.Gate.reported l.gate)) g.J.Job.answers g.J.Job.turns h.promise.jobs.value.items end.notes
+    end.own.starts) taken l.shifts.items

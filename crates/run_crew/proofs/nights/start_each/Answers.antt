@@ -66,7 +66,7 @@ spawn_with-requires-clause-keeps g c =
     λ lifetimes outlives end post. subst (λ (jobs : Vec g.row.J.Denot Global). IsOfShift
     (IsAnswered g.T.CountedPlace.starts g.T.Place.holds g.T.Place.flushes g.T.Place.reports
     g.T.CountedPlace.finishes (g.G.Gate.lets c.args.gate.now) (g.G.Gate.reported c.args.gate.now))
-    g.J.Job.answers g.J.Job.turns jobs.items end.notes) (sym c.of.ensures) post
+    g.J.Job.answers g.J.Job.turns jobs.items end.notes end.own.starts) (sym c.of.ensures) post
 
 pub returns-clause-few : goal.returns-clause-few
 returns-clause-few g c =

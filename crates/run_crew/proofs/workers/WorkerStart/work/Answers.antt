@@ -1,5 +1,5 @@
 use Rattle.std.proofs.Common.{subst}
-use Rattle.run_crew.specs.Courses.{IsAnswered, IsShift, StepsJobs}
+use Rattle.run_crew.specs.Courses.{Counts, IsAnswered, IsShift, StepsJobs}
 use Rattle.run_crew.proofs.Coursing.{seen_path}
 use Rattle.run_crew.proofs.workers.WorkerStart.work.Goals as goal
 
@@ -11,7 +11,8 @@ returns g c =
       _,
       (
         went.0,
-        subst (λ n. IsShift n c.take_tasks.new.notes went.0) c.args.self.jobs.ok.0 went.1,
+        subst (λ n. Counts 0 c.take_tasks.new.own.starts (IsShift n c.take_tasks.new.notes) went.0)
+            c.args.self.jobs.ok.0 went.1,
         seen_path _ (λ w. w.gate.now) (λ w. w.jobs.items)
             (λ gate call. IsAnswered counted.starts place.holds place.flushes place.reports
             counted.finishes (g.G.Gate.lets gate) (g.G.Gate.reported gate) call)

@@ -9,7 +9,8 @@ returns g c =
     let K : Vec g.row.J.Denot Global → WorkerEnd g.row.S.Denot g.row.F.Denot → Type 0 =
     λ list end. IsOfShift (IsAnswered g.T.CountedPlace.starts g.T.Place.holds g.T.Place.flushes
     g.T.Place.reports g.T.CountedPlace.finishes (g.G.Gate.lets c.captures.gate.now)
-    (g.G.Gate.reported c.captures.gate.now)) g.J.Job.answers g.J.Job.turns list.items end.notes in
+    (g.G.Gate.reported c.captures.gate.now)) g.J.Job.answers g.J.Job.turns list.items end.notes
+    end.own.starts in
     record {
       len = c.joined-left.ensures.len;
       shifts = ok_then _ _ _ (λ v len zip. zip_taken K (λ h. h.promise.jobs.value)
