@@ -1,11 +1,11 @@
 -- One call of a file, as the disk over it sees it.
-use Rattle.std.proofs.Common.{◌≡◌, ◌⊎◌, ◌<◌, ◌≤◌, ◌+◌, ◌∙◌, ◌++◌, ◌∷◌, [], ℕ, List, Result, Ok, Err}
-use Rattle.std.proofs.Common.{OnErr, OnOk, arith, ap, drop, inl, inr, is_ok, length, length-append}
+use Rattle.std.proofs.Common.{◌≡◌, ◌⊎◌, ◌≤◌, ◌+◌, ◌∙◌, ◌++◌, ◌∷◌, [], ℕ, List, Result, Ok, Err}
+use Rattle.std.proofs.Common.{OnErr, OnOk, arith, ap, drop, inl, inr, length, length-append}
 use Rattle.std.proofs.Common.{refl, slice_get, subst, suc, sym, zero}
-use Rattle.file_calls.specs.declared.places.Place.TheVariants.{Durable, Lost}
+use Rattle.file_calls.specs.declared.places.Place.TheVariants.{Lost}
 use Rattle.file_calls.specs.OpenFiles.{FileState, GoesOn, IsSame, MayLeave}
 use Rattle.run_disk.specs.Calls.{Calls}
-use Rattle.run_disk.specs.Disk.{last_moment}
+use Rattle.file_disk.specs.Counts.{IsCounted, IsFresh}
 use Rattle.file_disk.specs.FileDisks.{IfHonest, IsHonest, IsKept, IsLeft, disk_state}
 use Rattle.file_disk.specs.Left.{HasLeft, left_of_all}
 
@@ -46,16 +46,6 @@ same_leaves old new x same may = record {
       may.bytes i (sym (same.place i) ∙ durable) ∙ ap (λ now. slice_get now i) (sym same.now);
   size = λ durable. may.size (sym same.end ∙ durable) ∙ ap length (sym same.now);
 }
-
--- what the counts say of a call that was made and had the result `done`
-pub record Counted {T E U F : Type 0} (done : Result T E) (result : Result U F)
-    (calls failures calls_new failures_new : ℕ) : Type 0 where
-  pub early : calls < last_moment
-  pub fresh : failures ≡ 0
-  pub ticks : calls_new ≡ calls + 1
-  pub fine : OnOk result (failures_new ≡ failures)
-  pub fails : OnErr result (failures_new ≡ failures + 1)
-  pub same : is_ok result ≡ is_ok done
 
 -- what a call leaves of an honest disk: its size, and nothing is lost unless the call fails
 pub record Leaves {T E : Type 0} (old new : FileState) (done : Result T E) : Type 0 where
@@ -136,38 +126,39 @@ pub kept_after : {T E U F : Type 0} (K L : Type 0) (made old new : FileState) (f
     (was is : List FileState) (size calls failures calls_new failures_new : ℕ)
     (done : Result T E) (result : Result U F)
     → IsKept K made old first was size calls failures
-    → Counted done result calls failures calls_new failures_new → (L → K)
+    → IsFresh calls failures → IsCounted done result calls failures calls_new failures_new
+    → (L → K)
     → (IsHonest K made → GoesOn old new was is done)
     → (IsHonest K made → Leaves old new done)
     → IsKept L made new first is size calls_new failures_new
 kept_after K L made old new first was is size calls failures calls_new failures_new
-    (Ok a) (Ok b) kept counted back goes leaves = record {
+    (Ok a) (Ok b) kept fresh counted back goes leaves = record {
       size_fits = kept.size_fits;
-      calls_fit = omega (arith, counted.early, counted.ticks);
-      failures_fit = omega (arith, counted.fresh, counted.fine);
+      calls_fit = omega (arith, fresh.early, counted.ticks);
+      failures_fit = omega (arith, fresh.fine, counted.fine);
       sized = λ honest. let h = honest_too L K made back honest in
           (leaves h).sized ∙ kept.sized h;
       ended = λ honest. let h = honest_too L K made back honest in
           (leaves h).ended ∙ kept.ended h;
       whole = λ honest fine i lost. let h = honest_too L K made back honest in
-          kept.whole h counted.fresh i ((leaves h).whole i lost);
+          kept.whole h fresh.fine i ((leaves h).whole i lost);
       later = λ honest. let h = honest_too L K made back honest in
           let n = later old new was is (Ok a) (goes h) in
           let m = kept.later h in
           omega (arith, n, m, counted.ticks);
       counted = λ honest fine. let h = honest_too L K made back honest in
           let e : length is ≡ length (was ++ old ∷ []) = ap length (goes h).made in
-          let m = kept.counted h counted.fresh in
+          let m = kept.counted h fresh.fine in
           omega (arith, e, length-append was (old ∷ []), m, counted.ticks);
       left = λ honest x left. let h = honest_too L K made back honest in
           left_sized K made old first was size calls failures x kept h
           (goes_left old new was is (Ok a) first x (goes h) left);
     }
 kept_after K L made old new first was is size calls failures calls_new failures_new
-    (Err a) (Err b) kept counted back goes leaves = record {
+    (Err a) (Err b) kept fresh counted back goes leaves = record {
       size_fits = kept.size_fits;
-      calls_fit = omega (arith, counted.early, counted.ticks);
-      failures_fit = omega (arith, counted.fresh, counted.fails, counted.ticks);
+      calls_fit = omega (arith, fresh.early, counted.ticks);
+      failures_fit = omega (arith, fresh.fine, counted.fails, counted.ticks);
       sized = λ honest. let h = honest_too L K made back honest in
           (leaves h).sized ∙ kept.sized h;
       ended = λ honest. let h = honest_too L K made back honest in
@@ -183,28 +174,29 @@ kept_after K L made old new first was is size calls failures calls_new failures_
           (goes_left old new was is (Err a) first x (goes h) left);
     }
 kept_after K L made old new first was is size calls failures calls_new failures_new
-    (Ok a) (Err b) kept counted back goes leaves = absurd (let e = counted.same in cc)
+    (Ok a) (Err b) kept fresh counted back goes leaves = absurd (let e = counted.same in cc)
 kept_after K L made old new first was is size calls failures calls_new failures_new
-    (Err a) (Ok b) kept counted back goes leaves = absurd (let e = counted.same in cc)
+    (Err a) (Ok b) kept fresh counted back goes leaves = absurd (let e = counted.same in cc)
 
 -- what the disk does at a call
 pub calls_after : {T E U F : Type 0} (K L : Type 0) (made old new : FileState) (first : ℕ)
     (was is : List FileState) (size calls failures calls_new failures_new : ℕ)
     (done : Result T E) (result : Result U F)
     → IsKept K made old first was size calls failures
-    → Counted done result calls failures calls_new failures_new → (K → L) → (L → K)
+    → IsFresh calls failures → IsCounted done result calls failures calls_new failures_new
+    → (K → L) → (L → K)
     → (IsHonest K made → GoesOn old new was is done)
     → Calls (disk_state K made old first was size calls failures)
     (disk_state L made new first is size calls_new failures_new) result
 calls_after K L made old new first was is size calls failures calls_new failures_new
-    done result kept counted on back goes = record {
+    done result kept fresh counted on back goes = record {
       size = refl;
       honest = honest_too K L made on;
       honest_before = honest_too L K made back;
       ticks = λ early. counted.ticks;
-      fine = on_ok result (λ fine. (counted.early, fine)) counted.fine;
+      fine = on_ok result (λ fine. (fresh.early, fine)) counted.fine;
       fails = on_err result (λ fails early. fails) counted.fails;
-      spent = λ spent. absurd (omega (arith, spent, counted.early));
+      spent = λ spent. absurd (omega (arith, spent, fresh.early));
       nothing_else = λ t x early left. nothing_else t x left;
       keeps = λ t x early left. keeps t x early left;
     }
@@ -238,7 +230,7 @@ calls_after K L made old new first was is size calls failures calls_new failures
         → IfHonest (IsHonest L made) (IsLeft new (drop (first + t) is) x)
     keeps t x early (inl bare) = inl (λ honest. bare (honest_too L K made back honest))
     keeps t x early (inr (honest, left)) =
-        let n = kept.counted honest counted.fresh in
+        let n = kept.counted honest fresh.fine in
         inr (
           honest_too K L made on honest,
           left_goes old new was is done (first + t) x (goes honest) (omega (arith, n, early)) left,

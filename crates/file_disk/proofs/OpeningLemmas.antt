@@ -1,7 +1,7 @@
 -- A disk that was just made over a file.
 use Rattle.std.proofs.Common.{◌≡◌, ◌↔◌, ◌∙◌, ℕ, List, ap, inl, inr, sym}
 use Rattle.file_calls.specs.declared.places.Place.{Place}
-use Rattle.file_calls.specs.declared.places.Place.TheVariants.{Durable, Dirty, Lost}
+use Rattle.file_calls.specs.declared.places.Place.TheVariants.{Durable, Lost}
 use Rattle.file_calls.specs.OpenFiles.{FileState, IsAtRest as FileIsAtRest, IsSame, MayLeave}
 use Rattle.file_calls.specs.OpenFiles.{Settles, settled}
 use Rattle.file_calls.proofs.PlaceLemmas.{same_by_places}

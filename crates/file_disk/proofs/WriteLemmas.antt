@@ -1,7 +1,7 @@
 -- Reads, writes and syncs of a file, as the disk over it sees them.
 use Rattle.std.proofs.Common.{◌≡◌, ◌⊎◌, ◌<◌, ◌≤◌, ◌+◌, ◌-◌, ◌∙◌, ◌++◌, ◌∷◌, [], ℕ, List, Result}
 use Rattle.std.proofs.Common.{Ok, Err}
-use Rattle.std.proofs.Common.{length-append, Some, OnErr, OnOk, Bool, true, false, arith, ap, drop}
+use Rattle.std.proofs.Common.{length-append, Some, OnErr, OnOk, Bool, true, false, arith, ap}
 use Rattle.std.proofs.Common.{get_or, inl, inr}
 use Rattle.std.proofs.Common.{is_ok, length, refl, slice_get, slice_range, subst, sym, take}
 use Rattle.std.proofs.lemmas.Bool.{cases_lt}
@@ -16,7 +16,7 @@ use Rattle.file_calls.specs.OpenFiles.{FileState, GoesOn, IsSame, Makes, MayLeav
 use Rattle.file_calls.specs.OpenFiles.{Settles, Spoils, Writes}
 use Rattle.file_calls.specs.OpenFiles.{grown, is_within, put_at, settled, written}
 use Rattle.run_disk.specs.Calls.{Syncs, Writes as DiskWrites}
-use Rattle.run_disk.specs.Contents.{Follows, Holds, Puts, SameOutside}
+use Rattle.run_disk.specs.Contents.{Holds, Puts, SameOutside}
 use Rattle.run_disk.proofs.ContentsLemmas.{same_all}
 use Rattle.run_disk.proofs.PlaceLemmas.{part_byte, part_size, puts_mid}
 use Rattle.file_disk.specs.FileDisks.{IfHonest, IsHonest, IsKept, disk_state}

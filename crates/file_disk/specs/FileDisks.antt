@@ -4,7 +4,7 @@ use Rattle.std.proofs.Common.{arith, inl, inr, refl, ◌∙◌}
 use Rattle.file_calls.specs.declared.places.Place.TheVariants.{Durable, Lost}
 use Rattle.file_calls.specs.OpenFiles.{FileState, MayLeave}
 use Rattle.run_disk.specs.Disk.{DiskState, IsDisk}
-use Rattle.file_disk.specs.Left.{HasLeft, left_of_all, left_of_more, none_left}
+use Rattle.file_disk.specs.Left.{HasLeft, left_of_more, none_left}
 
 -- Nothing of a file is lost: no sync of it has failed, or what that sync should have written was
 -- written and synced again.

@@ -1,6 +1,6 @@
 -- What a crash at one of several moments may have left of a file.
 use Rattle.std.specs.Prelude.{◌⊎◌, ◌≤◌, ℕ, List, [], ◌∷◌, drop, length}
-use Rattle.std.proofs.Common.{arith, zero, suc, inl, inr}
+use Rattle.std.proofs.Common.{arith, zero, suc, inr}
 use Rattle.file_calls.specs.OpenFiles.{FileState, MayLeave}
 
 -- A crash in one of these states may have left these bytes.

@@ -1,8 +1,9 @@
 //! [`CallCounts`] count the calls of a file, and those that failed.
 
-ghost use Rattle.std.specs.Prelude.{◌≡◌, ◌<◌, ◌≤◌, ◌+◌, OnErr, OnOk, is_ok};
-ghost use Rattle.std.specs.Bool.{OnFalse, OnTrue};
+ghost use Rattle.std.specs.Prelude.{◌≡◌, ◌<◌, ◌≤◌, ◌+◌};
+ghost use Rattle.std.specs.Bool.{OnFalse};
 ghost use Rattle.run_disk.specs.Disk.{last_moment};
+ghost use Rattle.file_disk.specs.Counts.{IsCounted, IsFresh};
 
 use run_disk::DiskFailed;
 
@@ -29,8 +30,7 @@ impl<E: Drop> CallCounts<E> {
 
     /// Returns whether no further call is made: one has failed, or no further one can be counted.
     pub fn is_stopped(&self) -> bool
-        ensures early { OnFalse result (self.now.calls < last_moment) }
-        ensures fine { OnFalse result (self.now.failures ≡ 0) }
+        ensures { OnFalse result (IsFresh self.now.calls self.now.failures) }
     {
         self.calls == u64::MAX || self.failures != 0
     }
@@ -55,10 +55,8 @@ impl<E: Drop> CallCounts<E> {
     pub fn count(&mut self, done: Result<(), E>) -> Result<(), DiskFailed>
         requires early { self.old.calls < last_moment }
         requires fit { self.old.failures ≤ self.old.calls }
-        ensures calls { self.new.calls ≡ self.old.calls + 1 }
-        ensures fine { OnOk result (self.new.failures ≡ self.old.failures) }
-        ensures fails { OnErr result (self.new.failures ≡ self.old.failures + 1) }
-        ensures same { is_ok result ≡ is_ok done }
+        ensures { IsCounted done result self.old.calls self.old.failures
+            self.new.calls self.new.failures }
     {
         self.calls += 1;
         match done {

@@ -6,14 +6,7 @@ pub invariant_of-self-2 : goal.invariant_of-self-2
 invariant_of-self-2 g c =
     record {
       kept = kept_after _ _ _ _ _ _ _ _ _ _ _ _ _ c.write_at-done.result c.count.result
-          c.args.self.now.kept (record {
-            early = c.if-is_stopped.ensures.early;
-            fresh = c.if-is_stopped.ensures.fine;
-            ticks = c.count.ensures.calls;
-            fine = c.count.ensures.fine;
-            fails = c.count.ensures.fails;
-            same = c.count.ensures.same;
-          })
+          c.args.self.now.kept c.if-is_stopped.ensures c.count.ensures
           c.write_at-done.ensures.kept.1 (λ honest. c.write_at-done.ensures.goes_on honest.keeps)
           (λ honest. write_leaves_on _ _ _ _ _ _ _ _ _ c.args.at c.args.bytes.now _
           c.args.self.now.kept
@@ -23,14 +16,7 @@ invariant_of-self-2 g c =
 pub returns-clause-call : goal.returns-clause-call
 returns-clause-call g c =
     calls_after _ _ _ _ _ _ _ _ _ _ _ _ _ c.write_at-done.result c.count.result
-    c.args.self.now.kept (record {
-      early = c.if-is_stopped.ensures.early;
-      fresh = c.if-is_stopped.ensures.fine;
-      ticks = c.count.ensures.calls;
-      fine = c.count.ensures.fine;
-      fails = c.count.ensures.fails;
-      same = c.count.ensures.same;
-    })
+    c.args.self.now.kept c.if-is_stopped.ensures c.count.ensures
     c.write_at-done.ensures.kept.0 c.write_at-done.ensures.kept.1
     (λ honest. c.write_at-done.ensures.goes_on honest.keeps)
 
