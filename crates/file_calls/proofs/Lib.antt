@@ -1,3 +1,4 @@
+pub mod FolderLemmas
 pub mod LockLemmas
 pub mod NameLemmas
 pub mod PlaceLemmas

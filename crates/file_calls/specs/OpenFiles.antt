@@ -26,6 +26,12 @@ pub record IsAtRest (s : FileState) : Type 0 where
   pub place : (i : ℕ) → s.place i ≡ Durable
   pub end : s.end ≡ Durable
 
+-- Nothing of a file is lost: no sync of it has failed, or what that sync should have written was
+-- written and synced again.
+pub record IsIntact (s : FileState) : Type 0 where
+  pub place : (i : ℕ) → s.place i ≡ Lost → ⊥
+  pub end : s.end ≡ Lost → ⊥
+
 -- A place is one of the n places from `at` on.
 abbrev pub is_within : (at n : ℕ) → ℕ → Bool
 is_within at n i = nat_le at i && nat_lt i (at + n)

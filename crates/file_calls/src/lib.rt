@@ -10,9 +10,12 @@
 #![tactic(auto)]
 
 pub mod examples;
+mod folder_moments;
+mod folders;
 pub mod laws;
 mod locks;
 mod memory_files;
+mod memory_folders;
 mod memory_locks;
 mod memory_names;
 mod moments;
@@ -20,12 +23,16 @@ mod names;
 mod open_files;
 mod places;
 mod system_files;
+mod system_folders;
 
+pub use folders::{Folder, Found, Inode};
 pub use locks::{FileLocks, Lock};
 pub use memory_files::MemoryFile;
+pub use memory_folders::{MemoryFolder, MemoryNumber};
 pub use memory_locks::MemoryLocks;
 pub use memory_names::MemoryNames;
 pub use names::FolderNames;
 pub use open_files::{CallFailed, OpenFile};
 pub use places::Place;
 pub use system_files::SystemFile;
+pub use system_folders::SystemFolder;

@@ -53,6 +53,18 @@ impl MemoryFile {
         self.calls_left = calls;
     }
 
+    /// Lets the next call fail, unless it is to succeed.
+    pub fn fail_unless(&mut self, succeeds: bool)
+        ensures state { ⟦<MemoryFile as OpenFile>⟧.state self.new
+            ≡ ⟦<MemoryFile as OpenFile>⟧.state self.old }
+        ensures past { ⟦<MemoryFile as OpenFile>⟧.past self.new
+            ≡ ⟦<MemoryFile as OpenFile>⟧.past self.old }
+    {
+        if !succeeds {
+            self.fail_after(0);
+        }
+    }
+
     /// Returns whether a crash now may leave these bytes.
     pub fn may_leave(&self, left: &[u8]) -> bool
         ensures left { OnTrue result

@@ -2,11 +2,11 @@
 use Rattle.std.proofs.Common.{◌≡◌, ◌↔◌, ◌∙◌, ℕ, List, ap, inl, inr, sym}
 use Rattle.file_calls.specs.declared.places.Place.{Place}
 use Rattle.file_calls.specs.declared.places.Place.TheVariants.{Durable, Lost}
-use Rattle.file_calls.specs.OpenFiles.{FileState, IsAtRest as FileIsAtRest, IsSame, MayLeave}
+use Rattle.file_calls.specs.OpenFiles.{FileState, IsAtRest as FileIsAtRest, IsIntact, IsSame, MayLeave}
 use Rattle.file_calls.specs.OpenFiles.{Settles, settled}
 use Rattle.file_calls.proofs.PlaceLemmas.{same_by_places}
 use Rattle.run_disk.specs.Disk.{IsAtRest}
-use Rattle.file_disk.specs.FileDisks.{IfHonest, IsHonest, IsIntact, disk_state}
+use Rattle.file_disk.specs.FileDisks.{IfHonest, IsHonest, disk_state}
 use Rattle.file_disk.proofs.WriteLemmas.{settled_whole}
 
 -- what is so if a disk is honest, is so of an honest one

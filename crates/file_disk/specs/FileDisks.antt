@@ -6,12 +6,6 @@ use Rattle.file_calls.specs.OpenFiles.{FileState, MayLeave}
 use Rattle.run_disk.specs.Disk.{DiskState, IsDisk}
 use Rattle.file_disk.specs.Left.{HasLeft, left_of_more, none_left}
 
--- Nothing of a file is lost: no sync of it has failed, or what that sync should have written was
--- written and synced again.
-pub record IsIntact (s : FileState) : Type 0 where
-  pub place : (i : ℕ) → s.place i ≡ Lost → ⊥
-  pub end : s.end ≡ Lost → ⊥
-
 -- A disk is honest if its file keeps its clauses (Keeps), if nothing of the file was lost when the
 -- disk was made, and if a crash then left its size.
 pub record IsHonest (Keeps : Type 0) (made : FileState) : Type 0 where

@@ -5,9 +5,9 @@
 //! should have written. From then on, the only safe use of such a file is to copy it.
 
 ghost use Rattle.std.specs.Prelude.{◌≡◌, ◌↔◌, ℕ, List, IfOk, length};
-ghost use Rattle.file_calls.specs.OpenFiles.{IsAtRest as FileIsAtRest, MayLeave};
+ghost use Rattle.file_calls.specs.OpenFiles.{IsAtRest as FileIsAtRest, IsIntact, MayLeave};
 ghost use Rattle.run_disk.specs.Disk.{IsAtRest};
-ghost use Rattle.file_disk.specs.FileDisks.{IsHonest, IsIntact, IsKept, disk_state, is_file_disk};
+ghost use Rattle.file_disk.specs.FileDisks.{IsHonest, IsKept, disk_state, is_file_disk};
 
 use crate::call_counts::CallCounts;
 use file_calls::OpenFile;

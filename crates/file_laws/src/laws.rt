@@ -5,7 +5,7 @@ ghost use Rattle.std.specs.Prelude.{◌≡◌, List, IfOk};
 ghost use Rattle.std.specs.List.{flat_map};
 ghost use Rattle.run_model.specs.Allowed.{IsPrefix};
 ghost use Rattle.run_model.specs.State.{State};
-ghost use Rattle.file_disk.specs.FileDisks.{IsIntact};
+ghost use Rattle.file_calls.specs.OpenFiles.{IsIntact};
 ghost use Rattle.book_model.specs.Books.{IsSafe, acked};
 ghost use Rattle.book_model.specs.ManyNights.{Night, StoresAfterNights, moves_of};
 ghost use Rattle.book_model.specs.Standing.{Closed, DoesAll, Finds, LiesWith};
