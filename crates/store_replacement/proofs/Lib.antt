@@ -1,0 +1,4 @@
+pub mod CallLemmas
+pub mod CopyLemmas
+pub mod MomentLemmas
+pub mod LeftLemmas

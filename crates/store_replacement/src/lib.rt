@@ -1,0 +1,15 @@
+//! A store is replaced by another file, or by a copy of itself, over any [`file_calls::Folder`].
+//!
+//! If the folder keeps its clauses, a crash leaves the store's name leading to the old file or to
+//! the new one, whole, whichever call it comes before.
+#![tactic(auto)]
+
+mod copies;
+mod marks;
+mod replacements;
+mod results;
+
+pub use copies::put_copy;
+pub use marks::{has_failed, has_no_sync, is_unsynced, leave_mark, name_of_mark, remove_mark};
+pub use replacements::put;
+pub use results::{or_error, or_no_memory, or_uncopied};
