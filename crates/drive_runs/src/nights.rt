@@ -13,6 +13,7 @@ use drive_nights::marks::mark_of;
 use drive_nights::names::is_short;
 use drive_nights::nights::night_text;
 use drive_nights::openings::growth_of;
+use drive_nights::replies::are_taken;
 use drive_parts::plans::NightPlan;
 use drive_steps::rooms::last_group;
 use night_drive::seen::last_try;
@@ -82,9 +83,11 @@ pub fn missing_groups<D: RunDisk, A: Allocator>(
         }
         let steps = growth_of(alloc, book.state(), night, group, &sitting.untils[g])?;
         let replies = play(alloc, book, steps.as_slice())?;
-        let fault = first_fault(replies.as_slice());
-        if fault.is_some() {
-            return Ok(hindered_by(fault, book.state(), sitting));
+        if let Some(fault) = first_fault(replies.as_slice()) {
+            return Ok(Some(Hindrance::Fault(fault)));
+        }
+        if !are_taken(replies.as_slice()) {
+            return Ok(Some(Hindrance::Full));
         }
     }
     Ok(hindered_by(None, book.state(), sitting))

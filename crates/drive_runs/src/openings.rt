@@ -18,6 +18,7 @@ use drive_lines::orders::Order;
 use drive_nights::endings::endings_of;
 use drive_nights::names::is_short;
 use drive_nights::openings::opening_of;
+use drive_nights::replies::are_taken;
 use drive_steps::reported::Begun;
 use drive_steps::rooms::are_housed;
 use run_book::Book;
@@ -67,10 +68,13 @@ pub fn open_night<D: RunDisk, A: Allocator>(
         &sitting.all,
     )?;
     let replies = play(alloc, book, steps.as_slice())?;
-    let fault = match first_fault(replies.as_slice()) {
-        Some(fault) => Some(fault),
-        None => end_others(alloc, book, night)?,
-    };
+    if let Some(fault) = first_fault(replies.as_slice()) {
+        return Ok(Some(Hindrance::Fault(fault)));
+    }
+    if !are_taken(replies.as_slice()) {
+        return Ok(Some(Hindrance::Full));
+    }
+    let fault = end_others(alloc, book, night)?;
     Ok(hindered_by(fault, book.state(), sitting))
 }
 
