@@ -1,5 +1,5 @@
 -- When an answer may be written.
-use Rattle.std.specs.Prelude.{ℕ, List, ◌++◌, Some, map}
+use Rattle.std.specs.Prelude.{◌≡◌, ℕ, Bool, List, ◌++◌, Some, map}
 use Rattle.std.proofs.Common.{ap, inl, inr, sym, ◌∙◌}
 use Rattle.run_disk.specs.Disk.{DiskState}
 use Rattle.book_model.specs.Books.{BookView}
@@ -15,7 +15,7 @@ use Rattle.drive_parts.specs.Rounds.{IsHeard, IsRoundOf}
 use Rattle.drive_runs.specs.declared.parts.Part.{Part}
 use Rattle.drive_runs.specs.declared.parts.Part.TheVariants as part
 use Rattle.drive_runs.specs.declared.sittings.Sitting.{Sitting}
-use Rattle.drive_runs.specs.Answers.{AreQuiet, MayAnswer, MayEndRound}
+use Rattle.drive_runs.specs.Answers.{AreQuiet, EndsBy, MayAnswer, MayEndRound, closing}
 use Rattle.drive_runs.specs.Moving.{Moves}
 use Rattle.drive_runs.specs.Parts.{AnswersDraft, AnswersLine, AnswersPart}
 use Rattle.drive_runs.specs.Records.{IsRecorded}
@@ -101,11 +101,11 @@ quiet_answer state it _ old new lines quiet = quiet
 
 -- The round goes on by lines that ask for what it asks for.
 pub ends_round : {D : Type 0} (state : D → DiskState) (old to new : BookView D)
-    (before after : Sitting) (bound orders lines : List Order)
-    → HasBegun state before old orders after to → Moves state to new
+    (before after : Sitting) (bound orders lines : List Order) (over : Bool)
+    → HasBegun state before old orders after to → EndsBy state over after to new
     → AsksNothing bound → AsksNoMore (bound ++ orders) lines
-    → MayEndRound state before old lines new
-ends_round state old to new before after bound orders lines begun ends none both =
+    → lines ≡ (bound ++ orders) ++ closing over → MayEndRound state before old lines new
+ends_round state old to new before after bound orders lines over begun ends none both all =
     let same = nothing_before bound orders lines none both in
     inr record {
       after = after;
@@ -125,5 +125,8 @@ ends_round state old to new before after bound orders lines begun ends none both
         };
         living = begun.living;
       };
+      over = over;
+      first = bound ++ orders;
+      all = all;
       ends = ends;
     }

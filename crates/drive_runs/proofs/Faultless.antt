@@ -1,7 +1,7 @@
 -- Where a row of steps is reported, no step of it met a fault, so the book replied as its session.
 use Rattle.std.specs.Prelude.{◌≡◌, ◌==◌, ◌&&◌, ℕ, suc, Bool, true, false, List, [], ◌∷◌}
 use Rattle.std.specs.Prelude.{Option, Some, None, length, unwrap_or}
-use Rattle.std.specs.List.{list_any}
+use Rattle.std.specs.List.{list_all, list_any}
 use Rattle.std.specs.Option.{option_map, option_or}
 use Rattle.std.proofs.Common.{ap, arith, sym, subst, ◌∙◌, refl}
 use Rattle.std.proofs.lemmas.Bool.Decides.{nat_tests}
@@ -25,6 +25,7 @@ use Rattle.night_drive.specs.declared.names.Names.{Names}
 use Rattle.drive_steps.specs.declared.reported.Begun.{Begun}
 use Rattle.drive_steps.specs.Reported.{begins_reported}
 use Rattle.drive_steps.specs.Starts.{next_try, row_of}
+use Rattle.drive_runs.specs.Closing.{is_carried_out}
 use Rattle.drive_runs.specs.Laws.{IsPlayedWhole}
 
 -- Of a mapped option that is there, the option is.
@@ -90,19 +91,16 @@ last_of_row s p names commands (c ∷ chosen) =
     (acked_of (reply_of_step s asked)))
     (last_of_row (after_step one step.Start) p names commands chosen)
 
--- A book of whose row something is reported has replied as its session.
-pub played_whole : {D : Type 0} (state : D → DiskState) (old new : BookView D) (p : State)
-    (names : Names) (commands : List Command) (chosen : List ℕ) (answers : List Reply)
-    (begun : List Begun) → IsReached old
-    → StepsOn state old (row_of p names commands chosen) answers new
-    → begins_reported chosen answers ≡ Some begun
-    → IsPlayedWhole old (row_of p names commands chosen) answers new
-played_whole state old new p names commands chosen answers begun reached played reported =
+-- A book that wasn't broken, and no reply of which is a fault, has replied as its session.
+pub whole_row : {D : Type 0} (state : D → DiskState) (old new : BookView D) (row : List Step)
+    (answers : List Reply) → IsReached old → StepsOn state old row answers new
+    → list_any is_fault answers ≡ false
+    → (Plays (stuck old.session) row answers (playing new) → ⊥)
+    → last_acked (replies old.session row) ≡ Some (session_after old.session row).state.count
+    → IsPlayedWhole old row answers new
+whole_row state old new row answers reached played faultless never last =
     by_broken old.journal.broken refl
   where
-    row : List Step
-    row = row_of p names commands chosen
-
     steps : Steps state old row answers new
     steps = row_steps state old new row answers played
 
@@ -114,14 +112,10 @@ played_whole state old new p names commands chosen answers begun reached played 
     at b is = subst (λ (k : Bool).
         Plays (record { session = old.session; broken = k }) row answers (playing new)) is from
 
-    by_broken : (b : Bool) → old.journal.broken ≡ b
-        → IsPlayedWhole old (row_of p names commands chosen) answers new
-    by_broken true is =
-        absurd (stuck_reports old.session (playing new) p names commands chosen answers begun
-        (at true is) reported)
+    by_broken : (b : Bool) → old.journal.broken ≡ b → IsPlayedWhole old row answers new
+    by_broken true is = absurd (never (at true is))
     by_broken false is =
-        let whole = plays_sound old.session (playing new) row answers (at false is)
-        (no_fault chosen answers begun reported) in
+        let whole = plays_sound old.session (playing new) row answers (at false is) faultless in
         let same : new.session ≡ session_after old.session row =
         ap (λ (b : Playing). b.session) whole.1 in
         record {
@@ -130,7 +124,51 @@ played_whole state old new p names commands chosen answers begun reached played 
           session = same;
           durable = (steps_left state old new row answers steps).durable
               ∙ ap (λ (all : List Reply). unwrap_or (last_acked all) old.durable) whole.0
-              ∙ ap (λ (o : Option ℕ). unwrap_or o old.durable)
-              (last_of_row old.session p names commands chosen)
+              ∙ ap (λ (o : Option ℕ). unwrap_or o old.durable) last
               ∙ sym (ap (λ (s : Session). s.state.count) same);
         }
+
+-- A book of whose row something is reported has replied as its session.
+pub played_whole : {D : Type 0} (state : D → DiskState) (old new : BookView D) (p : State)
+    (names : Names) (commands : List Command) (chosen : List ℕ) (answers : List Reply)
+    (begun : List Begun) → IsReached old
+    → StepsOn state old (row_of p names commands chosen) answers new
+    → begins_reported chosen answers ≡ Some begun
+    → IsPlayedWhole old (row_of p names commands chosen) answers new
+played_whole state old new p names commands chosen answers begun reached played reported =
+    whole_row state old new (row_of p names commands chosen) answers reached played
+    (no_fault chosen answers begun reported)
+    (λ never. stuck_reports old.session (playing new) p names commands chosen answers begun never
+    reported)
+    (last_of_row old.session p names commands chosen)
+
+-- ---- a step and its flush
+
+taken_no_fault : (answers : List Reply) → list_all is_carried_out answers ≡ true
+    → list_any is_fault answers ≡ false
+taken_no_fault [] e = refl
+taken_no_fault (reply.Answer a ∷ answers) e = taken_no_fault answers e
+taken_no_fault (reply.Acked a ∷ answers) e = taken_no_fault answers e
+taken_no_fault (reply.Started a ∷ answers) e = cc
+taken_no_fault (reply.Finished a ∷ answers) e = cc
+taken_no_fault (reply.Refused a ∷ answers) e = cc
+taken_no_fault (reply.Faulty a ∷ answers) e = cc
+
+-- A broken book takes no step.
+stuck_takes_none : (s : Session) (end : Playing) (x : Step) (steps : List Step)
+    (answers : List Reply) → Plays (stuck s) (x ∷ steps) answers end
+    → list_all is_carried_out answers ≡ true → ⊥
+stuck_takes_none s end x steps [] played e = absurd played
+stuck_takes_none s end x steps (r ∷ answers) played e =
+    cc (ap (λ (q : Reply). list_all is_carried_out (q ∷ answers)) played.0, e)
+
+pub taken_whole : {D : Type 0} (state : D → DiskState) (old new : BookView D) (x : Step)
+    (answers : List Reply) → IsReached old
+    → StepsOn state old (x ∷ step.Flush ∷ []) answers new
+    → list_all is_carried_out answers ≡ true
+    → IsPlayedWhole old (x ∷ step.Flush ∷ []) answers new
+taken_whole state old new x answers reached played taken =
+    whole_row state old new (x ∷ step.Flush ∷ []) answers reached played
+    (taken_no_fault answers taken)
+    (λ never. stuck_takes_none old.session (playing new) x (step.Flush ∷ []) answers never taken)
+    refl

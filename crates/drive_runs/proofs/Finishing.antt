@@ -1,20 +1,23 @@
 -- A night is over if each of its commands stands so that it is final.
 use Rattle.std.specs.Prelude.{◌≡◌, ◌<◌, ◌==◌, ℕ, suc, Bool, true, false, List, [], ◌∷◌, length}
 use Rattle.std.specs.Prelude.{Some, slice_get}
-use Rattle.std.specs.Bool.{OnTrue}
 use Rattle.std.specs.List.{list_all}
 use Rattle.std.proofs.Common.{arith, get_or, refl, subst, sym}
 use Rattle.std.proofs.lemmas.Bool.Decides.{nat_tests}
 use Rattle.std.proofs.lemmas.Grind.{common_steps}
 use Rattle.std.proofs.lemmas.List.Folds.{list_all_at}
 use Rattle.std.proofs.lemmas.Option.{slice_get-get_or}
+use Rattle.run_model.specs.State.{State}
+use Rattle.run_model.proofs.Common.{and_parts}
 use Rattle.night_plan.specs.Nights.{IsFinal, Night}
 use Rattle.night_plan.specs.Standings.{Stands, is_final}
 use Rattle.night_plan.specs.declared.standings.Standing.{Standing}
 use Rattle.night_plan.specs.declared.standings.Standing.TheVariants as standing
 use Rattle.night_plan.proofs.Final.{final_from}
+use Rattle.night_drive.specs.PlanTurns.{night_in}
 use Rattle.drive_runs.specs.declared.living.Living.{Living}
-use Rattle.drive_runs.specs.Rounds.{AreStandings}
+use Rattle.drive_runs.specs.declared.sittings.Sitting.{Sitting}
+use Rattle.drive_runs.specs.Rounds.{AreStandings, IsOver, is_over}
 
 passes : (all : List Standing) (c : ℕ) → list_all is_final all ≡ true → c < length all
     → is_final (get_or all c standing.Pending) ≡ true
@@ -47,11 +50,17 @@ standings_shown n m now clock all same at sized each =
 never_none : (n : ℕ) → (suc n == 0) ≡ false
 never_none n = grind (arith, nat_tests, common_steps)
 
-none_left : (living : List Living) → (length living == 0) ≡ true → living ≡ []
+pub none_left : (living : List Living) → (length living == 0) ≡ true → living ≡ []
 none_left [] e = refl
 none_left (one ∷ living) e = absurd (cc (e, never_none (length living)))
 
-pub idle_if : (b : Bool) (living : List Living) → b ≡ (length living == 0)
-    → OnTrue b (living ≡ [])
-idle_if true living is = none_left living (sym is)
-idle_if false living is = tt
+-- Each command of the night is final, and no try lives.
+pub over_so : (p : State) (s : Sitting) (all : List Standing)
+    → AreStandings (night_in p s.kept.ends s.plan s.names) p.tree.clock all
+    → is_over all s.kept.living.items ≡ true → IsOver p s
+over_so p s all are over =
+    let parts = and_parts (list_all is_final all) (length s.kept.living.items == 0) over in
+    record {
+      final = all_final (night_in p s.kept.ends s.plan s.names) p.tree.clock all are parts.0;
+      idle = none_left s.kept.living.items parts.1;
+    }

@@ -106,7 +106,7 @@ module _ {D : Type 0} (state : D → DiskState) (old new : BookView D) (before m
     where
       by_course : (how : Course) → Concludes begins new.session.state middle after how
           → GoesOn state before old how after new
-      by_course (course.Next orders) lines = has_begun orders.items lines
+      by_course (course.Next orders) (lines, open_yet) = (has_begun orders.items lines, open_yet)
       by_course (course.Over orders) (lines, over) = (has_begun orders.items lines, over)
       by_course course.Refused never = absurd never
       by_course (course.Faulty fault) never = absurd never

@@ -10,3 +10,4 @@ pub mod Recording
 pub mod Finishing
 pub mod Every
 pub mod Stopping
+pub mod Setting

@@ -2,12 +2,14 @@
 use Rattle.std.specs.Prelude.{◌≡◌, ◌<◌, ◌+◌, ◌&&◌, ℕ, Bool, cond, false, true, List, [], ◌∷◌}
 use Rattle.std.specs.Prelude.{◌++◌, Option, Some, length, map, take}
 use Rattle.std.specs.List.{filter}
-use Rattle.std.proofs.Common.{ap, append-nil, get_or, sym, ◌∙◌}
+use Rattle.std.proofs.Common.{ap, append-nil, append_assoc, get_or, sym, ◌∙◌}
 use Rattle.std.proofs.lemmas.List.{map-append, map_more}
 use Rattle.std.proofs.lemmas.List.Elements.{filter-append}
 use Rattle.std.proofs.lemmas.List.Folds.{list_all-append}
 use Rattle.run_model.specs.State.{State}
+use Rattle.plan_lines.specs.declared.answers.AnswerLine.TheVariants as answer
 use Rattle.drive_lines.specs.declared.orders.Order.{Order}
+use Rattle.drive_lines.specs.declared.orders.Order.TheVariants as order
 use Rattle.drive_steps.specs.declared.reported.Begun.{Begun}
 use Rattle.drive_runs.specs.Answers.{AreQuiet, is_quiet}
 use Rattle.drive_runs.specs.Rounds.{AreTheirBegins, AsksNoMore, AsksNothing, begin_line}
@@ -63,3 +65,15 @@ begins_more p begun i none lines line less theirs its begins =
     ∙ sym (map-append Some (begins_in lines) (line ∷ []))
     ∙ ap (λ (all : List Order). map Some (begins_in lines ++ all)) (sym begins)
     ∙ ap (λ (all : List Order). map Some all) (sym (filter-append is_begin lines (line ∷ [])))
+
+-- The lines of an answer, and those with which it ends.
+pub closed : (before lines over x y z all : List Order) → x ≡ before ++ lines
+    → y ≡ x ++ order.Durable ∷ [] → z ≡ y ++ over → all ≡ z ++ order.Answer answer.End ∷ []
+    → all ≡ (before ++ lines) ++ (order.Durable ∷ (over ++ order.Answer answer.End ∷ []))
+closed before lines over x y z all one two three four =
+    let end : List Order = order.Answer answer.End ∷ [] in
+    let whole : all ≡ (((before ++ lines) ++ order.Durable ∷ []) ++ over) ++ end =
+    four ∙ ap (λ (l : List Order). l ++ end)
+    (three ∙ ap (λ (l : List Order). l ++ over)
+    (two ∙ ap (λ (l : List Order). l ++ order.Durable ∷ []) one)) in
+    whole ∙ simp append_assoc

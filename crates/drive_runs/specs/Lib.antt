@@ -6,7 +6,10 @@ pub mod Living
 pub mod Stops
 pub mod Rounds
 pub mod Records
+pub mod Laws
+pub mod Closing
+pub mod Sittings
+pub mod Nights
 pub mod Answers
 pub mod Parts
 pub mod Runs
-pub mod Laws

@@ -1,7 +1,7 @@
 -- A round goes on once what was heard is recorded.
-use Rattle.std.specs.Prelude.{◌≡◌, ◌<◌, ◌++◌, ℕ, Bool, true, false, List, [], Option, Some}
+use Rattle.std.specs.Prelude.{◌≡◌, ◌<◌, ◌==◌, ◌&&◌, ◌++◌, ℕ, Bool, true, false, List, [], Option, Some}
 use Rattle.std.specs.Prelude.{All, Contains, length, map, slice_get}
-use Rattle.std.specs.List.{filter}
+use Rattle.std.specs.List.{filter, list_all}
 use Rattle.std.specs.Option.{option_map}
 use Rattle.run_model.specs.Event.{Event}
 use Rattle.run_model.specs.Event as event
@@ -9,13 +9,14 @@ use Rattle.run_model.specs.State.{State}
 use Rattle.run_disk.specs.Disk.{DiskState}
 use Rattle.book_model.specs.Books.{BookView}
 use Rattle.night_plan.specs.Nights.{IsFinal, Night}
-use Rattle.night_plan.specs.Standings.{Stands}
+use Rattle.night_plan.specs.Standings.{Stands, is_final}
 use Rattle.night_plan.specs.declared.standings.Standing.{Standing}
 use Rattle.night_drive.specs.PlanTurns.{night_in}
 use Rattle.drive_lines.specs.declared.orders.Order.{Order}
 use Rattle.drive_lines.specs.declared.orders.Order.TheVariants as order
 use Rattle.drive_steps.specs.declared.reported.Begun.{Begun}
 use Rattle.drive_runs.specs.declared.begins.Beginning.{Beginning}
+use Rattle.drive_runs.specs.declared.living.Living.{Living}
 use Rattle.drive_runs.specs.declared.rounds.Course.{Course}
 use Rattle.drive_runs.specs.declared.rounds.Course.TheVariants as course
 use Rattle.drive_runs.specs.declared.sittings.Sitting.{Sitting}
@@ -107,14 +108,24 @@ pub record IsOver (p : State) (s : Sitting) : Type 0 where
       → IsFinal (night_in p s.kept.ends s.plan s.names) c
   pub idle : s.kept.living.items ≡ []
 
+-- Each command stands so that it is final, and no try lives.
+abbrev pub is_over : List Standing → List Living → Bool
+is_over all living = list_all is_final all && length living == 0
+
+-- A command of the night doesn't stand so that it is final, or a try lives.
+abbrev pub IsOpen : State → Sitting → Type 0
+IsOpen p s =
+    (all : List Standing) × AreStandings (night_in p s.kept.ends s.plan s.names) p.tree.clock all
+    × (is_over all s.kept.living.items ≡ false)
+
 -- ---- how a round went on
 
--- If it went on, commands have begun, and its lines report that, and ask for what has to stop. If
--- the night is over, each command is final.
+-- If it went on, commands have begun, and its lines report that, and ask for what has to stop. The
+-- night is over exactly if each command is final, and no try lives.
 abbrev pub GoesOn : {D : Type 0} → (D → DiskState) → (before : Sitting) → (old : BookView D)
     → Course → (after : Sitting) → (new : BookView D) → Type 0
 GoesOn state before old (course.Next orders) after new =
-    HasBegun state before old orders.items after new
+    HasBegun state before old orders.items after new × IsOpen new.session.state after
 GoesOn state before old (course.Over orders) after new =
     HasBegun state before old orders.items after new × IsOver new.session.state after
 GoesOn state before old _ after new = Unit {0}
@@ -127,9 +138,10 @@ AreRoundLines begins p s t lines =
     BeginsNoMore begins lines
     × AsksForStops p s.kept.ends s.plan s.names s.kept.living.items lines t.kept.living.items
 
--- The round goes on with these begins and no others. If the night is over, each command is final.
+-- The round goes on with these begins and no others, and says whether the night is over.
 abbrev pub Concludes : List Order → State → (before after : Sitting) → Course → Type 0
-Concludes begins p s t (course.Next orders) = AreRoundLines begins p s t orders.items
+Concludes begins p s t (course.Next orders) =
+    AreRoundLines begins p s t orders.items × IsOpen p t
 Concludes begins p s t (course.Over orders) =
     AreRoundLines begins p s t orders.items × IsOver p t
 Concludes begins p s t _ = ⊥

@@ -17,6 +17,7 @@ pub mod records;
 mod round_parts;
 pub mod rounds;
 pub mod runs;
+mod settings;
 pub mod sittings;
 pub mod stops;
 pub mod tries;

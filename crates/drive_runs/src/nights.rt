@@ -1,6 +1,10 @@
 //! A night of a store: what it has from earlier sessions, the groups that it lacks, and its end.
 
+ghost use Rattle.std.specs.Prelude.{◌≡◌, IfOk, IfSome, true};
+ghost use Rattle.std.specs.List.{list_all};
+ghost use Rattle.drive_runs.specs.Closing.{Closes, hindrance_of, is_carried_out};
 ghost use Rattle.drive_runs.specs.Moving.{Moves};
+ghost use Rattle.drive_runs.specs.Nights.{is_other};
 
 use crate::faults::first_fault;
 use crate::living::Living;
@@ -19,20 +23,30 @@ use drive_steps::rooms::last_group;
 use night_drive::seen::last_try;
 use run_book::Book;
 use run_disk::RunDisk;
-use run_model::{Reply, Stage, Step, is_spelled};
+use run_model::{Fault, Reply, Stage, Step, is_spelled};
 use run_session::State;
 use std::alloc::{AllocError, Allocator, Global};
 
 /// Returns the first task of a store that isn't one of a driven night.
-pub fn other_task<A: Allocator>(state: &State<A>) -> Option<u16> {
+pub fn other_task<A: Allocator>(state: &State<A>) -> Option<u16>
+    ensures { IfSome result (λ n. is_other state.now n ≡ true) }
+{
     for n in 0..state.task_count() as u16 {
-        if let Some(task) = state.groups().task_row(n)
-            && !is_spelled(task.job.as_bytes(), b"sh")
-        {
+        if is_other(state, n) {
             return Some(n);
         }
     }
     None
+}
+
+/// Returns whether a task of a store isn't one of a driven night.
+fn is_other<A: Allocator>(state: &State<A>, n: u16) -> bool
+    ensures { result ≡ is_other state.now n }
+{
+    match state.groups().task_row(n) {
+        Some(task) => !is_spelled(task.job.as_bytes(), b"sh"),
+        None => false,
+    }
 }
 
 /// Returns the try of this name as one that lives, if it was interrupted and is the last one of a
@@ -100,7 +114,8 @@ pub fn close_night<D: RunDisk, A: Allocator>(
     book: &mut Book<D, A>,
     night: u64,
 ) -> Result<Option<Hindrance>, AllocError>
-    ensures { Moves D.state book.old book.new }
+    ensures closes { IfOk result (λ found. Closes D.state night book.old found book.new) }
+    ensures moves { Moves D.state book.old book.new }
 {
     let Some(mark) = mark_of(book.state(), night) else {
         return Ok(Some(Hindrance::Full));
@@ -109,15 +124,32 @@ pub fn close_night<D: RunDisk, A: Allocator>(
     steps.push(mark)?;
     steps.push(Step::Flush)?;
     let replies = play(alloc, book, steps.as_slice())?;
-    Ok(
-        match (
-            first_fault(replies.as_slice()),
-            replies.get(0),
-            replies.get(1),
-        ) {
-            (Some(fault), _, _) => Some(Hindrance::Fault(fault)),
-            (None, Some(Reply::Answer(_)), Some(Reply::Acked(_))) => None,
-            _ => Some(Hindrance::Full),
-        },
-    )
+    if are_carried_out(replies.as_slice()) {
+        return Ok(None);
+    }
+    Ok(Some(hindrance_of(first_fault(replies.as_slice()))))
+}
+
+/// Returns whether each step was carried out.
+fn are_carried_out(replies: &[Reply]) -> bool
+    ensures { result ≡ list_all is_carried_out replies.now }
+{
+    replies.iter().all(|reply| is_carried_out(reply))
+}
+
+/// Returns whether a step was carried out: it was taken, or has acknowledged all.
+fn is_carried_out(reply: &Reply) -> bool
+    ensures { result ≡ is_carried_out reply.now }
+{
+    matches!(reply, Reply::Answer(_) | Reply::Acked(_))
+}
+
+/// Returns what hinders a night, if a step was refused or met this fault.
+pub(crate) fn hindrance_of(fault: Option<Fault>) -> Hindrance
+    ensures { result ≡ hindrance_of fault }
+{
+    match fault {
+        Some(fault) => Hindrance::Fault(fault),
+        None => Hindrance::Full,
+    }
 }

@@ -1,8 +1,9 @@
 //! The part of the input that is a round is recorded, and then answered.
 
-ghost use Rattle.std.specs.Prelude.{◌≡◌, ◌++◌, IfOk, true};
+ghost use Rattle.std.specs.Prelude.{◌≡◌, ◌++◌, IfOk, OnOk, true};
 ghost use Rattle.drive_steps.specs.Rooms.{are_housed};
 ghost use Rattle.drive_runs.specs.Answers.{AreQuiet, BeginsNone, MayAnswer, MayEndRound};
+ghost use Rattle.drive_runs.specs.Answers.{closing, over_lines};
 ghost use Rattle.drive_runs.specs.Rounds.{AsksNoMore, AsksNothing};
 ghost use Rattle.drive_runs.specs.Parts.{AnswersDraft};
 ghost use Rattle.drive_runs.specs.Moving.{Moves};
@@ -230,15 +231,27 @@ fn round_lines(
     orders: Vec<Order>,
     is_over: bool,
 ) -> Result<Vec<Order>, AllocError>
-    ensures { IfOk result (λ lines. AsksNoMore (bound.items ++ orders.items) lines.items) }
+    ensures asks { IfOk result (λ lines. AsksNoMore (bound.items ++ orders.items) lines.items) }
+    ensures all { IfOk result (λ lines.
+        lines.items ≡ (bound.items ++ orders.items) ++ closing is_over) }
 {
     let mut lines = bound;
     let mut orders = orders;
     lines.append(&mut orders)?;
     lines.push(Order::Durable)?;
+    push_over(&mut lines, is_over)?;
+    lines.push(Order::Answer(AnswerLine::End))?;
+    Ok(lines)
+}
+
+/// Appends the line that says that the night is over, if it is.
+#[tactic(auto, using(crate::proofs::Ordering::quiet_more, crate::proofs::Ordering::stopless_more))]
+fn push_over(lines: &mut Vec<Order>, is_over: bool) -> Result<(), AllocError>
+    ensures asks { IfOk result (λ _. AsksNoMore lines.old.items lines.new.items) }
+    ensures all { OnOk result (lines.new.items ≡ lines.old.items ++ over_lines is_over) }
+{
     if is_over {
         lines.push(Order::Over)?;
     }
-    lines.push(Order::Answer(AnswerLine::End))?;
-    Ok(lines)
+    Ok(())
 }

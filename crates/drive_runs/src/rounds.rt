@@ -10,7 +10,7 @@ ghost use Rattle.night_drive.specs.PlanTurns.{night_in};
 ghost use Rattle.drive_steps.specs.Rooms.{are_housed};
 ghost use Rattle.drive_runs.specs.declared.living.Living.{Living as LivingOf};
 ghost use Rattle.drive_runs.specs.Rounds.{AreStandings, AreTheirBegins, AsksNoMore, Concludes};
-ghost use Rattle.drive_runs.specs.Rounds.{GoesOn, LivesOn};
+ghost use Rattle.drive_runs.specs.Rounds.{GoesOn, LivesOn, is_over};
 ghost use Rattle.drive_runs.specs.Stops.{stops_in};
 ghost use Rattle.drive_runs.specs.Moving.{Moves};
 
@@ -199,8 +199,7 @@ fn push_standings(orders: &mut Vec<Order>, all: &[Standing], asked: bool) -> Res
 
 /// Returns whether each command is final, and no try lives.
 fn is_over(all: &[Standing], living: &[Living]) -> bool
-    ensures finals { OnTrue result (list_all is_final all.now ≡ true) }
-    ensures idle { OnTrue result (living.now ≡ []) }
+    ensures { result ≡ is_over all.now living.now }
 {
     is_final(all) && living.is_empty()
 }

@@ -5,9 +5,10 @@ ghost use Rattle.drive_parts.specs.Names.{AreGroupNames, AreKeys, groups_of};
 ghost use Rattle.night_drive.specs.Seen.{AreNames};
 
 use crate::living::Living;
+use crate::settings::{ended_by, sizes_of};
 use drive_nights::nights::night_text;
 use drive_nights::untils::Until;
-use drive_parts::heard::{Heard, PoolSize};
+use drive_parts::heard::Heard;
 use drive_parts::plans::NightPlan;
 use night_drive::ends::Ends;
 use night_drive::names::Names;
@@ -45,9 +46,11 @@ pub struct Kept {
 }
 
 impl Kept {
+    ghost use Rattle.drive_runs.specs.Sittings.{IsFresh};
+
     /// What was heard at the beginning of a night.
     pub fn new(alloc: Global, plan: &Plan, night: u64, now: u64) -> Result<Kept, AllocError>
-        ensures { IfOk result (λ kept. kept.sizes.items ≡ plan.now.pools.items) }
+        ensures { IfOk result (IsFresh plan.now night now) }
     {
         Ok(Kept {
             night,
@@ -62,6 +65,8 @@ impl Kept {
 }
 
 impl Kept {
+    ghost use Rattle.drive_runs.specs.Sittings.{HasSettings};
+
     /// The same, with the sizes of pools that were reported. If retries don't wait any longer, all
     /// tries ended long ago.
     pub fn with_settings(
@@ -70,7 +75,7 @@ impl Kept {
         heard: &Heard,
         pools: &[u32],
     ) -> Result<Kept, AllocError>
-        ensures { IfOk result (λ kept. length kept.sizes.items ≡ length pools.now) }
+        ensures { IfOk result (HasSettings self heard.now pools.now) }
     {
         let Kept {
             night,
@@ -79,59 +84,25 @@ impl Kept {
             living,
         } = self;
         let sizes = sizes_of(alloc, sizes.as_slice(), heard.sizes.as_slice(), pools)?;
-        let ends = if heard.hurry {
-            Ends {
-                moments: Vec::new(alloc),
-                otherwise: 0,
-            }
-        } else {
-            ends
-        };
         Ok(Kept {
             night,
             sizes,
-            ends,
+            ends: ended_by(alloc, heard.hurry, ends),
             living,
         })
     }
 }
 
-/// Returns the size of each of these pools: the one that was reported last, the one that it had, or
-/// that of the plan.
-fn sizes_of(
-    alloc: Global,
-    old: &[u32],
-    reported: &[PoolSize],
-    pools: &[u32],
-) -> Result<Vec<u32>, AllocError>
-    ensures { IfOk result (λ sizes. length sizes.items ≡ length pools.now) }
-{
-    let mut sizes = Vec::new(alloc);
-    for p in 0..pools.len() {
-        let known = match old.get(p) {
-            Some(size) => *size,
-            None => pools[p],
-        };
-        sizes.push(size_now(reported, p, known))?;
-    }
-    Ok(sizes)
-}
-
-/// Returns the size of a pool that was reported last, or the one that is known.
-fn size_now(reported: &[PoolSize], pool: usize, known: u32) -> u32 {
-    let mut size = known;
-    for new in reported {
-        if new.pool == pool {
-            size = new.size;
-        }
-    }
-    size
-}
-
 impl Sitting {
+    ghost use Rattle.drive_nights.specs.Nights.{night_text};
+    ghost use Rattle.drive_runs.specs.Sittings.{HasPlan};
+
     /// A plan, and what was heard of its night.
     pub fn of(plan: NightPlan, kept: Kept) -> Sitting
         requires { length kept.sizes.items ≡ length plan.plan.pools.items }
+        ensures plan { HasPlan result plan }
+        ensures kept { result.kept ≡ kept }
+        ensures night { result.names.night ≡ night_text kept.night }
     {
         let NightPlan {
             plan,
@@ -157,7 +128,9 @@ impl Sitting {
 
     /// The plan, and what was heard of its night.
     pub fn parts(self) -> (NightPlan, Kept)
-        ensures { length result.1.sizes.items ≡ length result.0.plan.pools.items }
+        ensures sized { length result.1.sizes.items ≡ length result.0.plan.pools.items }
+        ensures plan { HasPlan self result.0 }
+        ensures kept { result.1 ≡ self.kept }
     {
         let Sitting {
             plan,

@@ -1,3 +1,4 @@
+use Rattle.std.proofs.Common.{List, ap, length, ◌∙◌, ℕ}
 use Rattle.std.proofs.lemmas.Result.{IfOk-weaker}
 use Rattle.drive_runs.specs.declared.answers.Answer.{Answer}
 use Rattle.drive_runs.specs.Answers.{MayAnswer}
@@ -5,6 +6,11 @@ use Rattle.drive_runs.specs.Parts.{AnswersDraft}
 use Rattle.drive_runs.proofs.Answering.{answers_draft}
 use Rattle.drive_runs.proofs.Moving.{moves_then}
 use Rattle.drive_runs.proofs.round_parts.end_round.Goals as goal
+
+pub of-sitting-requires : goal.of-sitting-requires
+of-sitting-requires g c =
+    c.in_ok-kept.ensures.sizes.sized
+    ∙ ap (λ (l : List ℕ). length l) c.as_slice.ensures.value
 
 pub returns-clause-moves : goal.returns-clause-moves
 returns-clause-moves g c =

@@ -1,0 +1,59 @@
+-- What is remembered of a night.
+use Rattle.std.specs.Prelude.{◌≡◌, ◌<◌, ◌==◌, ℕ, Bool, true, false, List, [], find, length}
+use Rattle.std.specs.Prelude.{reverse, slice_get, slice_index, unwrap_or}
+use Rattle.std.specs.Option.{option_map_or}
+use Rattle.night_plan.specs.declared.commands.Plan.{Plan}
+use Rattle.night_drive.specs.declared.ends.Ends.{Ends}
+use Rattle.drive_parts.specs.declared.heard.Heard.{Heard}
+use Rattle.drive_parts.specs.declared.heard.PoolSize.{PoolSize}
+use Rattle.drive_parts.specs.declared.plans.NightPlan.{NightPlan}
+use Rattle.drive_runs.specs.declared.sittings.Kept.{Kept}
+use Rattle.drive_runs.specs.declared.sittings.Sitting.{Sitting}
+
+-- ---- the plan
+
+-- The sitting is one of this plan.
+pub record HasPlan (s : Sitting) (n : NightPlan) : Type 0 where
+  pub plan : n.plan ≡ s.plan
+  pub groups : n.groups ≡ s.names.groups
+  pub keys : n.keys ≡ s.names.keys
+  pub untils : n.untils ≡ s.untils
+  pub all : n.all ≡ s.all
+
+-- ---- what else is known
+
+-- Nothing is known of the night but its plan: no try lives, and the time now counts as the end of
+-- each try of which nothing else is known.
+pub record IsFresh (plan : Plan) (night now : ℕ) (kept : Kept) : Type 0 where
+  pub night_is : kept.night ≡ night
+  pub sizes : kept.sizes.items ≡ plan.pools.items
+  pub none_ended : kept.ends.moments.items ≡ []
+  pub otherwise : kept.ends.otherwise ≡ now
+  pub none_lives : kept.living.items ≡ []
+
+-- The size of a pool: the one that was reported last, or the one that was known.
+abbrev pub size_now : (reported : List PoolSize) → (pool known : ℕ) → ℕ
+size_now reported pool known =
+    option_map_or (λ (new : PoolSize). new.size)
+    (find (λ (new : PoolSize). new.pool == pool) (reverse reported)) known
+
+-- Each pool has the size that was reported last, or the one that it had, or that of the plan.
+pub record AreSizes (old : List ℕ) (reported : List PoolSize) (pools sizes : List ℕ)
+    : Type 0 where
+  pub sized : length sizes ≡ length pools
+  pub each : (p : ℕ) → p < length pools → slice_index sizes p
+      ≡ size_now reported p (unwrap_or (slice_get old p) (slice_index pools p))
+
+-- When tries ended. If no retry waits any longer, all of them ended long ago.
+abbrev pub EndedBy : (hurry : Bool) → (old new : Ends) → Type 0
+EndedBy true old new = (new.moments.items ≡ []) × (new.otherwise ≡ 0)
+EndedBy false old new = new ≡ old
+
+-- What was known, with what a round reports of pools, and that no retry waits any longer, if it
+-- does.
+pub record HasSettings (old : Kept) (heard : Heard) (pools : List ℕ) (new : Kept)
+    : Type 0 where
+  pub night : new.night ≡ old.night
+  pub living : new.living ≡ old.living
+  pub sizes : AreSizes old.sizes.items heard.sizes.items pools new.sizes.items
+  pub ends : EndedBy heard.hurry old.ends new.ends
