@@ -238,17 +238,6 @@ settle_new p t n b group base until over comes small plain apart it at taken =
 
 -- ---- a group that keeps its scope
 
--- The row of the group that takes tasks.
-room_row : (p : State) (s g : ℕ) → is_room p s g ≡ true
-    → (row : Group) × (slice_get p.work.groups g ≡ Some row)
-room_row p s g takes = by_row (slice_get p.work.groups g) refl takes
-  where
-    by_row : (o : Option Group) → slice_get p.work.groups g ≡ o
-        → option_map_or (λ (row : Group). row.scope == s && not row.waited) o false ≡ true
-        → (row : Group) × (slice_get p.work.groups g ≡ Some row)
-    by_row None found takes = absurd (false≢true takes)
-    by_row (Some row) found takes = (row, found)
-
 -- A limit that was taken away.
 pub record Freed (t u : State) (g : ℕ) : Type 0 where
   pub grows : Grows t u
