@@ -22,7 +22,7 @@ from nights_hits import hit
 from thirty_evening import AHEAD, Evening
 from thirty_oracle import Cancel, Redo, Skip, Stop, shown
 from thirty_plan import DAY, Command, Deadline, Plan, plan_of
-from thirty_room import JOBS, STORE, Run
+from thirty_room import JOBS, STORE, Room, Run
 
 HOUR = 3600
 # What any run may say: a store is renewed once it is nearly full.
@@ -172,6 +172,16 @@ def edit_wrongly(night: Evening) -> bool:
     return True
 
 
+def wait_for_begins(room: Room) -> None:
+    """Waits for the commands that a killed driver has begun, and that have yet to write their
+    trace: until none has come for half a second."""
+    count, since = room.begins(), time.monotonic()
+    while time.monotonic() - since < 0.5:
+        time.sleep(0.05)
+        if room.begins() != count:
+            count, since = room.begins(), time.monotonic()
+
+
 def rename(night: Evening) -> bool:
     """A group gets another name during the night: its commands are new ones."""
     room, plan = night.room, night.facts.plan
@@ -180,6 +190,7 @@ def rename(night: Evening) -> bool:
     if not night.run.is_active:
         return False
     night.stop("driver")
+    wait_for_begins(room)
     night.facts.plan = renamed(plan)
     room.write_plan(night.facts.plan)
     night.facts.renamed = time.monotonic()
