@@ -89,8 +89,8 @@ pub fn another_night_begins()
     ensures { opening_of two_nights 3 two_groups none_of_two None ≡ third_night }
 {}
 
-/// In the second night, what is left of the first one is ended: its group is waited for, and its top
-/// is canceled. In a third night the same is done with the second one. A deadline of all groups
+/// In the second night, what is left of the first one is ended: its group is waited for, and its
+/// top is canceled. In a third night the same is done with the second one. A deadline of all groups
 /// together is canceled, too. A new store has nothing to end.
 pub fn older_nights_are_ended()
     ensures second { endings_of two_nights 2 ≡ end_of_first }

@@ -5,9 +5,9 @@
 //! number of the night, and [`opening_of`](openings::opening_of) the steps that open it. `rooms`
 //! says which scope and group of the store a group of the plan needs, `names` how they are called,
 //! and `owners` whether a store can be opened at all. [`are_taken`](replies::are_taken) returns
-//! whether the store took all steps. [`mark_of`](marks::mark_of) returns the step that ends a night,
-//! and [`endings_of`](endings::endings_of) those that end what is left of older nights. `effects` says
-//! what all this does to a night, and `examples` opens some.
+//! whether the store took all steps. [`mark_of`](marks::mark_of) returns the step that ends a
+//! night, and [`endings_of`](endings::endings_of) those that end what is left of older nights.
+//! `effects` says what all this does to a night, and `examples` opens some.
 #![tactic(auto)]
 
 pub mod effects;

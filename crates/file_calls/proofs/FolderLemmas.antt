@@ -1,10 +1,13 @@
 -- The files of a folder in memory, of which one is changed.
-use Rattle.std.proofs.Common.{◌≡◌, ◌<◌, ◌≤◌, ◌∙◌, ℕ, List, false, true, arith, ap, get_or, length, map}
-use Rattle.std.proofs.Common.{Bool, set, subst, sym, refl, ◌⊎◌, ◌++◌, ◌∷◌, [], Result, Ok, Err, OnErr}
+use Rattle.std.proofs.Common.{◌≡◌, ◌<◌, ◌≤◌, ◌∙◌, ℕ, List, false, true, arith, ap, get_or}
+use Rattle.std.proofs.Common.{length, map}
+use Rattle.std.proofs.Common.{Bool, set, subst, sym, refl, ◌⊎◌, ◌++◌, ◌∷◌, [], Result, Ok, Err}
+use Rattle.std.proofs.Common.{OnErr}
 use Rattle.std.proofs.Common.{inl, inr, length-append}
 use Rattle.std.specs.Prelude.{nat_eq}
 use Rattle.std.proofs.lemmas.Bool.Decides.{nat_tests}
-use Rattle.std.proofs.lemmas.List.{get_or-map, get_or-set_other, get_or-set_same, length-map, map-set}
+use Rattle.std.proofs.lemmas.List.{get_or-map, get_or-set_other, get_or-set_same, length-map}
+use Rattle.std.proofs.lemmas.List.{map-set}
 use Rattle.file_calls.specs.declared.memory_files.MemoryFile.{MemoryFile}
 use Rattle.file_calls.specs.declared.places.Place.TheVariants.{Lost}
 use Rattle.file_calls.specs.MemoryFolders.{file_in, no_bytes, state_of}

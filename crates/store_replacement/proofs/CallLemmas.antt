@@ -1,5 +1,6 @@
 -- One call after others, as a name sees it.
-use Rattle.std.proofs.Common.{◌≡◌, ◌⊎◌, ◌∙◌, ◌++◌, ◌∷◌, [], ℕ, List, Result, Ok, Err, IfOk, OnErr, OnOk}
+use Rattle.std.proofs.Common.{◌≡◌, ◌⊎◌, ◌∙◌, ◌++◌, ◌∷◌, [], ℕ, List, Result, Ok, Err, IfOk}
+use Rattle.std.proofs.Common.{OnErr, OnOk}
 use Rattle.std.proofs.Common.{None, Some, false, ap, inl, inr, map, refl, subst}
 use Rattle.std.specs.Prelude.{bytes_eq}
 use Rattle.file_calls.specs.declared.places.Place.TheVariants.{Durable, Lost}
@@ -9,10 +10,13 @@ use Rattle.file_calls.specs.Names.{Renames, leads, new_step, settled_step}
 use Rattle.file_calls.specs.OpenFiles.{IsAtRest}
 use Rattle.store_replacement.specs.Replacements.{KeepsName, LeavesNoMore, synced}
 use Rattle.store_replacement.proofs.MomentLemmas.{always_call, always_then, always_weaker}
-use Rattle.store_replacement.proofs.LeftLemmas.{keeps_after, keeps_created, keeps_itself, keeps_removed}
+use Rattle.store_replacement.proofs.LeftLemmas.{keeps_after, keeps_created, keeps_itself}
+use Rattle.store_replacement.proofs.LeftLemmas.{keeps_removed}
 use Rattle.store_replacement.proofs.LeftLemmas.{keeps_same, less_after, less_itself, less_kept}
-use Rattle.store_replacement.proofs.LeftLemmas.{less_kept_synced, less_names, less_same, less_synced}
-use Rattle.store_replacement.proofs.LeftLemmas.{new_less, old_less, old_or_new_less, less_old_or_new}
+use Rattle.store_replacement.proofs.LeftLemmas.{less_kept_synced, less_names, less_same}
+use Rattle.store_replacement.proofs.LeftLemmas.{less_synced}
+use Rattle.store_replacement.proofs.LeftLemmas.{new_less, old_less, old_or_new_less}
+use Rattle.store_replacement.proofs.LeftLemmas.{less_old_or_new}
 use Rattle.store_replacement.proofs.LeftLemmas.{renamed, renamed_synced, same_after, same_itself}
 
 pub same_folder_itself : (s : FolderState) → IsSameFolder s s
@@ -49,7 +53,8 @@ always_created number other name was is s t result goes made failed apart =
     always_call (KeepsName name s) was is s t result goes (keeps_itself name s)
     (go number result made failed)
   where
-    go : {F E : Type 0} (number : F → ℕ) (r : Result F E) → IfOk r (λ file. CreatesFile other (number file) s t)
+    go : {F E : Type 0} (number : F → ℕ) (r : Result F E)
+        → IfOk r (λ file. CreatesFile other (number file) s t)
         → OnErr r (IsSameFolder s t) → KeepsName name s t
     go number (Ok file) made failed = keeps_created other name (number file) s t apart made
     go number (Err error) made failed = keeps_same name s t failed

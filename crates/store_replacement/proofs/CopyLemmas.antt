@@ -1,6 +1,8 @@
 -- A copy of a file, and the names that differ.
-use Rattle.std.proofs.Common.{◌≡◌, ◌≤◌, ◌<◌, ◌+◌, ◌∙◌, ◌++◌, [], ℕ, List, Result, Ok, Err, OnOk, Bool}
-use Rattle.std.proofs.Common.{true, false, arith, ap, drop, length, length-append, refl, sym, take, subst}
+use Rattle.std.proofs.Common.{◌≡◌, ◌≤◌, ◌<◌, ◌+◌, ◌∙◌, ◌++◌, [], ℕ, List, Result, Ok, Err, OnOk}
+use Rattle.std.proofs.Common.{Bool}
+use Rattle.std.proofs.Common.{true, false, arith, ap, drop, length, length-append, refl, sym}
+use Rattle.std.proofs.Common.{take, subst}
 use Rattle.std.proofs.Common.{Some, is_ok}
 use Rattle.std.specs.Prelude.{◌-◌, bytes_eq, codes, nat_eq, slice_range, if◌then◌else◌}
 use Rattle.std.proofs.lemmas.List.{append-nil, length-take, take_all}
@@ -13,7 +15,8 @@ use Rattle.file_calls.specs.Folders.{FolderState, IsAlways, IsOnly, IsSameFolder
 use Rattle.file_calls.specs.Names.{may_lead}
 use Rattle.file_calls.specs.OpenFiles.{FileState, IsAtRest, IsIntact, IsSame, Settles, Writes}
 use Rattle.file_calls.specs.OpenFiles.{is_within, put_at, settled}
-use Rattle.store_replacement.specs.Replacements.{IsCopied, IsForCopy, IsWhole, LeavesNoMore, mark_of}
+use Rattle.store_replacement.specs.Replacements.{IsCopied, IsForCopy, IsWhole, LeavesNoMore}
+use Rattle.store_replacement.specs.Replacements.{mark_of}
 use Rattle.store_replacement.proofs.MomentLemmas.{always_call, always_then, always_weaker}
 use Rattle.store_replacement.proofs.LeftLemmas.{keeps_only, less_kept, same_after, same_itself}
 

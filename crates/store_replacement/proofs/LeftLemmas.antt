@@ -1,6 +1,7 @@
 -- What each call leaves under a name.
 use Rattle.std.proofs.Common.{◌≡◌, ◌⊎◌, ◌∙◌, ◌++◌, ◌∷◌, [], ◌&&◌, ◌||◌, ℕ, List, Bool, Option}
-use Rattle.std.proofs.Common.{true, false, not, None, Some, inl, inr, sym, ap, refl, map, fold, arith}
+use Rattle.std.proofs.Common.{true, false, not, None, Some, inl, inr, sym, ap, refl, map, fold}
+use Rattle.std.proofs.Common.{arith}
 use Rattle.std.proofs.Common.{slice_get, length, subst}
 use Rattle.std.specs.Prelude.{bytes_eq, nat_eq, if◌then◌else◌}
 use Rattle.std.proofs.lemmas.Bool.Decides.{nat_tests}
@@ -233,7 +234,8 @@ pub less_names : (p : Place) (name : List ℕ) (s t : FolderState) → AreSame s
     → t.steps ≡ map (settled_step p) s.steps → LeavesNoMore name s t
 less_names p name s t same steps =
     less_by name s t
-    (λ to holds. leads_settled p name to s.steps (ap (λ all. may_lead all name to) (sym steps) ∙ holds))
+    (λ to holds. leads_settled p name to s.steps
+    (ap (λ all. may_lead all name to) (sym steps) ∙ holds))
     (λ n x led. leaves_same (s.file n) (t.file n) x (same n))
 
 pub less_synced : (name : List ℕ) (s t : FolderState) → AreSame s t
@@ -290,7 +292,8 @@ after_step : (steps : List NameStep) (name : List ℕ) (file n : ℕ)
     → may_lead (steps ++ new_step name (Some file) ∷ []) name (Some n) ≡ true
     → (nat_eq file n ≡ true) ⊎ (may_lead steps name (Some n) ≡ true)
 after_step steps name file n holds =
-    let all : may_by name (Some n) (may_lead steps name (Some n)) (new_step name (Some file)) ≡ true =
+    let all : may_by name (Some n) (may_lead steps name (Some n)) (new_step name (Some file))
+    ≡ true =
     sym (may_lead-more steps (new_step name (Some file)) name (Some n)) ∙ holds in
     let mine : (nat_eq file n || (may_lead steps name (Some n) && true)) ≡ true =
     rw (itself name) at all in

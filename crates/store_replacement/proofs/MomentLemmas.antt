@@ -20,11 +20,21 @@ pub always_call : {T E : Type 0} (P : FolderState → Type 0) (was is : List Fol
     (s t : FolderState) (result : Result T E) → PastGoesOn s t was is result → P s → P t
     → IsAlways P was is t
 always_call P was is s t (Ok value) goes before now =
-    record { more = s ∷ []; grown = goes.made; before = All-cons P s [] before (All-nil P); at_last = now }
+    record {
+      more = s ∷ [];
+      grown = goes.made;
+      before = All-cons P s [] before (All-nil P);
+      at_last = now;
+    }
 always_call P was is s t (Err error) goes before now = go goes.failed
   where
     go : (is ≡ was ++ s ∷ []) ⊎ (IsSameFolder s t × (is ≡ was)) → IsAlways P was is t
-    go (inl next) = record { more = s ∷ []; grown = next; before = All-cons P s [] before (All-nil P); at_last = now }
+    go (inl next) = record {
+      more = s ∷ [];
+      grown = next;
+      before = All-cons P s [] before (All-nil P);
+      at_last = now;
+    }
     go (inr same) = record {
       more = [];
       grown = same.1 ∙ sym (append-nil was);

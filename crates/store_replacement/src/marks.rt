@@ -1,4 +1,5 @@
-//! The mark of a store is the file `STORE.failed`: while it is there, a sync of the store has failed.
+//! The mark of a store is the file `STORE.failed`. While it is there, a sync of the store has
+//! failed.
 
 ghost use Rattle.std.specs.Prelude.{◌≡◌, List, ℕ, false, bytes_eq, IfOk};
 ghost use Rattle.std.specs.String.{string_bytes};

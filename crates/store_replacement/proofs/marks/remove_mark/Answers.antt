@@ -1,4 +1,5 @@
-use Rattle.store_replacement.proofs.CallLemmas.{always_keeps_after, always_keeps_same, always_removed}
+use Rattle.store_replacement.proofs.CallLemmas.{always_keeps_after, always_keeps_same}
+use Rattle.store_replacement.proofs.CallLemmas.{always_removed}
 use Rattle.store_replacement.proofs.marks.remove_mark.Goals as goal
 
 pub returns-then-not-is_full-clause-always : goal.returns-then-not-is_full-clause-always
