@@ -1,6 +1,7 @@
 -- The sizes of pools.
 use Rattle.std.specs.Prelude.{◌≡◌, ◌<◌, ◌==◌, ◌+◌, ◌++◌, ◌∷◌, ℕ, Bool, cond, true, false, List, []}
-use Rattle.std.specs.Prelude.{Option, Some, find, length, ltb, reverse, slice_get, slice_index, take}
+use Rattle.std.specs.Prelude.{Option, Some, find, length, ltb, reverse, slice_get, slice_index}
+use Rattle.std.specs.Prelude.{take}
 use Rattle.std.specs.Prelude.{unwrap_or}
 use Rattle.std.specs.Option.{option_map_or}
 use Rattle.std.proofs.Common.{ap, arith, get_or, length-append, refl, subst, sym, ◌∙◌}

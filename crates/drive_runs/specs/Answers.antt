@@ -56,8 +56,8 @@ closing over = order.Durable ∷ (over_lines over ++ order.Answer answer.End ∷
 -- If the night is over, each command is final by the rows of the book, which are acknowledged, and
 -- no try lives. Then the end of the night is marked, and the mark is acknowledged. Otherwise a
 -- command isn't final, or a try lives, and nothing more happens.
-abbrev pub EndsBy : {D : Type 0} → (D → DiskState) → (over : Bool) → Sitting → (old new : BookView D)
-    → Type 0
+abbrev pub EndsBy : {D : Type 0} → (D → DiskState) → (over : Bool) → Sitting
+    → (old new : BookView D) → Type 0
 EndsBy state true after old new =
     IsOver old.session.state after × IsMarked state after.kept.night old new
 EndsBy state false after old new = IsOpen old.session.state after × (new ≡ old)

@@ -1,5 +1,6 @@
 -- A round goes on once what was heard is recorded.
-use Rattle.std.specs.Prelude.{◌≡◌, ◌<◌, ◌==◌, ◌&&◌, ◌++◌, ℕ, Bool, true, false, List, [], Option, Some}
+use Rattle.std.specs.Prelude.{◌≡◌, ◌<◌, ◌==◌, ◌&&◌, ◌++◌, ℕ, Bool, true, false, List, [], Option}
+use Rattle.std.specs.Prelude.{Some}
 use Rattle.std.specs.Prelude.{All, Contains, length, map, slice_get}
 use Rattle.std.specs.List.{filter, list_all}
 use Rattle.std.specs.Option.{option_map}

@@ -78,8 +78,8 @@ pub fn open_night<D: RunDisk, A: Allocator>(
     Ok(hindered_by(fault, book.state(), sitting))
 }
 
-/// Ends what is left of other nights, as far as the store has room for that. Returns a fault, if one
-/// is met.
+/// Ends what is left of other nights, as far as the store has room for that. Returns a fault, if
+/// one is met.
 #[tactic(auto, using(crate::proofs::Moving::moves_none, crate::proofs::Moving::moves_then))]
 fn end_others<D: RunDisk, A: Allocator>(
     alloc: Global,

@@ -1,5 +1,5 @@
--- A folder and the files in it, as contracts see them: where its names lead, what its files are, and
--- what a crash may leave under a name.
+-- A folder and the files in it, as contracts see them: where its names lead, what its files are,
+-- and what a crash may leave under a name.
 use Rattle.std.specs.Prelude.{◌≡◌, ◌⊎◌, ◌++◌, ◌∷◌, [], ℕ, List, Some, None, true, false}
 use Rattle.std.specs.Prelude.{Result, OnOk, OnErr, nat_eq}
 use Rattle.std.specs.List.{All}

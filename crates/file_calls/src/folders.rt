@@ -164,6 +164,7 @@ pub trait Folder {
         ensures durable { keeps self.old → OnOk result
             ((state self.new).steps ≡ map (settled_step Durable) (state self.old).steps) }
         ensures lost { keeps self.old
-            → OnErr result (((state self.new).steps ≡ map (settled_step Lost) (state self.old).steps)
+            → OnErr result (((state self.new).steps
+            ≡ map (settled_step Lost) (state self.old).steps)
             ⊎ ((state self.new).steps ≡ (state self.old).steps)) };
 }

@@ -2,7 +2,8 @@
 use Rattle.std.proofs.Common.{◌≡◌, ◌↔◌, ◌∙◌, ℕ, List, ap, inl, inr, sym}
 use Rattle.file_calls.specs.declared.places.Place.{Place}
 use Rattle.file_calls.specs.declared.places.Place.TheVariants.{Durable, Lost}
-use Rattle.file_calls.specs.OpenFiles.{FileState, IsAtRest as FileIsAtRest, IsIntact, IsSame, MayLeave}
+use Rattle.file_calls.specs.OpenFiles.{FileState, IsAtRest as FileIsAtRest, IsIntact, IsSame}
+use Rattle.file_calls.specs.OpenFiles.{MayLeave}
 use Rattle.file_calls.specs.OpenFiles.{Settles, settled}
 use Rattle.file_calls.proofs.PlaceLemmas.{same_by_places}
 use Rattle.run_disk.specs.Disk.{IsAtRest}
