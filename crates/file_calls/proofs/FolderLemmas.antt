@@ -1,5 +1,5 @@
 -- The files of a folder in memory, of which one is changed.
-use Rattle.std.proofs.Common.{◌≡◌, ◌<◌, ◌≤◌, ◌∙◌, ℕ, List, false, true, arith, ap, get_or}
+use Rattle.std.proofs.Common.{◌≡◌, ◌<◌, ◌∙◌, ℕ, List, false, true, arith, ap, get_or}
 use Rattle.std.proofs.Common.{length, map}
 use Rattle.std.proofs.Common.{Bool, set, subst, sym, refl, ◌⊎◌, ◌++◌, ◌∷◌, [], Result, Ok, Err}
 use Rattle.std.proofs.Common.{OnErr}

@@ -1,6 +1,7 @@
 -- Locks of files, as contracts see them.
-use Rattle.std.specs.Prelude.{◌&&◌, ◌||◌, ℕ, Bool, not, List, nat_eq}
-use Rattle.std.specs.List.{filter}
+use Rattle.std.specs.Prelude.{◌&&◌, ◌||◌, ◌++◌, ◌∷◌, [], ℕ, Bool, not, List, fold, nat_eq}
+use Rattle.std.specs.Prelude.{if◌then◌else◌}
+use Rattle.std.specs.List.{filter, list_any}
 use Rattle.file_calls.specs.declared.locks.Lock.{Lock}
 
 -- A lock can't be taken while this other one is held: both are on the same file, and one of them
@@ -11,3 +12,19 @@ excludes lock held = nat_eq held.file lock.file && (lock.is_alone || held.is_alo
 -- The locks of all other openings.
 abbrev pub without : (holder : ℕ) → List Lock → List Lock
 without holder held = filter (λ lock. not (nat_eq lock.holder holder)) held
+
+-- A call on a lock.
+pub data LockCall : Type 0 where
+  -- this lock is asked for
+  Ask : Lock → LockCall
+  -- this opening is closed
+  Close : (holder : ℕ) → LockCall
+
+-- The locks that are held after a call. A lock is taken unless another one excludes it.
+abbrev pub held_by : List Lock → LockCall → List Lock
+held_by held (Ask lock) = if list_any (excludes lock) held then held else held ++ lock ∷ []
+held_by held (Close holder) = without holder held
+
+-- The locks that are held after these calls. Before the first one nobody holds a lock.
+abbrev pub held_after : List LockCall → List Lock
+held_after calls = fold held_by [] calls

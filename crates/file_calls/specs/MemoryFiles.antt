@@ -1,5 +1,5 @@
 -- A file in memory, as contracts see it.
-use Rattle.std.specs.Prelude.{ℕ, List, get_or, map}
+use Rattle.std.specs.Prelude.{ℕ, List, get_or}
 use Rattle.file_calls.specs.declared.places.Place.{Place}
 use Rattle.file_calls.specs.declared.places.Place.TheVariants.{Durable}
 use Rattle.file_calls.specs.declared.moments.Moment.{Moment}

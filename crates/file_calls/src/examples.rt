@@ -3,7 +3,7 @@
 
 ghost use Rattle.std.specs.Prelude.{◌≡◌, ◌∷◌, [], false, true, None, Some, map};
 ghost use Rattle.file_calls.specs.Examples.{on_9, renamed, shared, alone};
-ghost use Rattle.file_calls.specs.Locks.{excludes, without};
+ghost use Rattle.file_calls.specs.Locks.{Ask, Close, excludes, held_after, without};
 ghost use Rattle.file_calls.specs.Names.{leads, may_lead, settled_step};
 ghost use Rattle.file_calls.specs.OpenFiles.{grown, put_at, settled, written};
 ghost use Rattle.file_calls.specs.declared.places.Place.TheVariants.{Dirty, Durable, Lost};
@@ -64,4 +64,12 @@ pub fn which_locks_go_together()
     ensures alone_first { excludes (shared 1) (alone 2) ≡ true }
     ensures another_file { excludes (on_9 1) (alone 2) ≡ false }
     ensures closed { without 2 (shared 1 ∷ shared 2 ∷ []) ≡ shared 1 ∷ [] }
+{}
+
+/// Opening 1 locks file 7 alone. As long as it holds the lock, opening 2 gets none. After opening 1
+/// was closed, opening 2 gets one.
+pub fn who_holds_a_lock_after_calls()
+    ensures refused { held_after (Ask (alone 1) ∷ Ask (shared 2) ∷ []) ≡ alone 1 ∷ [] }
+    ensures another_file { held_after (Ask (alone 1) ∷ Ask (on_9 2) ∷ []) ≡ alone 1 ∷ on_9 2 ∷ [] }
+    ensures closed { held_after (Ask (alone 1) ∷ Close 1 ∷ Ask (shared 2) ∷ []) ≡ shared 2 ∷ [] }
 {}

@@ -70,7 +70,7 @@ pub trait Folder {
         ensures inode { keeps self.old → IfOk result (λ inode.
             inode.number ≡ number file.now) };
 
-    /// Creates a file for its owner alone, and opens it. It fails if the name leads to a file.
+    /// Creates a file, and opens it. It fails if the name leads to a file.
     fn create_new(&mut self, name: &str) -> Result<Self::File, Self::Error>
         ensures kept { keeps self.old → keeps self.new }
         ensures goes_on { keeps self.old

@@ -1,8 +1,8 @@
 //! Laws of what the calls leave. Each function has an empty body, and its clauses are the law.
 
 ghost use Rattle.std.specs.Prelude.{◌≡◌, ℕ, List, None, Some, false, true, bytes_eq, map, nat_eq};
-ghost use Rattle.std.specs.List.{list_any};
-ghost use Rattle.file_calls.specs.Locks.{excludes};
+ghost use Rattle.std.specs.List.{Contains, list_any};
+ghost use Rattle.file_calls.specs.Locks.{LockCall, excludes, held_after};
 ghost use Rattle.file_calls.specs.Names.{Creates, NameStep, Renames, may_lead, settled_step};
 ghost use Rattle.file_calls.specs.OpenFiles.{FileState, IsAtRest, MayLeave, Settles};
 ghost use Rattle.file_calls.specs.declared.locks.Lock.{Lock};
@@ -40,4 +40,12 @@ pub fn a_lock_alone_is_the_only_one()
     ensures { (lock : Lock) (held : List Lock) → lock.is_alone ≡ true
         → list_any (excludes lock) held ≡ false
         → list_any (λ other. nat_eq other.file lock.file) held ≡ false }
+{}
+
+/// Whatever programs ask for locks and close their files: as long as one of them holds a file
+/// alone, no other one holds a lock on it.
+pub fn no_two_programs_hold_a_file_alone()
+    ensures { (calls : List LockCall) (lock other : Lock) → Contains (held_after calls) lock
+        → Contains (held_after calls) other → lock.is_alone ≡ true → other.file ≡ lock.file
+        → other.holder ≡ lock.holder }
 {}

@@ -14,18 +14,35 @@ use std::os::unix::fs::{FileExt, MetadataExt, OpenOptionsExt};
 use std::path::Path;
 use std::{fs, io};
 
-/// The rights of a new file: only its owner may use it.
+/// The rights of a file that only its owner may use.
 const PRIVATE: u32 = 0o600;
+
+/// The rights of a file that everybody may read and write whom the umask lets.
+const USUAL: u32 = 0o666;
 
 /// The names of the system's files, each of which is a path.
 #[derive(Drop)]
 pub struct SystemFolder<'a, S> {
     system: &'a S,
+    // of new files
+    rights: u32,
 }
 
 impl<'a, S> SystemFolder<'a, S> {
+    /// Only their owner may use new files.
     pub fn new(system: &'a S) -> SystemFolder<'a, S> {
-        SystemFolder { system }
+        SystemFolder {
+            system,
+            rights: PRIVATE,
+        }
+    }
+
+    /// The umask decides who may use new files.
+    pub fn by_umask(system: &'a S) -> SystemFolder<'a, S> {
+        SystemFolder {
+            system,
+            rights: USUAL,
+        }
     }
 }
 
@@ -73,7 +90,10 @@ impl<S: fs::Files<File = File>> Folder for SystemFolder<'_, S> {
 
     fn create_new(&mut self, name: &str) -> io::Result<File> {
         let mut how = OpenOptions::new();
-        how.read(true).write(true).create_new(true).mode(PRIVATE);
+        how.read(true)
+            .write(true)
+            .create_new(true)
+            .mode(self.rights);
         how.open(self.system, name)
     }
 

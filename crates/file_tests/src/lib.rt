@@ -1,6 +1,7 @@
 //! Tests of the calls of files in memory: what a crash may leave of bytes and of names, who gets a
-//! lock, and what a disk over a file does. The contracts of `file_calls` and `file_disk` say it for
-//! every file; these tests show that calls succeed, and that a crash really loses something.
+//! lock, what a disk over a file does, and how a store is replaced or made while a call fails. The
+//! contracts of `file_calls`, `file_disk` and `store_replacement` say it for every file; these
+//! tests show that calls succeed, and that a crash really loses something.
 #![tactic(auto)]
 
 #[cfg(test)]
@@ -11,3 +12,7 @@ mod disks;
 mod locks;
 #[cfg(test)]
 mod names;
+#[cfg(test)]
+mod new_files;
+#[cfg(test)]
+mod replacements;

@@ -72,12 +72,12 @@ copied_none bytes file made to s is =
 
 -- after the copy of one more part
 
-not_lost : (b : Bool) (place : Place) → (place ≡ Lost → ⊥)
+pub not_lost : (b : Bool) (place : Place) → (place ≡ Lost → ⊥)
     → (if b then Dirty else place) ≡ Lost → ⊥
 not_lost true place kept lost = let e = lost in cc
 not_lost false place kept lost = kept lost
 
-not_lost_end : (b : Bool) (place : Place) → (place ≡ Lost → ⊥)
+pub not_lost_end : (b : Bool) (place : Place) → (place ≡ Lost → ⊥)
     → (if b then place else Dirty) ≡ Lost → ⊥
 not_lost_end true place kept lost = kept lost
 not_lost_end false place kept lost = let e = lost in cc

@@ -31,7 +31,7 @@ same_after a b c first second = record {
   end = second.end ∙ first.end;
 }
 
-leaves_same : (old new : FileState) (x : List ℕ) → IsSame old new → MayLeave new x
+pub leaves_same : (old new : FileState) (x : List ℕ) → IsSame old new → MayLeave new x
     → MayLeave old x
 leaves_same old new x same may = record {
   bytes = λ i durable.
@@ -49,7 +49,7 @@ either : (a b : Bool) → (a || b) ≡ true → (a ≡ true) ⊎ (b ≡ true)
 either true b holds = inl refl
 either false b holds = inr holds
 
-both : (a b : Bool) → (a && b) ≡ true → (a ≡ true) × (b ≡ true)
+pub both : (a b : Bool) → (a && b) ≡ true → (a ≡ true) × (b ≡ true)
 both true b holds = (refl, holds)
 both false b holds = absurd (let e = holds in cc)
 
@@ -284,11 +284,11 @@ less_old_or_new name new s t u less second = record {
     go x (inl old) = inl (less.bytes x old)
     go x (inr is) = inr is
 
-itself : (name : List ℕ) → bytes_eq name name ≡ true
+pub itself : (name : List ℕ) → bytes_eq name name ≡ true
 itself name = (bytes_eq-Decides name name).1 refl
 
 -- a name whose last step leads to a file leads there, or where it might have led before
-after_step : (steps : List NameStep) (name : List ℕ) (file n : ℕ)
+pub after_step : (steps : List NameStep) (name : List ℕ) (file n : ℕ)
     → may_lead (steps ++ new_step name (Some file) ∷ []) name (Some n) ≡ true
     → (nat_eq file n ≡ true) ⊎ (may_lead steps name (Some n) ≡ true)
 after_step steps name file n holds =
@@ -304,7 +304,7 @@ after_step steps name file n holds =
     go (inl is) = inl is
     go (inr may) = inr (both (may_lead steps name (Some n)) true may).0
 
-rest_is_now : (s : FileState) (x : List ℕ) → IsAtRest s → MayLeave s x → x ≡ s.now
+pub rest_is_now : (s : FileState) (x : List ℕ) → IsAtRest s → MayLeave s x → x ≡ s.now
 rest_is_now s x rest may = same_by_places x s.now (λ i. may.bytes i (rest.place i))
 
 -- the file to which `from` leads, if its number is this one
@@ -342,7 +342,7 @@ renamed from to file s t apart led rest same renames =
     })
 
 -- and after a sync of the names only there
-after_durable : (steps : List NameStep) (name : List ℕ) (file : ℕ) (to : Option ℕ)
+pub after_durable : (steps : List NameStep) (name : List ℕ) (file : ℕ) (to : Option ℕ)
     → may_lead (map (settled_step Durable) (steps ++ new_step name (Some file) ∷ [])) name to
     ≡ is_to (Some file) to
 after_durable steps name file to =

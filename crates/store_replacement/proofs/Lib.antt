@@ -1,4 +1,6 @@
+pub mod BesideLemmas
 pub mod CallLemmas
 pub mod CopyLemmas
 pub mod MomentLemmas
 pub mod LeftLemmas
+pub mod NewFileLemmas

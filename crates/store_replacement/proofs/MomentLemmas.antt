@@ -1,5 +1,6 @@
 -- What was so at each moment of several calls.
-use Rattle.std.proofs.Common.{◌≡◌, ◌⊎◌, ◌∙◌, ◌++◌, ◌∷◌, [], List, Result, Ok, Err, inl, inr, sym}
+use Rattle.std.proofs.Common.{◌≡◌, ◌⊎◌, ◌∙◌, ◌++◌, ◌∷◌, [], List, Result, Ok, Err, OnOk, inl, inr}
+use Rattle.std.proofs.Common.{sym}
 use Rattle.std.proofs.Common.{append_assoc, ap}
 use Rattle.std.proofs.lemmas.List.{append-nil}
 use Rattle.std.proofs.lemmas.List.Elements.{All-append, All-cons, All-nil, All-weaker}
@@ -64,3 +65,8 @@ always_weaker P Q was is s less always = record {
   before = All-weaker P Q less always.more always.before;
   at_last = less s always.at_last;
 }
+
+-- what is so in any case is so if a result is Ok
+pub in_any_case : {T E : Type 0} (P : Type 0) (r : Result T E) → P → OnOk r P
+in_any_case P (Ok value) p = p
+in_any_case P (Err error) p = tt

@@ -1,11 +1,14 @@
 //! A copy of a store that replaces it, over any [`Folder`].
 
-ghost use Rattle.std.specs.Prelude.{◌≡◌, ◌+◌, List, ℕ, false, length, bytes_eq};
-ghost use Rattle.std.specs.Prelude.{take, IfOk, OnOk};
+ghost use Rattle.std.specs.Prelude.{◌≡◌, ◌+◌, List, ℕ, Some, false, length, bytes_eq};
+ghost use Rattle.std.specs.Prelude.{take, IfOk, Ok, OnOk};
+ghost use Rattle.std.specs.Fn.{FnOnceReturnsAt};
 ghost use Rattle.file_calls.specs.Folders.{IsAlways, IsNew, IsOldOrNew, IsOnly, IsSameFolder};
+ghost use Rattle.file_calls.specs.Names.{leads};
 ghost use Rattle.file_calls.specs.OpenFiles.{IsAtRest, IsIntact};
 ghost use Rattle.store_replacement.specs.Replacements.{IsCopied, IsForCopy, IsWhole};
 
+use crate::new_files::take_away;
 use crate::replacements::put;
 use crate::results::{or_error, or_uncopied};
 use file_calls::{Folder, Inode};
@@ -97,7 +100,7 @@ fn copy_synced<C: Folder>(folder: &mut C, from: &C::File, to: &C::File) -> Resul
 }
 
 /// Returns the identity of an open file.
-fn inode_of<C: Folder<Error = io::Error>>(
+pub(crate) fn inode_of<C: Folder<Error = io::Error>>(
     folder: &mut C,
     file: &C::File,
 ) -> Result<Inode, FileError>
@@ -136,9 +139,8 @@ fn put_made<C: Folder<Error = io::Error>>(
 }
 
 /// Copies the file with the name `to` into a new one, `made`, with the name `from`, and replaces it
-/// by the copy. At each moment a crash leaves the name leading to the old file or to a whole copy,
-/// and after Ok to the copy.
-pub fn put_copy<C: Folder<Error = io::Error>>(
+/// by the copy.
+fn put_copy<C: Folder<Error = io::Error>>(
     folder: &mut C,
     alloc: Global,
     file: &C::File,
@@ -158,4 +160,76 @@ pub fn put_copy<C: Folder<Error = io::Error>>(
 {
     or_uncopied(copy_synced(folder, file, made))?;
     put_made(folder, alloc, file, made, from, to)
+}
+
+/// Prepares a new file, and replaces the file with the name `to` by a copy in it.
+fn put_prepared<C: Folder<Error = io::Error>, P>(
+    folder: &mut C,
+    alloc: Global,
+    file: &C::File,
+    made: &C::File,
+    from: &str,
+    to: &str,
+    prepare: P,
+) -> Result<(), FileError>
+where
+    P: FnOnce(&C::File) -> Result<(), FileError>,
+    requires prepare { P.IsAlwaysCallable prepare }
+    ensures kept { C.keeps folder.old → C.keeps folder.new }
+    ensures always { C.keeps folder.old → bytes_eq from.now to.now ≡ false
+        → IsForCopy (C.number file.now) (C.number made.now) to.now (C.state folder.old)
+        → IsAlways (IsOldOrNew to.now ((C.state folder.old).file (C.number file.now)).now
+        (C.state folder.old)) (C.past folder.old) (C.past folder.new) (C.state folder.new) }
+    ensures done { C.keeps folder.old → bytes_eq from.now to.now ≡ false
+        → IsForCopy (C.number file.now) (C.number made.now) to.now (C.state folder.old)
+        → OnOk result (IsNew to.now ((C.state folder.old).file (C.number file.now)).now
+        (C.state folder.new)) }
+    ensures prepared { OnOk result (FnOnceReturnsAt P.FnOnce prepare made.now (Ok tt)) }
+{
+    prepare(made)?;
+    put_copy(folder, alloc, file, made, from, to)
+}
+
+/// Replaces the file with the name `to`, which is open, by a copy of it, and returns the copy. The
+/// copy is made under the name `from`, where no file may be. Before its first byte is written,
+/// `lock` takes its lock, and `prepare` gives it its owner and its rights. At each moment a crash
+/// leaves `to` leading to the old file or to a whole copy, and after Ok to the copy. If this fails,
+/// the copy is removed, unless another program has its lock.
+pub fn replace_by_copy<C: Folder<Error = io::Error>, L, P>(
+    folder: &mut C,
+    alloc: Global,
+    file: &C::File,
+    from: &str,
+    to: &str,
+    lock: L,
+    prepare: P,
+) -> Result<C::File, FileError>
+where
+    L: FnOnce(&C::File) -> Result<(), FileError>,
+    P: FnOnce(&C::File) -> Result<(), FileError>,
+    requires ready { L.IsAlwaysCallable lock × P.IsAlwaysCallable prepare }
+    ensures kept { C.keeps folder.old → C.keeps folder.new }
+    ensures always { C.keeps folder.old → bytes_eq from.now to.now ≡ false
+        → leads (C.state folder.old).steps to.now ≡ Some (C.number file.now)
+        → IsAlways (IsOldOrNew to.now ((C.state folder.old).file (C.number file.now)).now
+        (C.state folder.old)) (C.past folder.old) (C.past folder.new) (C.state folder.new) }
+    ensures done { C.keeps folder.old → bytes_eq from.now to.now ≡ false
+        → leads (C.state folder.old).steps to.now ≡ Some (C.number file.now)
+        → OnOk result (IsNew to.now ((C.state folder.old).file (C.number file.now)).now
+        (C.state folder.new)) }
+    ensures locked { IfOk result (λ made. FnOnceReturnsAt L.FnOnce lock made (Ok tt)
+        × FnOnceReturnsAt P.FnOnce prepare made (Ok tt)) }
+{
+    let made = match folder.create_new(from) {
+        Ok(made) => made,
+        Err(error) => return or_uncopied(Err(error)),
+    };
+    lock(&made)?;
+    match put_prepared(folder, alloc, file, &made, from, to, prepare) {
+        Ok(()) => Ok(made),
+        Err(error) => {
+            let _left = take_away(folder, &made, from);
+            Err(error)
+        }
+    }
 }

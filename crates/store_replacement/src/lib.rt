@@ -6,10 +6,12 @@
 
 mod copies;
 mod marks;
+mod new_files;
 mod replacements;
 mod results;
 
-pub use copies::put_copy;
+pub use copies::replace_by_copy;
 pub use marks::{has_failed, has_no_sync, is_unsynced, leave_mark, name_of_mark, remove_mark};
+pub use new_files::{NotMade, make_new};
 pub use replacements::put;
 pub use results::{or_error, or_no_memory, or_uncopied};

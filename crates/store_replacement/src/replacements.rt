@@ -50,7 +50,7 @@ fn look<C: Folder<Error = io::Error>>(folder: &mut C, name: &str) -> Result<Foun
 }
 
 /// Makes sure that `from` leads to the file `new`.
-fn look_at_new<C: Folder<Error = io::Error>>(
+pub(crate) fn look_at_new<C: Folder<Error = io::Error>>(
     folder: &mut C,
     new: Inode,
     from: &str,

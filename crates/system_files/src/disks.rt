@@ -6,28 +6,11 @@ ghost use Rattle.file_disk.specs.FileDisks.{is_file_disk};
 
 use crate::error_cells::ErrorCell;
 use crate::marks::Mark;
-use file_calls::OpenFile;
+use file_calls::{Inode, OpenFile};
 use file_disk::FileDisk;
 use run_disk::{DiskFailed, OPEN, RunDisk};
-use std::fs::{File, Metadata};
-use std::os::unix::fs::MetadataExt;
+use std::fs::File;
 use std::{fs, io};
-
-/// The identity of a file, whatever its names.
-#[derive(Clone, Copy, PartialEq, Eq)]
-pub struct Inode {
-    device: u64,
-    number: u64,
-}
-
-impl Inode {
-    pub fn of(found: &Metadata) -> Inode {
-        Inode {
-            device: found.dev(),
-            number: found.ino(),
-        }
-    }
-}
 
 /// A store's slots are the first two of three equal parts.
 const PARTS: u64 = 3;

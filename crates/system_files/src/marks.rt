@@ -5,17 +5,11 @@
 //! mark, and the next opening for writing replaces the store by a copy. The mark isn't synced: a
 //! restart of the machine, which may remove it, also drops the bytes that the system kept.
 
+use file_calls::SystemFolder;
 use std::alloc::{AllocError, Global};
-use std::fs::{File, OpenOptions};
-use std::os::unix::fs::OpenOptionsExt;
+use std::fs::File;
 use std::{fs, io};
-
-/// The name of a store's mark is the store's name and this.
-const FAILED: &str = ".failed";
-
-/// The rights of a mark. Nobody needs to open it, so only its owner may, whatever the umask or a
-/// default access control list of the directory would allow.
-const RIGHTS: u32 = 0o600;
+use store_replacement::{leave_mark, name_of_mark, remove_mark};
 
 /// The place of the mark of a store. If the system lets no file be made there, no mark is left.
 #[derive(Drop)]
@@ -29,18 +23,15 @@ impl<'a, S: fs::Files<File = File>> Mark<'a, S> {
     pub fn beside(system: &'a S, alloc: Global, path: &str) -> Result<Mark<'a, S>, AllocError> {
         Ok(Mark {
             system,
-            name: [path, FAILED].concat(alloc)?,
+            name: name_of_mark(alloc, path)?,
         })
     }
 
-    /// Leaves the mark, and returns whether there was none before. It follows no link.
+    /// Leaves the mark, and returns whether there was none before. It follows no link. Nobody needs
+    /// to open the mark, so only its owner may, whatever the umask or a default access control list
+    /// of the directory would allow.
     pub fn leave(&self) -> bool {
-        let mut how = OpenOptions::new();
-        how.write(true)
-            .create_new(true)
-            .mode(RIGHTS)
-            .open(self.system, self.name.as_str())
-            .is_ok()
+        leave_mark(&mut SystemFolder::new(self.system), self.name.as_str())
     }
 
     /// Returns whether there is a mark. If the system can't tell, because the name is too long for
@@ -55,9 +46,6 @@ impl<'a, S: fs::Files<File = File>> Mark<'a, S> {
 
     /// Removes the mark. A file of this name that isn't empty is no mark, and stays.
     pub fn remove(&self) {
-        let found = fs::symlink_metadata(self.system, self.name.as_str());
-        if !found.is_ok_and(|it| it.is_file() && it.len() > 0) {
-            let _gone = fs::remove_file(self.system, self.name.as_str());
-        }
+        remove_mark(&mut SystemFolder::new(self.system), self.name.as_str());
     }
 }

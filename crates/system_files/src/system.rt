@@ -3,32 +3,30 @@
 ghost use Rattle.std.specs.Prelude.{◌≡◌, ⊤, IfOk};
 ghost use Rattle.store_files.specs.Files.{FilesView, IsFilled};
 
-use crate::contents::{copy, fill};
-use crate::disks::{Inode, SystemDisk};
+use crate::contents::fill;
+use crate::disks::SystemDisk;
 use crate::error_cells::ErrorCell;
 use crate::marks::Mark;
-use file_calls::SystemFile;
+use file_calls::{Folder, Inode, SystemFile, SystemFolder};
 use file_disk::FileDisk;
 use run_disk::{DiskFailed, RunDisk};
-use std::alloc::{AllocError, Global};
+use std::alloc::Global;
 use std::fs::{File, Metadata, OpenOptions, TryLockError};
-use std::os::unix::fs::{MetadataExt, OpenOptionsExt, fchown};
-use std::path::{Path, PathBuf};
+use std::os::unix::fs::{MetadataExt, fchown};
+use std::path::PathBuf;
 use std::time::{Clock, Duration};
 use std::{fs, io, thread};
 use store_files::{BESIDE, FileError, Files, Made, Opened};
+use store_replacement::{
+    has_failed, has_no_sync, is_unsynced, make_new, or_error, or_no_memory, or_uncopied, put,
+    replace_by_copy,
+};
 
 /// The file that reads as empty and takes every write.
 const NULL: &str = "/dev/null";
 
 /// The milliseconds of a pause.
 const PAUSE: u64 = 10;
-
-/// The rights of a file before it gets those of another one: only its owner may use it.
-const PRIVATE: u32 = 0o600;
-
-/// Printed for a store with a mark, before the error that kept a copy from replacing it.
-const UNCOPIED: &str = "a sync of it failed, and so did a copy of it";
 
 /// The first errors of a file that was opened, and of one that was created.
 #[derive(Drop)]
@@ -71,15 +69,21 @@ impl<'a, S: fs::Files<File = File>> SystemFiles<'a, S> {
         }
     }
 
-    /// Opens the file of this name, if the standard streams are filled. A pipe or a device is
-    /// refused before it is opened; the system refuses a folder.
+    /// Makes sure that the standard streams are filled, and that this is no name of a pipe or of a
+    /// device, which may not even be opened.
+    fn admit(&self, name: &str) -> Result<(), FileError> {
+        match &self.streams {
+            Err(error) => Err(FileError::of_other(NULL, error)),
+            Ok(_) if fs::metadata(self.system, name).is_ok_and(|it| is_special(&it)) => {
+                Err(FileError::NotAFile)
+            }
+            Ok(_) => Ok(()),
+        }
+    }
+
+    /// Opens the file of this name. The system refuses a folder.
     fn with(&self, how: &OpenOptions, name: &str) -> Result<File, FileError> {
-        if let Err(error) = &self.streams {
-            return Err(FileError::of_other(NULL, error));
-        }
-        if fs::metadata(self.system, name).is_ok_and(|it| is_special(&it)) {
-            return Err(FileError::NotAFile);
-        }
+        self.admit(name)?;
         let file = or_error(how.open(self.system, name))?;
         if or_error(file.metadata())?.is_file() {
             Ok(file)
@@ -216,13 +220,12 @@ impl<'a, S: fs::Files<File = File>> SystemFiles<'a, S> {
         })
     }
 
-    /// Locks a file that was created or is to be emptied, gives it the owner and the rights of
-    /// `like`, and fills it with `size` zero bytes. A new file is removed again if that fails.
+    /// Locks a file that was created or is to be emptied, and fills it with `size` zero bytes. A
+    /// new file is removed again if that fails.
     fn made(
         &mut self,
         file: File,
         name: &str,
-        like: Option<&str>,
         size: u64,
         is_new: bool,
     ) -> Result<Made<SystemDisk<'a, S, SystemFile>, &'a ErrorCell>, FileError>
@@ -232,7 +235,7 @@ impl<'a, S: fs::Files<File = File>> SystemFiles<'a, S> {
     {
         self.lock(&file, name)?;
         self.hold(&file)?;
-        let done = self.zeros(file, name, like, size);
+        let done = self.zeros(file, name, size);
         if is_new && done.is_err() {
             self.take_held(name);
         }
@@ -243,24 +246,43 @@ impl<'a, S: fs::Files<File = File>> SystemFiles<'a, S> {
         })
     }
 
-    /// A disk over a file that gets the owner and the rights of `like` and `size` zero bytes. What
-    /// an earlier failed sync left in it is gone, and so is the mark.
+    /// A disk over a file that is filled with `size` zero bytes.
     fn zeros(
         &self,
         file: File,
         name: &str,
-        like: Option<&str>,
         size: u64,
     ) -> Result<SystemDisk<'a, S, SystemFile>, FileError>
         ensures { IfOk result (λ made.
             IsFilled size (⟦<SystemDisk<'a, S, SystemFile> as RunDisk>⟧.state made)) }
     {
         let mut file = file;
-        let mark = self.mark_of(name)?;
-        let _to_clear = or_error(mark.is_left())?;
-        or_error(self.liken(&file, like))?;
+        self.prepare(&file, name, None)?;
         or_error(fill(&mut file, size))?;
         or_error(self.sync_folder(name))?;
+        self.filled(file, name, size)
+    }
+
+    /// Makes sure that the system can look for the mark of a new file, and gives the file the owner
+    /// and the rights of `like`.
+    fn prepare(&self, file: &File, name: &str, like: Option<&str>) -> Result<(), FileError> {
+        let mark = self.mark_of(name)?;
+        let _to_clear = or_error(mark.is_left())?;
+        or_error(self.liken(file, like))
+    }
+
+    /// A disk over a file of `size` zero bytes. What an earlier failed sync left in it is gone, and
+    /// so is the mark.
+    fn filled(
+        &self,
+        file: File,
+        name: &str,
+        size: u64,
+    ) -> Result<SystemDisk<'a, S, SystemFile>, FileError>
+        ensures { IfOk result (λ made.
+            IsFilled size (⟦<SystemDisk<'a, S, SystemFile> as RunDisk>⟧.state made)) }
+    {
+        let mark = self.mark_of(name)?;
         let disk = self.settled(file, mark, &self.error_cells.created)?;
         if disk.size() != size {
             return Err(FileError::EndedEarly);
@@ -269,16 +291,15 @@ impl<'a, S: fs::Files<File = File>> SystemFiles<'a, S> {
         Ok(disk)
     }
 
+    /// The system's calls on names.
+    fn folder(&self) -> SystemFolder<'a, S> {
+        SystemFolder::new(self.system)
+    }
+
     /// Syncs the folder of the file of this name, so that a power failure leaves a new file its
     /// name. If the name is a link, it is the folder of the link.
     fn sync_folder(&self, name: &str) -> io::Result<()> {
-        let here = Path::new(".");
-        let path = Path::new(name);
-        let folder = match path.parent() {
-            Some(folder) if !folder.as_str().is_empty() => folder,
-            _ => here,
-        };
-        File::open(self.system, folder)?.sync_all()
+        self.folder().sync_names(name)
     }
 
     /// Syncs the folder of a store. If that fails, it leaves the store's mark: the system may treat
@@ -288,16 +309,6 @@ impl<'a, S: fs::Files<File = File>> SystemFiles<'a, S> {
         let done = self.sync_folder(name);
         if has_failed(&done) {
             mark.leave();
-        }
-        done
-    }
-
-    /// Like [`SystemFiles::sync_names`], after a renaming. The mark is there during the sync.
-    fn sync_renamed(&self, name: &str, mark: &Mark<'a, S>) -> io::Result<()> {
-        let is_left = mark.leave();
-        let done = self.sync_names(name, mark);
-        if is_left && !has_failed(&done) {
-            mark.remove();
         }
         done
     }
@@ -317,16 +328,19 @@ impl<'a, S: fs::Files<File = File>> SystemFiles<'a, S> {
         let beside = or_no_memory([path, BESIDE].concat(self.alloc))?;
         let beside = beside.as_str();
         self.clear(beside)?;
-        let mut how = OpenOptions::new();
-        how.read(true).write(true).create_new(true).mode(PRIVATE);
-        let mut made = or_uncopied(how.open(self.system, beside))?;
-        self.lock(&made, beside)?;
-        let done = self.put_copy(file, &mut made, beside, path);
-        if done.is_err() {
-            self.take_away(&made, beside);
+        let done = replace_by_copy(
+            &mut self.folder(),
+            self.alloc,
+            file,
+            beside,
+            path,
+            |made| self.lock(made, beside),
+            |made| or_uncopied(self.liken(made, Some(path))),
+        );
+        match done {
+            Err(FileError::OtherName) => Err(FileError::Unsynced),
+            done => done,
         }
-        done?;
-        Ok(made)
     }
 
     /// Removes what a killed renewal left under this name, unless another program has it open.
@@ -342,47 +356,14 @@ impl<'a, S: fs::Files<File = File>> SystemFiles<'a, S> {
         }
     }
 
-    /// Copies a file into the one beside it, and replaces the file by the copy.
-    fn put_copy(
-        &self,
-        file: &File,
-        made: &mut File,
-        beside: &str,
-        path: &str,
-    ) -> Result<(), FileError> {
-        or_uncopied(self.liken(made, Some(path)))?;
-        or_uncopied(copy(file, made))?;
-        or_uncopied(made.sync_all())?;
-        let (new, old) = (or_error(inode(made))?, or_error(inode(file))?);
-        match self.put(new, old, beside, path) {
-            Err(FileError::OtherName) => Err(FileError::Unsynced),
-            done => done,
-        }
-    }
-
-    /// Like `put`, for a file that was made and is held.
+    /// Renames `from`, which has to be the file `new` that is held, to `to`, which has to be the
+    /// only name of the file `old`, and no link.
     fn replaced(&self, new: Inode, old: Inode, from: &str, to: &str) -> Result<(), FileError> {
         if let Some(file) = &self.held {
             // (of its owner and rights, too, which no sync of a disk asks for)
             or_error(file.sync_all())?;
         }
-        self.put(new, old, from, to)
-    }
-
-    /// Renames `from`, which has to be the file `new`, to `to`, which has to be the only name of
-    /// the file `old`, and no link.
-    fn put(&self, new: Inode, old: Inode, from: &str, to: &str) -> Result<(), FileError> {
-        if new != Inode::of(&or_error(fs::symlink_metadata(self.system, from))?) {
-            return Err(FileError::InUse);
-        }
-        // (one that was moved away meanwhile has another name now)
-        let found = or_error(fs::symlink_metadata(self.system, to))?;
-        if !is_only_name(&found) || old != Inode::of(&found) {
-            return Err(FileError::OtherName);
-        }
-        let mark = self.mark(to)?;
-        or_error(fs::rename(self.system, from, to))?;
-        or_error(self.sync_renamed(to, &mark))
+        put(&mut self.folder(), self.alloc, new, old, from, to)
     }
 }
 
@@ -478,10 +459,10 @@ impl<'a, S: fs::Files<File = File> + Clock + Sync> Files for SystemFiles<'a, S> 
         let mut how = OpenOptions::new();
         how.read(true).write(true);
         match self.with(how.create_new(true), name) {
-            Ok(file) => self.made(file, name, None, size, true),
+            Ok(file) => self.made(file, name, size, true),
             Err(_) => {
                 let file = self.with(how.create_new(false).create(true), name)?;
-                self.made(file, name, None, size, false)
+                self.made(file, name, size, false)
             }
         }
     }
@@ -492,13 +473,35 @@ impl<'a, S: fs::Files<File = File> + Clock + Sync> Files for SystemFiles<'a, S> 
         like: Option<&str>,
         size: u64,
     ) -> Result<Made<SystemDisk<'a, S, SystemFile>, &'a ErrorCell>, FileError> {
-        let mut how = OpenOptions::new();
-        how.read(true).write(true).create_new(true);
-        if like.is_some() {
-            how.mode(PRIVATE);
+        self.admit(name)?;
+        let mut folder = match like {
+            Some(_) => SystemFolder::new(self.system),
+            None => SystemFolder::by_umask(self.system),
+        };
+        let made = make_new(
+            &mut folder,
+            name,
+            size,
+            |file| self.lock(file, name),
+            |file| self.prepare(file, name, like),
+        );
+        let file = match made {
+            Ok(file) => file,
+            Err(not) => return Err(not.error),
+        };
+        if let Err(error) = self.hold(&file) {
+            self.take_away(&file, name);
+            return Err(error);
         }
-        let file = self.with(&how, name)?;
-        self.made(file, name, like, size, true)
+        let done = self.filled(file, name, size);
+        if done.is_err() {
+            self.take_held(name);
+        }
+        Ok(Made {
+            disk: done?,
+            why: &self.error_cells.created,
+            is_new: true,
+        })
     }
 
     fn replace(
@@ -519,34 +522,6 @@ impl<'a, S: fs::Files<File = File> + Clock + Sync> Files for SystemFiles<'a, S> 
 /// Returns whether this is a pipe or a device, and so neither a file nor a folder.
 fn is_special(found: &Metadata) -> bool {
     !found.is_file() && !found.is_dir()
-}
-
-/// Returns whether this is a file with only one name, and no link.
-fn is_only_name(found: &Metadata) -> bool {
-    found.is_file() && found.nlink() == 1
-}
-
-/// Returns whether a sync of a folder was impossible, and not failed: the folder may not be read,
-/// or its file system has no sync.
-fn is_unsynced(kind: io::ErrorKind) -> bool {
-    matches!(kind, io::ErrorKind::PermissionDenied) || has_no_sync(kind)
-}
-
-/// Returns whether a sync of a folder failed, and wasn't impossible.
-fn has_failed(done: &io::Result<()>) -> bool {
-    match done {
-        Ok(()) => false,
-        Err(error) => !is_unsynced(error.kind()),
-    }
-}
-
-/// Returns whether a sync failed because the file system has no sync, or is read-only. A denied
-/// write is another failure: its bytes may be what a program wrote before.
-fn has_no_sync(kind: io::ErrorKind) -> bool {
-    matches!(
-        kind,
-        io::ErrorKind::InvalidInput | io::ErrorKind::Unsupported | io::ErrorKind::ReadOnlyFilesystem
-    )
 }
 
 /// The identity of a file.
@@ -584,29 +559,5 @@ fn settle_under<S: fs::Files<File = File>>(
             mark.remove();
             Ok(())
         }
-    }
-}
-
-/// The result of a call of the system, or its error.
-fn or_error<T>(done: io::Result<T>) -> Result<T, FileError> {
-    match done {
-        Ok(value) => Ok(value),
-        Err(error) => Err(FileError::of(&error)),
-    }
-}
-
-/// A value in memory, or the error that there was no memory for it.
-fn or_no_memory<T>(made: Result<T, AllocError>) -> Result<T, FileError> {
-    match made {
-        Ok(value) => Ok(value),
-        Err(_) => Err(FileError::NoMemory),
-    }
-}
-
-/// The result of a call for the copy of a store, or its error after [`UNCOPIED`].
-fn or_uncopied<T>(done: io::Result<T>) -> Result<T, FileError> {
-    match done {
-        Ok(value) => Ok(value),
-        Err(error) => Err(FileError::of_other(UNCOPIED, &error)),
     }
 }

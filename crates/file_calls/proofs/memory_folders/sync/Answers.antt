@@ -1,4 +1,4 @@
-use Rattle.std.proofs.Common.{◌⊎◌, OnErr, OnOk, inl}
+use Rattle.std.proofs.Common.{◌⊎◌, OnErr, OnOk}
 use Rattle.file_calls.specs.OpenFiles.{IsSame, Settles}
 use Rattle.file_calls.specs.declared.places.Place.TheVariants.{Durable, Lost}
 use Rattle.file_calls.proofs.FolderLemmas.{did_to_file, lost_or_same, other_file}
