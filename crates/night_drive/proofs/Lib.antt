@@ -12,5 +12,6 @@ pub mod Leaving
 pub mod Hitting
 pub mod Playing
 pub mod Parting
+pub mod Guessing
 pub mod Deriving
 pub mod Distinguishing

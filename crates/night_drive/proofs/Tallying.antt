@@ -106,7 +106,7 @@ try_more index owners owns m key n failed old mid new is before more h c other t
 -- ---- one task
 
 -- Whether a task is a try, by its row.
-try_by : (p : State) (night : Option (List ℕ)) (group key : List ℕ) (n : ℕ) (task : Task)
+pub try_by : (p : State) (night : Option (List ℕ)) (group key : List ℕ) (n : ℕ) (task : Task)
     → slice_get p.work.tasks n ≡ Some task
     → is_try p night group key n ≡ (bytes_eq task.argument key
     && (counts task.stage && is_owned p night group task.group))
@@ -216,19 +216,26 @@ pub tallies_none : (p : State) (names : Names) (index : Index) (tallies : List T
     → AreTallies 0 p names index tallies
 tallies_none p names index tallies none g c group key name found = none g c key found
 
+-- The tally of a command by one more task.
+pub tally_more : (p : State) (night : Option (List ℕ)) (group key : List ℕ) (n : ℕ) → n < MOST
+    → counted (is_try p night group key n) n (has_stage has_failed p.work n)
+    (tally_of p night group key n)
+    ≡ tally_of p night group key (n + 1)
+tally_more p night group key n few =
+    let test : ℕ → Bool = λ m. is_try p night group key m && has_stage has_failed p.work m in
+    let within : count_below test n ≤ n = count_within test n in
+    let next : suc n ≡ n + 1 = omega arith in
+    one_more (is_try p night group key n) (has_stage has_failed p.work n) n
+    (last_below (is_try p night group key) n) (count_below test n) (omega (arith, within, few))
+    ∙ ap (λ m. tally_of p night group key m) next
+
 pub tallies_more : (p : State) (names : Names) (index : Index) (n : ℕ) (old new : List Tally)
     → n < MOST → AreTallies n p names index old → CountsTask p names index n old new
     → AreTallies (n + 1) p names index new
 tallies_more p names index n old new few before more g c group key name found =
-    let test : ℕ → Bool = λ m. is_try p names.night group key m && has_stage has_failed p.work m in
-    let within : count_below test n ≤ n = count_within test n in
-    let next : suc n ≡ n + 1 = omega arith in
     more g c group key (tally_of p names.night group key n) name found
     (before g c group key name found)
-    ∙ ap Some (one_more (is_try p names.night group key n) (has_stage has_failed p.work n) n
-    (last_below (is_try p names.night group key) n) (count_below test n)
-    (omega (arith, within, few)))
-    ∙ ap (λ m. Some (tally_of p names.night group key m)) next
+    ∙ ap Some (tally_more p names.night group key n few)
 
 -- ---- the facts
 

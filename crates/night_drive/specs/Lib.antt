@@ -4,6 +4,7 @@ pub mod Tries
 pub mod Seen
 pub mod Index
 pub mod Tallies
+pub mod Guessed
 pub mod Openings
 pub mod Turns
 pub mod Distinct

@@ -12,6 +12,8 @@
 
 pub mod ends;
 pub mod examples;
+pub mod guessed;
+pub mod guesses;
 mod index;
 mod keys;
 pub mod names;

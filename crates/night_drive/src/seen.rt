@@ -38,7 +38,7 @@ pub fn seen<A: Allocator>(
 }
 
 /// Returns the facts about each command of a plan.
-fn all_known<A: Allocator>(
+pub(crate) fn all_known<A: Allocator>(
     alloc: Global,
     state: &State<A>,
     ends: &Ends,
@@ -62,7 +62,7 @@ fn all_known<A: Allocator>(
 }
 
 /// Returns which groups of a plan are done.
-fn all_over<A: Allocator>(
+pub(crate) fn all_over<A: Allocator>(
     alloc: Global,
     state: &State<A>,
     names: &Names,

@@ -83,7 +83,7 @@ pub fn tally_at(tallies: &[Tally], index: &Index, group: usize, key: &Name) -> T
 }
 
 /// Returns, for each group of the store, which groups of the plan own it.
-fn owners<A: Allocator>(
+pub fn owners<A: Allocator>(
     alloc: Global,
     state: &State<A>,
     names: &Names,
