@@ -23,3 +23,5 @@ pub mod Trying
 pub mod Resting
 pub mod OnLiterals
 pub mod Owning
+pub mod Waking
+pub mod Leaving

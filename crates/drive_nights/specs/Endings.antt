@@ -1,6 +1,7 @@
 -- What is left of other nights in a store, and the steps that end it.
-use Rattle.std.specs.Prelude.{ℕ, zero, suc, ◌&&◌, not, Bool, if◌then◌else◌}
-use Rattle.std.specs.Prelude.{List, [], ◌∷◌, ◌++◌, codes, length, Option, Some, None, slice_get}
+use Rattle.std.specs.Prelude.{ℕ, zero, suc, ◌&&◌, ◌||◌, not, Bool, if◌then◌else◌}
+use Rattle.std.specs.Prelude.{List, [], ◌∷◌, ◌++◌, codes, length, Option, Some, None, is_some}
+use Rattle.std.specs.Prelude.{slice_get}
 use Rattle.std.specs.Option.{option_and_then, option_map, option_map_or}
 use Rattle.run_model.specs.declared.commands.Command.TheVariants as call
 use Rattle.run_model.specs.declared.commands.Step.{Step}
@@ -9,14 +10,22 @@ use Rattle.run_model.specs.declared.groups.Group.{Group}
 use Rattle.run_model.specs.declared.scopes.Kind.{Kind}
 use Rattle.run_model.specs.declared.scopes.Kind.TheVariants as kind
 use Rattle.run_model.specs.declared.scopes.Scope.{Scope}
-use Rattle.run_model.specs.Scopes.{is_done, text_under}
+use Rattle.run_model.specs.Scopes.{is_done, line, text_under}
 use Rattle.run_model.specs.State.{State}
+use Rattle.model_laws.specs.Hits.{is_on}
 use Rattle.night_drive.specs.Names.{is_same, night_of}
+use Rattle.night_drive.specs.Searches.{last_below}
 use Rattle.drive_nights.specs.Nights.{is_base, night_text, parent_of}
 
 -- Scope s stands in another night than n.
 abbrev pub is_elsewhere : State → (n s : ℕ) → Bool
 is_elsewhere p n s = not (is_same (night_of p s) (night_text n))
+
+-- Scope t is a scope of night n, or stands above one.
+abbrev pub holds : State → (n t : ℕ) → Bool
+holds p n t =
+    is_some (last_below (λ s. not (is_elsewhere p n s) && is_on t (line p.tree.scopes s))
+    (length p.tree.scopes))
 
 -- ---- groups
 
@@ -52,20 +61,20 @@ cause_of kind.Cause = Some (Some (codes "over"))
 cause_of (kind.Deadline _ _) = Some None
 cause_of _ = None
 
--- The scope s of this row is canceled, if it isn't done.
-abbrev pub cancel_row : State → ℕ → Scope → List Step
-cancel_row p s row =
-    option_map_or (λ cause. if is_done p.tree.scopes s then []
+-- The scope s of this row is canceled, unless it is done already, or night n would be done, too.
+abbrev pub cancel_row : State → (n s : ℕ) → Scope → List Step
+cancel_row p n s row =
+    option_map_or (λ cause. if is_done p.tree.scopes s || holds p n s then []
     else step.Command (call.Cancel row.name cause) ∷ []) (cause_of row.kind) []
 
-abbrev pub cancel_of : State → ℕ → List Step
-cancel_of p s = option_map_or (cancel_row p s) (slice_get p.tree.scopes s) []
+abbrev pub cancel_of : State → (n s : ℕ) → List Step
+cancel_of p n s = option_map_or (cancel_row p n s) (slice_get p.tree.scopes s) []
 
 -- The top of another night is canceled, if scope s is its base, and so is the deadline above it.
 abbrev pub cancels_at : State → (n s : ℕ) → List Step
 cancels_at p n s =
     option_map_or (λ top. if is_elsewhere p n s
-    then cancel_of p top ++ cancel_of p (parent_of p top) else []) (top_at p s) []
+    then cancel_of p n top ++ cancel_of p n (parent_of p top) else []) (top_at p s) []
 
 -- The same of each scope below this number, in order.
 abbrev pub cancels_below : State → ℕ → ℕ → List Step

@@ -96,3 +96,22 @@ abbrev pub end_of_dated : List Step
 end_of_dated =
     step.Command (call.Cancel (codes "night") (Some (codes "over")))
     ∷ step.Command (call.Cancel (codes "night--until") None) ∷ []
+
+-- A store in which the top of the second night stands below that of the first one.
+abbrev pub nested : State
+nested =
+    fold change.step new_store.state (event.Derive (codes "night") 0 kind.Cause
+    ∷ event.Derive (codes "night--2") 1 kind.Cause
+    ∷ event.Derive (codes "night--2--round") 2 (kind.Value (codes "night") (codes "2")) ∷ [])
+
+-- A store whose first night has a deadline for all groups together. The disks have an earlier one.
+abbrev pub timed : State
+timed =
+    fold change.step new_store.state (event.Derive (codes "night--until") 0 (kind.Deadline 600 None)
+    ∷ event.Derive (codes "night") 1 kind.Cause
+    ∷ event.Derive (codes "disks--until") 2 (kind.Deadline 400 None)
+    ∷ event.Derive (codes "disks") 3 kind.Cause ∷ [])
+
+-- The same store at this moment.
+abbrev pub timed_at : (moment : ℕ) → State
+timed_at moment = change.step timed (event.Advance moment)

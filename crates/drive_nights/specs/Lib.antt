@@ -5,6 +5,8 @@ pub mod Rooms
 pub mod Openings
 pub mod Marks
 pub mod Endings
+pub mod Deadlines
+pub mod Untouched
 pub mod Effects
 pub mod Results
 pub mod Examples

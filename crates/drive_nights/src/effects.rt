@@ -10,6 +10,7 @@ ghost use Rattle.drive_nights.specs.Names.{NamesBelong};
 ghost use Rattle.drive_nights.specs.Nights.{NoneIsLater};
 ghost use Rattle.drive_nights.specs.Resting.{OpeningsRest};
 ghost use Rattle.drive_nights.specs.Results.{OpeningsMakeAll};
+ghost use Rattle.drive_nights.specs.Untouched.{EndingsLeaveNights};
 
 /// After an opening no task waits to be started, and each group of the plan has a group of the
 /// store for its tasks. Nothing that was known of a command has changed. A group that keeps its
@@ -95,4 +96,11 @@ pub fn a_night_goes_on_until_its_mark()
 /// No task, no command and no other group has changed. No step was refused.
 pub fn a_group_is_added()
     ensures { GrowthsHouse }
+{}
+
+/// The steps that end what is left of other nights leave this night as it is: its scopes, all that
+/// stands above them, its groups and its tasks. What is known of its commands doesn't change, and
+/// neither does which of its groups are done. Steps may have been refused.
+pub fn endings_leave_nights_as_they_are()
+    ensures { EndingsLeaveNights }
 {}

@@ -1,8 +1,10 @@
 //! What is left of other nights in a store. Once it is ended, a renewal of the store can drop it.
 
 ghost use Rattle.std.specs.Prelude.{◌≡◌, ◌<◌, ◌++◌, IfOk, length};
+ghost use Rattle.run_model.specs.Scopes.{is_root, line};
+ghost use Rattle.model_laws.specs.Hits.{is_on};
 ghost use Rattle.drive_nights.specs.Endings.{cancel_of, cancel_row, cancels_at, cancels_below};
-ghost use Rattle.drive_nights.specs.Endings.{cause_of, endings_of, is_left, top_at, wait_at};
+ghost use Rattle.drive_nights.specs.Endings.{cause_of, endings_of, holds, is_left, top_at, wait_at};
 ghost use Rattle.drive_nights.specs.Endings.{waits_below};
 
 use crate::nights::{is_base, is_tonight, parent_of, text_under};
@@ -96,41 +98,46 @@ fn add_cancels_at<A: Allocator>(
 {
     match top_at(state, s) {
         Some(top) if !is_tonight(state, night, s) => {
-            add_cancel(steps, state, top)?;
-            add_cancel(steps, state, parent_of(state, top))?;
+            add_cancel(steps, state, night, top)?;
+            add_cancel(steps, state, night, parent_of(state, top))?;
             Ok(())
         }
         Some(_) | None => Ok(()),
     }
 }
 
-/// Adds a step that cancels a scope, if it is the top of a night or has a deadline, and isn't done.
+/// Adds a step that cancels a scope, if it is the top of a night or has a deadline. None is added
+/// if the scope is done, or if this night stands below it.
 fn add_cancel<A: Allocator>(
     steps: &mut Vec<Step>,
     state: &State<A>,
+    night: u64,
     s: u16,
 ) -> Result<(), AllocError>
-    ensures { IfOk result (λ _. steps.new.items ≡ steps.old.items ++ cancel_of state.now s) }
+    ensures { IfOk result (λ _. steps.new.items ≡ steps.old.items
+        ++ cancel_of state.now night s) }
 {
     match state.scopes().get(s as usize) {
-        Some(row) => add_cancel_of(steps, state, s, row),
+        Some(row) => add_cancel_of(steps, state, night, s, row),
         None => Ok(()),
     }
 }
 
-/// Adds a step that cancels the scope of this row, if it isn't done.
+/// Adds a step that cancels the scope of this row, unless it is done, or this night stands below
+/// it.
 fn add_cancel_of<A: Allocator>(
     steps: &mut Vec<Step>,
     state: &State<A>,
+    night: u64,
     s: u16,
     row: &Scope,
 ) -> Result<(), AllocError>
     requires { s < length state.now.tree.scopes }
     ensures { IfOk result (λ _. steps.new.items ≡ steps.old.items
-        ++ cancel_row state.now s row.now) }
+        ++ cancel_row state.now night s row.now) }
 {
     match cause_of(&row.kind) {
-        Some(cause) if !is_done(state, s) => {
+        Some(cause) if !(is_done(state, s) || holds(state, night, s)) => {
             steps.push(Step::Command(Command::Cancel {
                 scope: row.name.copy(),
                 cause,
@@ -139,6 +146,49 @@ fn add_cancel_of<A: Allocator>(
         }
         Some(_) | None => Ok(()),
     }
+}
+
+/// Returns whether a scope is one of this night, or stands above one.
+fn holds<A: Allocator>(state: &State<A>, night: u64, top: u16) -> bool
+    ensures { result ≡ holds state.now night top }
+{
+    let mut holds = false;
+    for s in 0..state.scope_count() as u16 {
+        if is_tonight(state, night, s) && is_above(state, top, s) {
+            holds = true;
+        }
+    }
+    holds
+}
+
+/// Returns whether a scope is on the line of another one: whether it is that one, or stands above
+/// it.
+fn is_above<A: Allocator>(state: &State<A>, top: u16, s: u16) -> bool
+    ensures { result ≡ is_on top (line state.now.tree.scopes s) }
+{
+    let mut at = s;
+    let mut most = s as u32 + 1;
+    while most > 0 {
+        most -= 1;
+        let Some(row) = state.scopes().get(at as usize) else {
+            return false;
+        };
+        if at == top {
+            return true;
+        }
+        if is_root(&row.kind) {
+            return false;
+        }
+        at = row.parent;
+    }
+    false
+}
+
+/// Returns whether a scope of this kind is root.
+fn is_root(kind: &Kind) -> bool
+    ensures { result ≡ is_root kind.now }
+{
+    matches!(kind, Kind::Root)
 }
 
 /// Returns the cause with which a scope of this kind is canceled: `over`, or none if it has a

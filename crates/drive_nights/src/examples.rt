@@ -9,11 +9,13 @@ ghost use Rattle.std.specs.Prelude.{◌≡◌, [], ◌∷◌, codes, false, map,
 ghost use Rattle.run_model.specs.declared.commands.Wish.TheVariants as wish;
 ghost use Rattle.night_drive.specs.Examples.{two_nights};
 ghost use Rattle.drive_nights.specs.declared.names.Role.TheVariants as role;
+ghost use Rattle.drive_nights.specs.Deadlines.{IsNextMoment};
 ghost use Rattle.drive_nights.specs.Effects.{IsOpening, is_kept};
 ghost use Rattle.drive_nights.specs.Endings.{endings_of};
 ghost use Rattle.drive_nights.specs.Examples.{dated, end_of_both, end_of_dated, end_of_first};
-ghost use Rattle.drive_nights.specs.Examples.{first_night, going_on, later_disks, new_store};
-ghost use Rattle.drive_nights.specs.Examples.{none_of_two, third_night, two_groups, until_of};
+ghost use Rattle.drive_nights.specs.Examples.{first_night, going_on, later_disks, nested};
+ghost use Rattle.drive_nights.specs.Examples.{new_store, none_of_two, third_night, timed, timed_at};
+ghost use Rattle.drive_nights.specs.Examples.{two_groups, until_of};
 ghost use Rattle.drive_nights.specs.Marks.{mark_of};
 ghost use Rattle.drive_nights.specs.Names.{free_name, is_free, is_short, role_name, round_name};
 ghost use Rattle.drive_nights.specs.Nights.{base_of, is_ended, last_night, night_of_store};
@@ -99,10 +101,27 @@ pub fn older_nights_are_ended()
     ensures new { endings_of new_store.state 1 ≡ [] }
 {}
 
+/// If somebody has put a night below the top of another one, that top isn't canceled as long as the
+/// night is the last one.
+pub fn the_last_night_is_left_alone()
+    ensures { endings_of nested 2 ≡ [] }
+{}
+
 /// In a new store the first night is opened, and no step is refused. The names of its scopes have
 /// no number.
 pub fn a_first_night_is_opened()
     ensures steps { opening_of new_store.state 1 two_groups none_of_two
         (until_of 600 (codes "06:00")) ≡ first_night }
     ensures opens { IsOpening new_store 1 two_groups none_of_two (until_of 600 (codes "06:00")) }
+{}
+
+/// The disks end at 400, and all groups together at 600. What comes first is the next moment: a
+/// retry, or the deadline of the disks. Once the clock shows 400, that deadline has come, and the
+/// one of all groups is next. Without any of them there is no next moment.
+pub fn the_next_moment_is_the_least_one()
+    ensures retry { IsNextMoment timed 1 two_groups (Some 300) (Some 300) }
+    ensures disks { IsNextMoment timed 1 two_groups (Some 500) (Some 400) }
+    ensures all { IsNextMoment (timed_at 400) 1 two_groups None (Some 600) }
+    ensures none { IsNextMoment (timed_at 600) 1 two_groups None None }
+    ensures tapes { IsNextMoment timed 1 (codes "tapes" ∷ []) None (Some 600) }
 {}

@@ -7,9 +7,11 @@
 //! and `owners` whether a store can be opened at all. [`are_taken`](replies::are_taken) returns
 //! whether the store took all steps. [`mark_of`](marks::mark_of) returns the step that ends a
 //! night, and [`endings_of`](endings::endings_of) those that end what is left of older nights.
-//! `effects` says what all this does to a night, and `examples` opens some.
+//! [`next_moment`](deadlines::next_moment) returns when a retry or a deadline comes. `effects` says
+//! what all this does to a night, and `examples` opens some.
 #![tactic(auto)]
 
+pub mod deadlines;
 pub mod effects;
 pub mod endings;
 pub mod examples;

@@ -8,10 +8,11 @@ use Rattle.drive_nights.proofs.endings.add_cancel.Goals as goal
 pub returns-in-None : goal.returns-in-None
 returns-in-None g c =
     let p = c.args.state.now in
+    let n = c.args.night in
     let s = c.args.s in
     let items = c.args.steps.now.items in
     let (_, _, _, past, _) = c.in-None.ensures.lookup in
     sym (append-nil items)
-    ∙ ap (λ (row : Option Scope). items ++ option_map_or (cancel_row p s) row [])
+    ∙ ap (λ (row : Option Scope). items ++ option_map_or (cancel_row p n s) row [])
     (sym (slice_get_past c.scopes.result.now s past)
     ∙ ap (λ (rows : List Scope). slice_get rows s) c.scopes.ensures)
