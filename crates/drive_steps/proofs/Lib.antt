@@ -16,6 +16,7 @@ pub mod Cutting
 pub mod Halting
 pub mod Fitting
 pub mod Stopping
+pub mod Unstopped
 pub mod Ceasing
 pub mod Sparing
 pub mod Rounding

@@ -10,4 +10,5 @@ pub mod Stops
 pub mod Fits
 pub mod ManyRounds
 pub mod Deadlines
+pub mod Errors
 pub mod Examples

@@ -14,6 +14,7 @@
 pub mod begins;
 mod called;
 pub mod cancels;
+pub mod errors;
 pub mod examples;
 pub mod fits;
 pub mod heard;

@@ -1,21 +1,30 @@
 //! Which living tries have to stop, and why.
 
 ghost use Rattle.std.specs.List.{list_any};
-ghost use Rattle.std.specs.Prelude.{◌≡◌, ◌<◌, ◌==◌, All, IfOk, codes, length, unwrap_or};
+ghost use Rattle.std.specs.Option.{option_or};
+ghost use Rattle.std.specs.Prelude.{◌≡◌, ◌<◌, ◌==◌, All, IfOk, IfSome, codes, length, unwrap_or};
 ghost use Rattle.run_model.specs.Scopes.{cause_of};
-ghost use Rattle.night_drive.specs.Seen.{AreNames};
-ghost use Rattle.drive_steps.specs.Stops.{AreStops, group_why, marked, own_why};
-ghost use Rattle.drive_steps.specs.Stops.{why_of};
+ghost use Rattle.night_plan.specs.declared.commands.Group.{Group as GroupLine};
+ghost use Rattle.night_plan.specs.Nights.{AreFacts, cancels, night};
+ghost use Rattle.night_drive.specs.Distinct.{AreDistinct};
+ghost use Rattle.night_drive.specs.Seen.{AreNames, is_over};
+ghost use Rattle.drive_steps.specs.Errors.{first_below};
+ghost use Rattle.drive_steps.specs.Starts.{group_of};
+ghost use Rattle.drive_steps.specs.Stops.{AreStops, can_stop, failure_why, group_why, has_cut};
+ghost use Rattle.drive_steps.specs.Stops.{marked, own_why, why_of};
 
-use crate::called::group_of;
+use crate::called::{group_of, last_of};
 use crate::cancels::CommandCancel;
+use crate::errors::error_at;
 use crate::reported::Begun;
 use night_drive::ends::Ends;
+use night_drive::guessed::seen_with;
+use night_drive::guesses::Guesses;
 use night_drive::names::Names;
-use night_drive::nights::last_scope;
-use night_drive::seen::seen;
-use night_plan::commands::Plan;
-use night_plan::facts::Known;
+use night_drive::nights::{is_over, last_scope};
+use night_plan::commands::{Group, Plan};
+use night_plan::facts::{Facts, Known};
+use night_plan::questions::{does_cancel, spent};
 use night_plan::stops::to_stop;
 use row_view::copies::text_copy;
 use run_model::{Name, Text};
@@ -32,19 +41,22 @@ pub struct Stop {
 
 /// Returns which of the living tries have to stop. Those are the tries of commands that were
 /// canceled themselves, those of groups that are done, and those of groups that a failure cancels.
-/// Each has the reason of its command's own cancel; or else why its group is done; or else `a
-/// command failed`. A store doesn't record that a command which runs was canceled, so the caller
-/// has to keep these cancels until its try has ended.
+/// Each has the reason of its command's own cancel; or else why its group is done; or else the
+/// error of the first command of its group that has failed for good. A store doesn't record that a
+/// command which runs was canceled, so the caller has to keep these cancels until its try has
+/// ended.
 pub fn stops<A: Allocator>(
     alloc: Global,
     state: &State<A>,
     ends: &Ends,
     plan: &Plan,
     names: &Names,
+    guesses: &mut Guesses,
     canceled: &[CommandCancel],
     living: &[Begun],
 ) -> Result<Vec<Stop>, AllocError>
     requires named { AreNames plan.now names.now }
+    requires distinct { AreDistinct plan.now names.now }
     requires within { All (λ (cancel : CommandCancel).
         cancel.command < length plan.now.commands.items) canceled.now }
     requires of_plan { All (λ (begun : Begun). begun.command < length plan.now.commands.items)
@@ -52,7 +64,10 @@ pub fn stops<A: Allocator>(
     ensures { IfOk result (λ stops. AreStops state.now ends.now plan.now names.now canceled.now
         living.now stops.items) }
 {
-    let mut facts = seen(alloc, state, ends, plan, names)?;
+    if !can_stop(state, plan, names, canceled) {
+        return Ok(Vec::new(alloc));
+    }
+    let mut facts = seen_with(alloc, state, ends, plan, names, guesses)?;
     mark(&mut facts.known, canceled);
     let commands = to_stop(alloc, plan, &facts)?;
     let mut stops = Vec::new(alloc);
@@ -60,13 +75,43 @@ pub fn stops<A: Allocator>(
         if !is_listed(commands.as_slice(), begun.command) {
             continue;
         }
-        let why = why_of(state, plan, names, canceled, begun.command);
+        let why = why_of(state, plan, names, &facts, canceled, begun.command);
         stops.push(Stop {
             task: begun.task,
             why,
         })?;
     }
     Ok(stops)
+}
+
+/// Returns whether something may have to stop: whether a command was canceled, a group is done, or
+/// a failure cancels a group.
+fn can_stop<A: Allocator>(
+    state: &State<A>,
+    plan: &Plan,
+    names: &Names,
+    canceled: &[CommandCancel],
+) -> bool
+    ensures { result ≡ can_stop state.now plan.now names.now canceled.now }
+{
+    !canceled.is_empty() || is_one_over(state, names) || is_one_canceling(plan.groups.as_slice())
+}
+
+/// Returns whether one of the groups of the plan is done.
+fn is_one_over<A: Allocator>(state: &State<A>, names: &Names) -> bool
+    ensures { result ≡ list_any (is_over state.now names.now.night) names.now.groups.items }
+{
+    names
+        .groups
+        .iter()
+        .any(|group| is_over(state, &names.night, group))
+}
+
+/// Returns whether a failure cancels one of these groups.
+fn is_one_canceling(groups: &[Group]) -> bool
+    ensures { result ≡ list_any (λ (group : GroupLine). cancels group.way) groups.now }
+{
+    groups.iter().any(|group| does_cancel(group.way))
 }
 
 /// Returns whether a command is among these.
@@ -94,16 +139,18 @@ fn why_of<A: Allocator>(
     state: &State<A>,
     plan: &Plan,
     names: &Names,
+    facts: &Facts,
     canceled: &[CommandCancel],
     c: usize,
 ) -> Text
     requires named { AreNames plan.now names.now }
+    requires facts { AreFacts plan.now facts.now }
     requires within { c < length plan.now.commands.items }
-    ensures { result ≡ why_of state.now names.now plan.now.commands.items canceled.now c }
+    ensures { result ≡ why_of state.now names.now (night plan.now facts.now) canceled.now c }
 {
     match own_why(canceled, c) {
         Some(why) => why,
-        None => why_by_group(state, names, group_of(plan, names, c)),
+        None => why_by_group(state, plan, names, facts, c),
     }
 }
 
@@ -118,15 +165,92 @@ pub fn own_why(canceled: &[CommandCancel], c: usize) -> Option<Text>
     }
 }
 
-/// Returns why a group is done, or that a command failed.
-fn why_by_group<A: Allocator>(state: &State<A>, names: &Names, group: &Name) -> Text
-    ensures { result ≡ unwrap_or (group_why state.now names.now.night group.now)
+/// Returns why the group of a command is done, or else with which error a command of it has failed.
+fn why_by_group<A: Allocator>(
+    state: &State<A>,
+    plan: &Plan,
+    names: &Names,
+    facts: &Facts,
+    c: usize,
+) -> Text
+    requires named { AreNames plan.now names.now }
+    requires facts { AreFacts plan.now facts.now }
+    requires within { c < length plan.now.commands.items }
+    ensures { result ≡ unwrap_or (option_or (group_why state.now names.now.night
+        (group_of names.now plan.now.commands.items c))
+        (failure_why state.now names.now (night plan.now facts.now) c))
         (codes "a command failed") }
 {
-    match group_why(state, names, group) {
+    match group_why(state, names, group_of(plan, names, c)) {
+        Some(why) => why,
+        None => why_by_failure(state, plan, names, facts, c),
+    }
+}
+
+/// Returns the error of the first command that has failed for good in the group of a command.
+fn why_by_failure<A: Allocator>(
+    state: &State<A>,
+    plan: &Plan,
+    names: &Names,
+    facts: &Facts,
+    c: usize,
+) -> Text
+    requires named { AreNames plan.now names.now }
+    requires facts { AreFacts plan.now facts.now }
+    requires within { c < length plan.now.commands.items }
+    ensures { result ≡ unwrap_or (failure_why state.now names.now (night plan.now facts.now) c)
+        (codes "a command failed") }
+{
+    match failure_why(state, plan, names, facts, c) {
         Some(why) => why,
         None => text_copy(b"a command failed"),
     }
+}
+
+/// Returns the error of the first command that has failed for good in the group of a command.
+fn failure_why<A: Allocator>(
+    state: &State<A>,
+    plan: &Plan,
+    names: &Names,
+    facts: &Facts,
+    c: usize,
+) -> Option<Text>
+    requires named { AreNames plan.now names.now }
+    requires facts { AreFacts plan.now facts.now }
+    requires within { c < length plan.now.commands.items }
+    ensures { result ≡ failure_why state.now names.now (night plan.now facts.now) c }
+{
+    let d = first_cut(plan, facts, c)?;
+    error_at(state, last_of(state, plan, names, d)?)
+}
+
+/// Returns the first command that has failed for good in the group of a command.
+fn first_cut(plan: &Plan, facts: &Facts, c: usize) -> Option<usize>
+    requires facts { AreFacts plan.now facts.now }
+    requires within { c < length plan.now.commands.items }
+    ensures first { result ≡ first_below (has_cut (night plan.now facts.now) c)
+        (length plan.now.commands.items) }
+    ensures below { IfSome result (λ d. d < length plan.now.commands.items) }
+{
+    let mut first = None;
+    for d in 0..plan.commands.len() {
+        if first.is_none() && has_cut(plan, facts, c, d) {
+            first = Some(d);
+        }
+    }
+    first
+}
+
+/// Returns whether a command is one of the group of another one, and has failed for good.
+fn has_cut(plan: &Plan, facts: &Facts, c: usize, d: usize) -> bool
+    requires facts { AreFacts plan.now facts.now }
+    requires one { c < length plan.now.commands.items }
+    requires other { d < length plan.now.commands.items }
+    ensures { result ≡ has_cut (night plan.now facts.now) c d }
+{
+    let command = &plan.commands[d];
+    let known = facts.known[d];
+    plan.commands[c].group == command.group && spent(facts.done.as_slice(), command, known)
 }
 
 /// Returns why a group is done.
