@@ -32,3 +32,16 @@ appended_try o0 o1 o2 o3 o4 o5 o6 o7 word a b g k n e1 e2 e3 e4 e5 e6 e7 =
     ∙ then o3 (32 ∷ g) o4 (32 ∷ x5) e4 ∙ then o2 (32 ∷ b) o3 (32 ∷ x4) e3
     ∙ then o1 (32 ∷ a) o2 (32 ∷ x3) e2 ∙ then o0 word o1 (32 ∷ x2) e1
     ∙ ap (λ (l : List ℕ). o0 ++ l) (sym inner)
+
+pub appended_text : (o0 o1 o2 o3 o4 word n text : List ℕ) → o1 ≡ o0 ++ word → o2 ≡ o1 ++ 32 ∷ n
+    → o3 ≡ o2 ++ 32 ∷ text → o4 ≡ o3 ++ 10 ∷ []
+    → o4 ≡ o0 ++ (spaced word (spaced n text) ++ 10 ∷ [])
+appended_text o0 o1 o2 o3 o4 word n text e1 e2 e3 e4 =
+    let end : List ℕ = 10 ∷ [] in
+    let x3 = text ++ end in
+    let x2 = spaced n x3 in
+    let inner : spaced word (spaced n text) ++ end ≡ spaced word x2 =
+    last word (spaced n text) ∙ ap (spaced word) (last n text) in
+    e4 ∙ then o2 (32 ∷ text) o3 end e3 ∙ then o1 (32 ∷ n) o2 (32 ∷ x3) e2
+    ∙ then o0 word o1 (32 ∷ x2) e1
+    ∙ ap (λ (l : List ℕ). o0 ++ l) (sym inner)

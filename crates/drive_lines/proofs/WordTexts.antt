@@ -13,7 +13,7 @@ use Rattle.drive_lines.specs.declared.words.LineWord.TheVariants as word
 unfoldable pub words : List LineWord
 words =
     word.Until ∷ word.All ∷ word.Next ∷ word.Lives ∷ word.Ended ∷ word.Gone ∷ word.Cancel
-    ∷ word.Done ∷ word.Hurry ∷ []
+    ∷ word.Done ∷ word.Hurry ∷ word.Ask ∷ word.First ∷ []
 
 -- The first of some words that is spelled so.
 first_spelled : List ℕ → List LineWord → Option LineWord
@@ -43,6 +43,8 @@ plain word.Gone = record { found = refl; no_space = refl; no_name = refl; is_one
 plain word.Cancel = record { found = refl; no_space = refl; no_name = refl; is_one = refl }
 plain word.Done = record { found = refl; no_space = refl; no_name = refl; is_one = refl }
 plain word.Hurry = record { found = refl; no_space = refl; no_name = refl; is_one = refl }
+plain word.Ask = record { found = refl; no_space = refl; no_name = refl; is_one = refl }
+plain word.First = record { found = refl; no_space = refl; no_name = refl; is_one = refl }
 
 pub word_no_space : (w : LineWord) → HasNoSpace (word_text w)
 word_no_space w = (plain w).no_space

@@ -1,4 +1,4 @@
--- Examples: the lines of the session on the page about driven nights.
+-- Examples: the lines of the sessions on the page about driven nights.
 use Rattle.std.specs.Prelude.{◌++◌, ◌∷◌, ℕ, List, [], codes}
 use Rattle.std.specs.List.{flat_map}
 use Rattle.night_plan.specs.declared.commands.Way.TheVariants as way
@@ -68,3 +68,36 @@ gone = report.Gone 1 ∷ report.Plan (line.Now 1042) ∷ []
 abbrev pub begun_again : List Order
 begun_again =
     order.Begin 0 2 (try_of (codes "users") 1) ∷ order.Durable ∷ order.Answer answer.End ∷ []
+
+-- The same failure in a round that asks for errors. Command 1 has none.
+abbrev pub asked : List Report
+asked = failed ++ (report.Ask 0 ∷ report.Ask 1 ∷ report.First 0 ∷ [])
+
+abbrev pub answered : List Order
+answered =
+    order.Begin 1 1 (try_of (codes "orders") 0)
+    ∷ order.Answer (answer.Later 1035)
+    ∷ order.Error 0 (codes "exit 1")
+    ∷ order.First 0 (codes "exit 1")
+    ∷ order.Durable
+    ∷ order.Answer answer.End
+    ∷ []
+
+-- The plan grows by a pool, and by a command that takes all of it.
+abbrev pub grown : List Report
+grown =
+    report.Plan (line.Pool 2)
+    ∷ report.Command
+    (record { group = 0; priority = 0; retries = 0; wait = 0; factor = 1; cap = 0 })
+    (codes "files")
+    ∷ report.Plan (line.Take (record { pool = 1; amount = 2 }))
+    ∷ report.Plan (line.Now 1006)
+    ∷ []
+
+abbrev pub begun_more : List Order
+begun_more =
+    order.Begin 2 2 (try_of (codes "files") 0)
+    ∷ order.Answer (answer.Later 1035)
+    ∷ order.Durable
+    ∷ order.Answer answer.End
+    ∷ []

@@ -49,6 +49,8 @@ FitsOrder (order.Other task) = IsShort task
 FitsOrder (order.Begin c task t) = IsShort c × IsShort task × FitsTry t
 FitsOrder (order.Rebound c task t) = IsShort c × IsShort task × FitsTry t
 FitsOrder (order.Stop task why) = IsShort task × IsText why
+FitsOrder (order.Error c text) = IsShort c × IsText text
+FitsOrder (order.First g text) = IsShort g × IsText text
 FitsOrder _ = Unit {0}
 
 -- ---- how they are read
@@ -78,9 +80,9 @@ abbrev pub of_try : (ℕ → ℕ → TryName → Order) → List ℕ → Option 
 of_try make bytes =
     number_then (λ c. number_then (λ task rest. option_map (make c task) (try_in rest))) bytes
 
--- A task, and why it is stopped.
-abbrev pub of_stop : List ℕ → Option Order
-of_stop bytes = number_then (λ task why. Some (order.Stop task why)) bytes
+-- A number, and a text.
+abbrev pub of_text : (ℕ → List ℕ → Order) → List ℕ → Option Order
+of_text make bytes = number_then (λ n text. Some (make n text)) bytes
 
 -- How a command stands.
 abbrev pub standing_in : List ℕ → Option Standing
@@ -135,7 +137,9 @@ order_by first rest =
     else if bytes_eq first (codes "other") then of_number order.Other rest
     else if bytes_eq first (codes "begin") then option_and_then (of_try order.Begin) rest
     else if bytes_eq first (codes "rebound") then option_and_then (of_try order.Rebound) rest
-    else if bytes_eq first (codes "stop") then option_and_then of_stop rest
+    else if bytes_eq first (codes "stop") then option_and_then (of_text order.Stop) rest
+    else if bytes_eq first (codes "error") then option_and_then (of_text order.Error) rest
+    else if bytes_eq first (codes "first") then option_and_then (of_text order.First) rest
     else if bytes_eq first (codes "durable") then Some order.Durable
     else if bytes_eq first (codes "over") then Some order.Over
     else if bytes_eq first (codes "full") then Some order.Full

@@ -23,6 +23,8 @@ report_phrase (report.Gone task) = phrase.Own word.Gone (fields.Number task)
 report_phrase (report.Cancel c why) = phrase.Own word.Cancel (fields.NumberText c why)
 report_phrase (report.Done g why) = phrase.Own word.Done (fields.NumberText g why)
 report_phrase report.Hurry = phrase.Own word.Hurry fields.Alone
+report_phrase (report.Ask c) = phrase.Own word.Ask (fields.Number c)
+report_phrase (report.First g) = phrase.Own word.First (fields.Number g)
 
 -- A line says this.
 abbrev pub SaysReport : Report → (bytes : List ℕ) → Type 0

@@ -16,6 +16,8 @@ word_text word.Gone = codes "gone"
 word_text word.Cancel = codes "cancel"
 word_text word.Done = codes "done"
 word_text word.Hurry = codes "hurry"
+word_text word.Ask = codes "ask"
+word_text word.First = codes "first"
 
 -- Which fields follow each word.
 abbrev pub shape_of : LineWord → Shape
@@ -28,3 +30,5 @@ shape_of word.Gone = shape.Number
 shape_of word.Cancel = shape.NumberText
 shape_of word.Done = shape.NumberText
 shape_of word.Hurry = shape.Alone
+shape_of word.Ask = shape.Number
+shape_of word.First = shape.Number

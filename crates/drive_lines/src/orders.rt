@@ -42,6 +42,10 @@ pub enum Order {
     Rebound(u64, u16, TryName),
     /// `stop TASK WHY`: the executor stops the try.
     Stop(u16, Text),
+    /// `error COMMAND TEXT`: the last try of the command has ended with this error.
+    Error(u64, Text),
+    /// `first GROUP TEXT`: this is the first error of the group.
+    First(u64, Text),
     /// `durable`: all that was heard is recorded.
     Durable,
     /// `over`: the night has ended.
@@ -71,7 +75,9 @@ impl Order {
             Order::Rebound(command, task, named) => {
                 append_try(out, b"rebound", *command, *task, named)
             }
-            Order::Stop(task, why) => append_stop(out, *task, why),
+            Order::Stop(task, why) => append_text(out, b"stop", u64::from(*task), why),
+            Order::Error(command, text) => append_text(out, b"error", *command, text),
+            Order::First(group, text) => append_text(out, b"first", *group, text),
             Order::Durable => append_word(out, b"durable"),
             Order::Over => append_word(out, b"over"),
             Order::Full => append_word(out, b"full"),
@@ -117,14 +123,15 @@ fn append_number<const N: usize>(out: &mut ArrayVec<u8, N>, word: &[u8], number:
     push(out, b"\n");
 }
 
-/// Appends the line that has a try stopped.
-fn append_stop<const N: usize>(out: &mut ArrayVec<u8, N>, task: u16, why: &Text)
-    requires { array_vec_len out.old + 76 ≤ N }
+/// Appends a word, a number, a text, and the LF.
+fn append_text<const N: usize>(out: &mut ArrayVec<u8, N>, word: &[u8], number: u64, text: &Text)
+    requires { array_vec_len out.old + (length word.now + 87) ≤ N }
     ensures { Appended out.old.items out.new.items
-        (spaced (codes "stop") (spaced (decimal task) why.now) ++ 10 ∷ []) 76 }
+        (spaced word.now (spaced (decimal number) text.now) ++ 10 ∷ []) (length word.now + 87) }
 {
-    push_count(out, b"stop ", task);
-    push_text(out, b" ", why);
+    push(out, word);
+    push_number(out, b" ", number);
+    push_text(out, b" ", text);
     push(out, b"\n");
 }
 

@@ -38,6 +38,10 @@ pub enum Report {
     Done(u64, Text),
     /// `hurry`: no retry waits any longer.
     Hurry,
+    /// `ask COMMAND`: with which error did the last try of the command end?
+    Ask(u64),
+    /// `first GROUP`: what is the first error of the group?
+    First(u64),
 }
 
 /// Reads a line of the executor, and returns `None` if no report is spelled so.
@@ -79,6 +83,8 @@ fn own_report(word: LineWord, fields: Fields) -> Option<Report>
         (LineWord::Cancel, Fields::NumberText(command, why)) => Some(Report::Cancel(command, why)),
         (LineWord::Done, Fields::NumberText(group, why)) => Some(Report::Done(group, why)),
         (LineWord::Hurry, Fields::Alone) => Some(Report::Hurry),
+        (LineWord::Ask, Fields::Number(command)) => Some(Report::Ask(command)),
+        (LineWord::First, Fields::Number(group)) => Some(Report::First(group)),
         _ => None,
     }
 }

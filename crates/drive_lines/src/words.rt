@@ -16,6 +16,8 @@ pub(crate) enum LineWord {
     Cancel,
     Done,
     Hurry,
+    Ask,
+    First,
 }
 
 /// Which fields follow a word.
@@ -48,6 +50,8 @@ pub(crate) fn read_word(bytes: &[u8]) -> Option<LineWord>
         b"cancel" => Some(LineWord::Cancel),
         b"done" => Some(LineWord::Done),
         b"hurry" => Some(LineWord::Hurry),
+        b"ask" => Some(LineWord::Ask),
+        b"first" => Some(LineWord::First),
         _ => None,
     }
 }
@@ -58,7 +62,7 @@ pub(crate) fn shape_of(word: LineWord) -> Shape
 {
     match word {
         LineWord::Next | LineWord::Hurry => Shape::Alone,
-        LineWord::Gone => Shape::Number,
+        LineWord::Gone | LineWord::Ask | LineWord::First => Shape::Number,
         LineWord::Until | LineWord::All | LineWord::Cancel | LineWord::Done => Shape::NumberText,
         LineWord::Ended => Shape::Ended,
         LineWord::Lives => Shape::Lives,

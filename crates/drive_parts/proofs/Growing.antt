@@ -11,8 +11,10 @@ use Rattle.std.proofs.lemmas.Option.{none-some, same_Some, slice_get_within}
 use Rattle.night_plan.specs.declared.commands.Command.{Command}
 use Rattle.night_plan.specs.declared.commands.Group.{Group}
 use Rattle.night_plan.specs.declared.commands.Plan.{Plan}
+use Rattle.night_plan.specs.Plans.{IsSound}
 use Rattle.plan_lines.specs.declared.lines.Outline.{Outline}
 use Rattle.plan_lines.specs.declared.lines.PlanLine.{PlanLine}
+use Rattle.plan_lines.specs.declared.lines.PlanLine.TheVariants as line
 use Rattle.plan_lines.specs.States.{MayGrow}
 use Rattle.drive_lines.specs.declared.reports.Report.{Report}
 use Rattle.drive_lines.specs.declared.reports.Report.TheVariants as report
@@ -21,12 +23,14 @@ use Rattle.drive_parts.specs.declared.growth.Growth.{Growth}
 use Rattle.drive_parts.specs.declared.growth.Pending.{Pending}
 use Rattle.drive_parts.specs.declared.plans.NightPlan.{NightPlan}
 use Rattle.drive_parts.specs.Additions.{Listed, commands_in, group_of, groups_in, is_detail}
-use Rattle.drive_parts.specs.Additions.{is_open, key_of, listed, name_of, untils_in, with_detail}
+use Rattle.drive_parts.specs.Additions.{is_open, key_of, listed, name_of, pool_of, untils_in}
+use Rattle.drive_parts.specs.Additions.{with_detail}
 use Rattle.drive_parts.specs.Groups.{LacksUntil}
 use Rattle.drive_parts.specs.Growth.{CanAdd, CanGrowBy, Closes, GrowsByCommand, GrowsByDetail}
-use Rattle.drive_parts.specs.Growth.{GrowsByGroup, GrowsByUntil, HasNewDetail}
+use Rattle.drive_parts.specs.Growth.{GrowsByGroup, GrowsByPool, GrowsByUntil, HasNewDetail}
 use Rattle.drive_parts.specs.Growth.{IsGrowing, IsWhole, MayAddCommand, MayAddDetail}
 use Rattle.drive_parts.specs.Growth.{MayAddGroup, StaysOf, all_commands, all_keys, groups_after}
+use Rattle.drive_parts.specs.Growth.{pools_after}
 use Rattle.drive_parts.specs.Names.{AreGroupNames, AreKeys, HasKey, IsGroupName, groups_of}
 use Rattle.drive_parts.proofs.Adding.{Extended, IsNoCommand, IsNoGroup, adds, closes}
 use Rattle.drive_parts.proofs.Adding.{commands_extended, commands_keep, commands_push, keeps, opens}
@@ -161,7 +165,6 @@ module _ {A : Type 0} (old : List A) (f : List Report → List A) where
 
 pub stays : (n m o : NightPlan) → StaysOf n m → StaysOf m o → StaysOf n o
 stays n m o one other = record {
-  pools = other.pools ∙ one.pools;
   first = other.first ∙ one.first;
   all = other.all ∙ one.all;
   next = other.next ∙ one.next;
@@ -191,6 +194,7 @@ module _ (old : NightPlan) (xs : List Report) (g : Growth) where
       untils = ap (λ (v : Vec (Option Until)). v.items) to.groups.untils ∙ is.untils;
       commands = ap (map listed) to.commands ∙ is.commands;
       keys = to.keys ∙ is.keys;
+      pools = to.pools ∙ is.pools;
       rest = stays old g.plan h.plan is.rest to.rest;
     };
     pending = to.pending;
@@ -207,15 +211,16 @@ module _ (old : NightPlan) (xs : List Report) (g : Growth) where
         ∙ append-nil g.plan.plan.commands.items)
         ∙ is.plan.commands;
     keys = keys_with g None is.pending ∙ append-nil g.plan.keys.items ∙ is.plan.keys;
+    pools = is.plan.pools;
     pending = ap is_some is.pending ∙ sym closed;
     first = is.first;
     rest = is.plan.rest;
   }
 
   -- A line by which no plan grows.
-  pub whole_same : (r : Report) → IsNoGroup r → IsNoCommand r → IsWhole old xs g
-      → IsGrowing old (xs ++ r ∷ []) g
-  whole_same r group command is = record {
+  pub whole_same : (r : Report) → IsNoGroup r → IsNoCommand r → pool_of r ≡ None
+      → IsWhole old xs g → IsGrowing old (xs ++ r ∷ []) g
+  whole_same r group command pool is = record {
     groups =
         same old.plan.groups.items (filter_map group_of) xs r g.plan.plan.groups.items
         g.plan.plan.groups.items is.plan.groups refl (keeps group_of xs r group.group);
@@ -235,6 +240,9 @@ module _ (old : NightPlan) (xs : List Report) (g : Growth) where
         same old.keys.items (filter_map key_of) xs r g.plan.keys.items (all_keys g) is.plan.keys
         (keys_with g None is.pending ∙ append-nil g.plan.keys.items)
         (keeps key_of xs r command.key);
+    pools =
+        same old.plan.pools.items (filter_map pool_of) xs r g.plan.plan.pools.items
+        g.plan.plan.pools.items is.plan.pools refl (keeps pool_of xs r pool);
     pending = ap is_some is.pending ∙ sym (closes xs r command.outline command.detail);
     first = is.first;
     rest = is.plan.rest;
@@ -261,6 +269,66 @@ abbrev pub Grew :
     (old : NightPlan) → List Report → (may : Type 0) → Report → Option Growth → Type 0
 Grew old xs may r None = may → ⊥
 Grew old xs may r (Some h) = may × IsGrowing old (xs ++ r ∷ []) h
+
+-- ---- a new pool
+
+-- A sound plan is sound with one more pool.
+pub sound_pooled : (first : ℕ) (groups : List Group) (pools more : List ℕ)
+    (commands : List Command) (order places : List ℕ) (size : ℕ) → more ≡ pools ++ size ∷ []
+    → IsSound first groups (length pools) commands order places
+    → IsSound first groups (length more) commands order places
+sound_pooled first groups pools more commands order places size is sound = record {
+  bounded = sound.bounded;
+  own = sound.own;
+  takes = λ c command take at has.
+      let less = sound.takes c command take at has in
+      let longer : length more ≡ length pools + 1 = ap length is ∙ length_push pools size in
+      omega (arith, less, longer);
+  within = sound.within;
+  sized = sound.sized;
+  placed = sound.placed;
+  inside = sound.inside;
+  at = sound.at;
+  after = sound.after;
+  before = sound.before;
+}
+
+pub grows_pool : (old : NightPlan) (xs : List Report) (g h : Growth) (size : ℕ)
+    → IsWhole old xs g → GrowsByPool size g h
+    → IsGrowing old (xs ++ report.Plan (line.Pool size) ∷ []) h
+grows_pool old xs g h size is has =
+    let r = report.Plan (line.Pool size) in
+    let new = has.plan in
+    growing_of old (xs ++ r ∷ []) h (record {
+      plan = record {
+        groups =
+            same old.plan.groups.items (filter_map group_of) xs r g.plan.plan.groups.items
+            h.plan.plan.groups.items is.plan.groups new.groups.groups (keeps group_of xs r refl);
+        names =
+            same old.groups.items (filter_map name_of) xs r g.plan.groups.items
+            h.plan.groups.items is.plan.names
+            (ap (λ (v : Vec (List ℕ)). v.items) new.groups.names) (keeps name_of xs r refl);
+        untils =
+            same old.untils.items untils_in xs r g.plan.untils.items h.plan.untils.items
+            is.plan.untils (ap (λ (v : Vec (Option Until)). v.items) new.groups.untils)
+            (untils_keep xs r (record { group = refl; name = refl; after = refl; untils = refl }));
+        commands =
+            same (map listed old.plan.commands.items) commands_in xs r
+            (map listed g.plan.plan.commands.items) (map listed h.plan.plan.commands.items)
+            is.plan.commands (ap (map listed) new.commands.commands)
+            (commands_keep xs r (record { outline = refl; key = refl; detail = refl }));
+        keys =
+            same old.keys.items (filter_map key_of) xs r g.plan.keys.items h.plan.keys.items
+            is.plan.keys (ap (λ (v : Vec (List ℕ)). v.items) new.commands.keys)
+            (keeps key_of xs r refl);
+        pools =
+            more old.plan.pools.items (filter_map pool_of) xs r g.plan.plan.pools.items
+            h.plan.plan.pools.items size is.plan.pools new.pools (adds pool_of xs r size refl);
+        rest = stays old g.plan h.plan is.plan.rest new.rest;
+      };
+      pending = has.pending;
+      first = has.first ∙ is.first;
+    }) (closes xs r refl refl)
 
 -- ---- a new group
 
@@ -300,6 +368,9 @@ grows_group old xs g group name (Some h) is has =
               same old.keys.items (filter_map key_of) xs r g.plan.keys.items h.plan.keys.items
               is.plan.keys (ap (λ (v : Vec (List ℕ)). v.items) new.commands.keys)
               (keeps key_of xs r refl);
+          pools =
+              same old.plan.pools.items (filter_map pool_of) xs r g.plan.plan.pools.items
+              h.plan.plan.pools.items is.plan.pools new.pools (keeps pool_of xs r refl);
           rest = stays old g.plan h.plan is.plan.rest new.rest;
         };
         pending = has.3;
@@ -392,8 +463,11 @@ grows_until old xs g moment words (Some h) is has =
               same old.keys.items (filter_map key_of) xs r g.plan.keys.items h.plan.keys.items
               is.plan.keys (ap (λ (v : Vec (List ℕ)). v.items) new.keys)
               (keeps key_of xs r refl);
+          pools =
+              same old.plan.pools.items (filter_map pool_of) xs r g.plan.plan.pools.items
+              h.plan.plan.pools.items is.plan.pools (ap (λ (p : Plan). p.pools.items) new.plan)
+              (keeps pool_of xs r refl);
           rest = stays old g.plan h.plan is.plan.rest (record {
-            pools = ap (λ (p : Plan). p.pools.items) new.plan;
             first = ap (λ (p : Plan). p.first) new.plan;
             all = new.all;
             next = new.next;
@@ -485,6 +559,10 @@ grows_command old xs g outline key (Some h) is has =
             ∙ ap (λ (n : NightPlan). n.keys.items ++ has.new.key ∷ []) has.plan
             ∙ ap (λ (k : List ℕ). g.plan.keys.items ++ k ∷ []) has.called)
             (adds key_of xs r key refl);
+        pools =
+            same old.plan.pools.items (filter_map pool_of) xs r g.plan.plan.pools.items
+            h.plan.plan.pools.items is.plan.pools
+            (ap (λ (n : NightPlan). n.plan.pools.items) has.plan) (keeps pool_of xs r refl);
         pending = ap is_some has.is ∙ sym (opens xs r outline refl);
         first = has.first ∙ is.first;
         rest = subst (StaysOf old) (sym has.plan) is.plan.rest;
@@ -492,6 +570,11 @@ grows_command old xs g outline key (Some h) is has =
     )
 
 -- ---- one more need or take
+
+no_pool : (given : PlanLine) → is_detail (report.Plan given) ≡ true
+    → pool_of (report.Plan given) ≡ None
+no_pool (line.Pool size) is = absurd (let no : false ≡ true = is in cc)
+no_pool _ is = refl
 
 pending_there : (o : Option Pending) → is_some o ≡ true → (p : Pending) × (o ≡ Some p)
 pending_there None is = absurd (let no : false ≡ true = is in cc)
@@ -525,10 +608,10 @@ module _ (old : NightPlan) (xs : List Report) (g : Growth) (given : PlanLine)
       has there.0 there.1
       (can_same (groups_after old xs) (length g.plan.plan.groups.items)
       (length old.plan.commands.items + length may.before)
-      (length g.plan.plan.commands.items) old.plan.pools.items g.plan.plan.pools.items may.last
+      (length g.plan.plan.commands.items) (pools_after old xs) g.plan.plan.pools.items may.last
       (with_detail (listed there.0.command) r) (sym (groups_count old xs g is.groups))
       (ap (λ (l : List Listed). length old.plan.commands.items + length l) parts.0
-      ∙ sym (commands_count old g e.before last.0)) (sym is.rest.pools)
+      ∙ sym (commands_count old g e.before last.0)) (sym is.pools)
       (parts.1 ∙ ap (λ (l : Listed). with_detail l r) (sym last.1)) may.can)
 
   detail_some : (h : Growth) → HasNewDetail given g h
@@ -552,9 +635,9 @@ module _ (old : NightPlan) (xs : List Report) (g : Growth) (given : PlanLine)
               can_same (length g.plan.plan.groups.items) (groups_after old xs)
               (length g.plan.plan.commands.items)
               (length old.plan.commands.items + length e.before) g.plan.plan.pools.items
-              old.plan.pools.items (listed has.new.command) (with_detail e.last r)
+              (pools_after old xs) (listed has.new.command) (with_detail e.last r)
               (groups_count old xs g is.groups) (commands_count old g e.before last.0)
-              is.rest.pools new has.can;
+              is.pools new has.can;
         },
         record {
           groups =
@@ -590,6 +673,11 @@ module _ (old : NightPlan) (xs : List Report) (g : Growth) (given : PlanLine)
               ∙ ap (λ (n : NightPlan). n.keys.items ++ has.new.key ∷ []) has.plan
               ∙ ap (λ (k : List ℕ). g.plan.keys.items ++ k ∷ []) has.key
               ∙ sym (keys_with g (Some has.old) has.was)) (keeps key_of xs r refl);
+          pools =
+              same old.plan.pools.items (filter_map pool_of) xs r g.plan.plan.pools.items
+              h.plan.plan.pools.items is.pools
+              (ap (λ (n : NightPlan). n.plan.pools.items) has.plan)
+              (keeps pool_of xs r (no_pool given detail));
           pending = ap is_some has.is ∙ sym (stays_open r detail xs opened);
           first = has.first ∙ is.first;
           rest = subst (StaysOf old) (sym has.plan) is.rest;

@@ -13,9 +13,10 @@ use Rattle.drive_steps.specs.Heard.{has_ended}
 use Rattle.drive_parts.specs.declared.heard.Fact.{Fact}
 use Rattle.drive_parts.specs.declared.heard.Fact.TheVariants as fact
 use Rattle.drive_parts.specs.declared.heard.Heard.{Heard}
-use Rattle.drive_parts.specs.Heard.{AreHeard, HearsLine, cancel_of, done_of, end_of, gone_of}
-use Rattle.drive_parts.specs.Heard.{is_hurry, is_over, is_question, last_of, line_of, names_task}
-use Rattle.drive_parts.specs.Heard.{size_of, time_of}
+use Rattle.drive_parts.specs.Additions.{pool_of}
+use Rattle.drive_parts.specs.Heard.{AreHeard, HearsLine, ask_of, cancel_of, done_of, end_of}
+use Rattle.drive_parts.specs.Heard.{gone_of, group_ask_of, is_hurry, is_over, is_question, last_of}
+use Rattle.drive_parts.specs.Heard.{line_of, names_task, size_of, time_of}
 use Rattle.drive_parts.proofs.Adding.{IsNoCommand, IsNoGroup, any_push, or_assoc, or_false, or_none}
 use Rattle.drive_parts.proofs.Adding.{or_or}
 
@@ -50,6 +51,8 @@ heard_push xs r h m line are = record {
   asked =
       line.asked ∙ ap (λ (b : Bool). b || is_question r) are.asked
       ∙ sym (any_push is_question xs r);
+  asks = row_push ask_of xs r h.asks.items m.asks.items line.asks are.asks;
+  firsts = row_push group_ask_of xs r h.firsts.items m.firsts.items line.firsts are.firsts;
 }
 
 -- ---- lines that report nothing
@@ -64,11 +67,13 @@ pub record IsNoFact (r : Report) : Type 0 where
   pub size : size_of r ≡ None
   pub hurry : is_hurry r ≡ false
   pub question : is_question r ≡ false
+  pub ask : ask_of r ≡ None
+  pub first : group_ask_of r ≡ None
 
 pub quiet : (r : Report) → end_of r ≡ None → gone_of r ≡ None → cancel_of r ≡ None
     → done_of r ≡ None → time_of r ≡ None → size_of r ≡ None → is_hurry r ≡ false
-    → is_question r ≡ false → IsNoFact r
-quiet r end gone cancel done time size hurry question = record {
+    → is_question r ≡ false → ask_of r ≡ None → group_ask_of r ≡ None → IsNoFact r
+quiet r end gone cancel done time size hurry question ask first = record {
   end = end;
   gone = gone;
   cancel = cancel;
@@ -77,6 +82,8 @@ quiet r end gone cancel done time size hurry question = record {
   size = size;
   hurry = hurry;
   question = question;
+  ask = ask;
+  first = first;
 }
 
 no_more : {A : Type 0} (f : Report → Option A) (r : Report) (old : List A) → f r ≡ None
@@ -96,6 +103,8 @@ heard_same xs r h none are =
       sizes = no_more size_of r h.sizes.items none.size;
       hurry = sym (ap (λ (b : Bool). h.hurry || b) none.hurry ∙ or_false h.hurry);
       asked = sym (ap (λ (b : Bool). h.asked || b) none.question ∙ or_false h.asked);
+      asks = no_more ask_of r h.asks.items none.ask;
+      firsts = no_more group_ask_of r h.firsts.items none.first;
     }) are
 
 -- ---- lines by which no plan grows
@@ -107,6 +116,10 @@ fact_no_group _ = record { group = refl; name = refl; after = refl; untils = ref
 pub fact_no_command : (f : Fact) → IsNoCommand (line_of f)
 fact_no_command (fact.End end) = record { outline = refl; key = refl; detail = refl }
 fact_no_command _ = record { outline = refl; key = refl; detail = refl }
+
+pub fact_no_pool : (f : Fact) → pool_of (line_of f) ≡ None
+fact_no_pool (fact.End end) = refl
+fact_no_pool _ = refl
 
 -- ---- tries that are over
 

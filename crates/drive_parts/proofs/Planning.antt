@@ -23,13 +23,13 @@ use Rattle.drive_parts.specs.declared.groups.GroupList.{GroupList}
 use Rattle.drive_parts.specs.declared.plans.PlanDraft.{PlanDraft}
 use Rattle.drive_parts.specs.Additions.{Listed, commands_in, first_of, group_of, is_detail, is_open}
 use Rattle.drive_parts.specs.Additions.{key_of, listed, name_of, need_of, outline_of, take_of}
-use Rattle.drive_parts.specs.Additions.{until_after, untils_in, with_detail}
+use Rattle.drive_parts.specs.Additions.{pool_of, until_after, untils_in, with_detail}
 use Rattle.drive_parts.specs.Commands.{AreCommands, HasCommand, HasDetail as HasOne}
 use Rattle.drive_parts.specs.Groups.{AreGroups, HasUntil, LacksUntil}
 use Rattle.drive_parts.specs.Lives.{MayLive, same_try, try_of}
 use Rattle.drive_lines.specs.declared.fields.TryName.{TryName}
 use Rattle.drive_parts.specs.Plans.{Adds, HasAll, HasDetail, HasGroup, HasLastUntil, IsClosed}
-use Rattle.drive_parts.specs.Plans.{IsPlanned, all_of, is_next, pool_of}
+use Rattle.drive_parts.specs.Plans.{IsPlanned, all_of, is_next}
 use Rattle.drive_parts.proofs.Adding.{IsNoCommand, IsNoGroup, adds, any_push, or_false, or_none}
 use Rattle.drive_parts.proofs.Adding.{closes, commands_extended, commands_keep, commands_push}
 use Rattle.drive_parts.proofs.Adding.{or_true, untils_keep}

@@ -22,14 +22,16 @@ use Rattle.drive_parts.specs.declared.rounds.HeardDraft.{HeardDraft}
 use Rattle.drive_parts.specs.Additions.{commands_in, untils_in}
 use Rattle.drive_parts.specs.Groups.{LacksUntil}
 use Rattle.drive_parts.specs.Growth.{Closes, GrowsByCommand, GrowsByDetail, GrowsByGroup}
-use Rattle.drive_parts.specs.Growth.{GrowsByUntil, IsWhole, commands_after, groups_after}
+use Rattle.drive_parts.specs.Growth.{GrowsByPool, GrowsByUntil, IsWhole, commands_after}
+use Rattle.drive_parts.specs.Growth.{groups_after}
 use Rattle.drive_parts.specs.Heard.{HearsLine, MayReport, line_of}
 use Rattle.drive_parts.specs.Rounds.{ArePartsOf, Hears, HearsFact, IsHeard, MayHear}
 use Rattle.drive_parts.specs.Rounds.{counts_after, draft_of}
 use Rattle.drive_parts.proofs.Growing.{Grew, commands_count, grows_command, grows_detail}
-use Rattle.drive_parts.proofs.Growing.{groups_count, grows_group, grows_until, whole_of, whole_same}
-use Rattle.drive_parts.proofs.Hearing.{IsNoFact, fact_no_command, fact_no_group, heard_push}
-use Rattle.drive_parts.proofs.Hearing.{heard_same, quiet}
+use Rattle.drive_parts.proofs.Growing.{groups_count, grows_group, grows_pool, grows_until}
+use Rattle.drive_parts.proofs.Growing.{whole_of, whole_same}
+use Rattle.drive_parts.proofs.Hearing.{IsNoFact, fact_no_command, fact_no_group, fact_no_pool}
+use Rattle.drive_parts.proofs.Hearing.{heard_push, heard_same, quiet}
 
 -- ---- lines by which the plan grows
 
@@ -38,21 +40,24 @@ abbrev pub is_growth : Report → Bool
 is_growth (report.Group group name) = true
 is_growth (report.Command outline key) = true
 is_growth (report.Until moment words) = true
+is_growth (report.Plan (line.Pool size)) = true
 is_growth (report.Plan (line.Need need)) = true
 is_growth (report.Plan (line.Take take)) = true
 is_growth _ = false
 
 no_fact : (r : Report) → is_growth r ≡ true → IsNoFact r
 no_fact (report.Group group name) is =
-    quiet (report.Group group name) refl refl refl refl refl refl refl refl
+    quiet (report.Group group name) refl refl refl refl refl refl refl refl refl refl
 no_fact (report.Command outline key) is =
-    quiet (report.Command outline key) refl refl refl refl refl refl refl refl
+    quiet (report.Command outline key) refl refl refl refl refl refl refl refl refl refl
 no_fact (report.Until moment words) is =
-    quiet (report.Until moment words) refl refl refl refl refl refl refl refl
+    quiet (report.Until moment words) refl refl refl refl refl refl refl refl refl refl
+no_fact (report.Plan (line.Pool size)) is =
+    quiet (report.Plan (line.Pool size)) refl refl refl refl refl refl refl refl refl refl
 no_fact (report.Plan (line.Need need)) is =
-    quiet (report.Plan (line.Need need)) refl refl refl refl refl refl refl refl
+    quiet (report.Plan (line.Need need)) refl refl refl refl refl refl refl refl refl refl
 no_fact (report.Plan (line.Take take)) is =
-    quiet (report.Plan (line.Take take)) refl refl refl refl refl refl refl refl
+    quiet (report.Plan (line.Take take)) refl refl refl refl refl refl refl refl refl refl
 no_fact _ is = absurd (let no : false ≡ true = is in cc)
 
 module _ (old : NightPlan) (living : List ℕ) (xs : List Report) (d : HeardDraft)
@@ -70,6 +75,13 @@ module _ (old : NightPlan) (living : List ℕ) (xs : List Report) (d : HeardDraf
       living = is.living;
     },
   )
+
+  pub hears_pool : (g h : Growth) (size : ℕ) → Closes d.growth g → GrowsByPool size g h
+      → Hears old living xs (report.Plan (line.Pool size)) (draft_of (Some h) d.heard d.living)
+  hears_pool g h size closes has =
+      hears_growth (report.Plan (line.Pool size)) (Some h)
+      (no_fact (report.Plan (line.Pool size)) refl)
+      (tt, grows_pool old xs g h size (whole_of old xs d.growth g is.growth closes) has)
 
   pub hears_group : (g : Growth) (group : Group) (name : List ℕ) (o : Option Growth)
       → Closes d.growth g → GrowsByGroup group name g o
@@ -145,6 +157,8 @@ may_report old living xs (report.Command outline key) other may =
     absurd (let is : true ≡ false = other in cc)
 may_report old living xs (report.Until moment words) other may =
     absurd (let is : true ≡ false = other in cc)
+may_report old living xs (report.Plan (line.Pool size)) other may =
+    absurd (let is : true ≡ false = other in cc)
 may_report old living xs (report.Plan (line.Need need)) other may =
     absurd (let is : true ≡ false = other in cc)
 may_report old living xs (report.Plan (line.Take take)) other may =
@@ -164,11 +178,13 @@ no_growth (report.Command o key) plan group command until = absurd (command o ke
 no_growth (report.Until moment words) plan group command until = absurd (until moment words refl)
 no_growth _ plan group command until = refl
 
-pub no_detail : (l : PlanLine) → ((need : Need) → l ≡ line.Need need → ⊥)
+pub no_detail : (l : PlanLine) → ((size : ℕ) → l ≡ line.Pool size → ⊥)
+    → ((need : Need) → l ≡ line.Need need → ⊥)
     → ((take : Take) → l ≡ line.Take take → ⊥) → is_growth (report.Plan l) ≡ false
-no_detail (line.Need need) needs takes = absurd (needs need refl)
-no_detail (line.Take take) needs takes = absurd (takes take refl)
-no_detail _ needs takes = refl
+no_detail (line.Pool size) pools needs takes = absurd (pools size refl)
+no_detail (line.Need need) pools needs takes = absurd (needs need refl)
+no_detail (line.Take take) pools needs takes = absurd (takes take refl)
+no_detail _ pools needs takes = refl
 
 pub hears_of : (old : NightPlan) (living : List ℕ) (xs : List Report) (r : Report)
     (o : Option HeardDraft) → is_growth r ≡ false → HearsFact old living xs r o
@@ -195,7 +211,7 @@ counted old xs g is =
     ∙ ap (λ (n : ℕ). counts (groups_after old xs) n (length g.plan.plan.pools.items))
     (commands_count old g (commands_in xs) is.plan.commands)
     ∙ ap (λ (n : List ℕ). counts (groups_after old xs) (commands_after old xs) (length n))
-    is.plan.rest.pools
+    is.plan.pools
 
 module _ (old : NightPlan) (living : List ℕ) (xs : List Report) (g : Growth) (h : Heard)
     (tasks : Vec ℕ) (are : ArePartsOf old living xs g h tasks.items)
@@ -234,7 +250,8 @@ module _ (old : NightPlan) (living : List ℕ) (xs : List Report) (g : Growth) (
             (subst (λ (c : Counts). MayReport c lived xs r) counts_same may))),
         record {
           growth =
-              whole_same old xs g (line_of f) (fact_no_group f) (fact_no_command f) are.growth;
+              whole_same old xs g (line_of f) (fact_no_group f) (fact_no_command f)
+              (fact_no_pool f) are.growth;
           heard = heard_push xs (line_of f) h m line are.heard;
           living = are.living;
         },

@@ -24,6 +24,11 @@ abbrev pub name_of : Report → Option (List ℕ)
 name_of (report.Group group name) = Some name
 name_of _ = None
 
+-- The size of a line's pool.
+abbrev pub pool_of : Report → Option ℕ
+pool_of (report.Plan (line.Pool size)) = Some size
+pool_of _ = None
+
 -- The command of a line, and its key.
 abbrev pub outline_of : Report → Option Outline
 outline_of (report.Command outline key) = Some outline

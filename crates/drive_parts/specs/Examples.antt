@@ -35,6 +35,11 @@ users = record {
 abbrev pub orders : Listed
 orders = record { outline = once 0; needs = []; takes = whole_pool ∷ [] }
 
+-- The command `files`, which takes all of a new pool.
+abbrev pub files : Listed
+files =
+    record { outline = once 0; needs = []; takes = record { pool = 1; amount = 2 } ∷ [] }
+
 -- Two groups. The second one has a deadline, which comes after its command.
 abbrev pub dated : List Report
 dated =

@@ -17,19 +17,22 @@ use Rattle.drive_parts.specs.declared.growth.Growth.{Growth}
 use Rattle.drive_parts.specs.declared.growth.Pending.{Pending}
 use Rattle.drive_parts.specs.declared.plans.NightPlan.{NightPlan}
 use Rattle.drive_parts.specs.Additions.{Listed, commands_in, group_of, groups_in, is_open, key_of}
-use Rattle.drive_parts.specs.Additions.{listed, name_of, untils_in, with_detail}
+use Rattle.drive_parts.specs.Additions.{listed, name_of, pool_of, untils_in, with_detail}
 use Rattle.drive_parts.specs.Groups.{LacksUntil}
 use Rattle.drive_parts.specs.Names.{HasKey, IsGroupName, groups_of}
 
 -- ---- which lines a plan can grow by
 
--- How many groups a plan has after some lines, and how many commands.
+-- How many groups a plan has after some lines, how many commands, and its pools.
 abbrev pub groups_after : NightPlan → List Report → ℕ
 groups_after old reports =
     length old.plan.groups.items + length (filter_map group_of reports)
 
 abbrev pub commands_after : NightPlan → List Report → ℕ
 commands_after old reports = length old.plan.commands.items + length (commands_in reports)
+
+abbrev pub pools_after : NightPlan → List Report → List ℕ
+pools_after old reports = old.plan.pools.items ++ filter_map pool_of reports
 
 -- A plan with this many groups and commands, and with pools of these sizes, can grow by a command:
 -- the command names only what exists, and takes no more of a pool than its size.
@@ -63,13 +66,12 @@ pub record MayAddDetail (old : NightPlan) (reports : List Report) (r : Report) :
   pub last : Listed
   pub is : commands_in (reports ++ r ∷ []) ≡ before ++ last ∷ []
   pub can : CanGrowBy (groups_after old reports) (length old.plan.commands.items + length before)
-      old.plan.pools.items last
+      (pools_after old reports) last
 
 -- ---- the plan as it has grown
 
--- The pools of a plan, its deadlines of all groups together and the like are the same.
+-- The deadline of all groups together and the like are the same.
 pub record StaysOf (n m : NightPlan) : Type 0 where
-  pub pools : m.plan.pools.items ≡ n.plan.pools.items
   pub first : m.plan.first ≡ n.plan.first
   pub all : m.all ≡ n.all
   pub next : m.next ≡ n.next
@@ -82,6 +84,7 @@ pub record HasGrown (old : NightPlan) (reports : List Report) (n : NightPlan) : 
   pub commands : map listed n.plan.commands.items
       ≡ map listed old.plan.commands.items ++ commands_in reports
   pub keys : n.keys.items ≡ old.keys.items ++ filter_map key_of reports
+  pub pools : n.plan.pools.items ≡ pools_after old reports
   pub rest : StaysOf old n
 
 -- All commands, and all keys, with the pending one.
@@ -100,6 +103,7 @@ pub record IsGrowing (old : NightPlan) (reports : List Report) (g : Growth) : Ty
   pub commands : map listed (all_commands g)
       ≡ map listed old.plan.commands.items ++ commands_in reports
   pub keys : all_keys g ≡ old.keys.items ++ filter_map key_of reports
+  pub pools : g.plan.plan.pools.items ≡ pools_after old reports
   pub pending : is_some g.pending ≡ is_open reports
   pub first : g.first ≡ length old.groups.items
   pub rest : StaysOf old g.plan
@@ -136,6 +140,7 @@ pub record Closes (g h : Growth) : Type 0 where
   pub pending : h.pending ≡ None
   pub first : h.first ≡ g.first
   pub groups : GroupsStay g.plan h.plan
+  pub pools : h.plan.plan.pools.items ≡ g.plan.plan.pools.items
   pub rest : StaysOf g.plan h.plan
 
 -- It is, for a plan and a command.
@@ -143,6 +148,7 @@ pub record HasPending (n : NightPlan) (p : Pending) (m : NightPlan) : Type 0 whe
   pub commands : m.plan.commands.items ≡ n.plan.commands.items ++ p.command ∷ []
   pub keys : m.keys.items ≡ n.keys.items ++ p.key ∷ []
   pub groups : GroupsStay n m
+  pub pools : m.plan.pools.items ≡ n.plan.pools.items
   pub rest : StaysOf n m
 
 -- A plan has one more group, which has no deadline yet.
@@ -150,6 +156,14 @@ pub record HasNewGroup (group : Group) (name : List ℕ) (n m : NightPlan) : Typ
   pub groups : m.plan.groups.items ≡ n.plan.groups.items ++ group ∷ []
   pub names : m.groups.items ≡ n.groups.items ++ name ∷ []
   pub untils : m.untils.items ≡ n.untils.items ++ None ∷ []
+  pub commands : CommandsStay n m
+  pub pools : m.plan.pools.items ≡ n.plan.pools.items
+  pub rest : StaysOf n m
+
+-- A plan has one more pool.
+pub record HasNewPool (size : ℕ) (n m : NightPlan) : Type 0 where
+  pub pools : m.plan.pools.items ≡ n.plan.pools.items ++ size ∷ []
+  pub groups : GroupsStay n m
   pub commands : CommandsStay n m
   pub rest : StaysOf n m
 
@@ -175,6 +189,12 @@ GrowsByGroup group name g None =
 GrowsByGroup group name g (Some h) =
     IsGroupName name × ((k : ℕ) → slice_get g.plan.groups.items k ≡ Some name → ⊥)
     × HasNewGroup group name g.plan h.plan × (h.pending ≡ None) × (h.first ≡ g.first)
+
+-- A pool was added.
+pub record GrowsByPool (size : ℕ) (g h : Growth) : Type 0 where
+  pub plan : HasNewPool size g.plan h.plan
+  pub pending : h.pending ≡ None
+  pub first : h.first ≡ g.first
 
 -- The last new group got a deadline, unless it had one or there is none.
 abbrev pub GrowsByUntil : Until → Growth → Option Growth → Type 0

@@ -58,6 +58,16 @@ abbrev pub is_question : Report → Bool
 is_question (report.Plan line.Standings) = true
 is_question _ = false
 
+-- The command of which the executor asks for the last error, and the group of which it asks for the
+-- first one.
+abbrev pub ask_of : Report → Option ℕ
+ask_of (report.Ask command) = Some command
+ask_of _ = None
+
+abbrev pub group_ask_of : Report → Option ℕ
+group_ask_of (report.First group) = Some group
+group_ask_of _ = None
+
 -- The line says that the try of this task is over.
 abbrev pub is_over : (task : ℕ) → Report → Bool
 is_over task (report.Ended other outcome) = other == task
@@ -82,6 +92,8 @@ pub record AreHeard (reports : List Report) (h : Heard) : Type 0 where
   pub sizes : h.sizes.items ≡ filter_map size_of reports
   pub hurry : h.hurry ≡ list_any is_hurry reports
   pub asked : h.asked ≡ list_any is_question reports
+  pub asks : h.asks.items ≡ filter_map ask_of reports
+  pub firsts : h.firsts.items ≡ filter_map group_ask_of reports
 
 -- The end of a try can be reported, if the try lives, and if no line before has reported it.
 pub record MayEnd (living : List ℕ) (reports : List Report) (task : ℕ) : Type 0 where
@@ -99,6 +111,8 @@ MayReport counts living reports (report.Gone task) = MayEnd living reports task
 MayReport counts living reports (report.Cancel command why) = command < counts.commands
 MayReport counts living reports (report.Done group why) = group < counts.groups
 MayReport counts living reports report.Hurry = Unit {0}
+MayReport counts living reports (report.Ask command) = command < counts.commands
+MayReport counts living reports (report.First group) = group < counts.groups
 MayReport counts living reports _ = ⊥
 
 -- ---- for private functions: no public contract cites what follows
@@ -113,6 +127,8 @@ line_of (fact.Now moment) = report.Plan (line.Now moment)
 line_of (fact.Size size) = report.Plan (line.Size size.pool size.size)
 line_of fact.Question = report.Plan line.Standings
 line_of fact.Hurry = report.Hurry
+line_of (fact.Ask command) = report.Ask command
+line_of (fact.First group) = report.First group
 
 -- What was heard names the task of a try that is over.
 abbrev pub names_task : Heard → (task : ℕ) → Bool
@@ -129,6 +145,8 @@ pub record HearsLine (r : Report) (h m : Heard) : Type 0 where
   pub sizes : m.sizes.items ≡ h.sizes.items ++ filter_map size_of (r ∷ [])
   pub hurry : m.hurry ≡ (h.hurry || is_hurry r)
   pub asked : m.asked ≡ (h.asked || is_question r)
+  pub asks : m.asks.items ≡ h.asks.items ++ filter_map ask_of (r ∷ [])
+  pub firsts : m.firsts.items ≡ h.firsts.items ++ filter_map group_ask_of (r ∷ [])
 
 -- A line reports this fact, or it can't report anything.
 abbrev pub Reads : Counts → (living : List ℕ) → List Report → Report → Option Fact → Type 0

@@ -18,17 +18,12 @@ use Rattle.drive_parts.specs.declared.plans.PlanRefusal.{PlanRefusal}
 use Rattle.drive_parts.specs.declared.plans.PlanRefusal.TheVariants as refusal
 use Rattle.drive_nights.specs.declared.untils.Until.{Until}
 use Rattle.drive_parts.specs.Additions.{commands_in, first_of, group_of, is_open, key_of, listed}
-use Rattle.drive_parts.specs.Additions.{groups_in, name_of, untils_in}
+use Rattle.drive_parts.specs.Additions.{groups_in, name_of, pool_of, untils_in}
 use Rattle.drive_parts.specs.Commands.{AreCommands, ExtendsLast}
 use Rattle.drive_parts.specs.Groups.{AreGroups, HasUntil, LacksUntil}
 use Rattle.drive_parts.specs.Names.{IsRefusedName, IsTwice}
 
 -- ---- the lines
-
--- The size of a line's pool.
-abbrev pub pool_of : Report → Option ℕ
-pool_of (report.Plan (line.Pool size)) = Some size
-pool_of _ = None
 
 -- The deadline of all groups.
 abbrev pub all_of : Report → Option Until

@@ -14,7 +14,7 @@ use Rattle.drive_parts.specs.declared.rounds.Round.{Round}
 use Rattle.drive_parts.specs.Additions.{untils_in}
 use Rattle.drive_parts.specs.Groups.{LacksUntil}
 use Rattle.drive_parts.specs.Growth.{HasGrown, IsGrowing, IsWhole, MayAddCommand, MayAddDetail}
-use Rattle.drive_parts.specs.Growth.{MayAddGroup, commands_after, groups_after}
+use Rattle.drive_parts.specs.Growth.{MayAddGroup, commands_after, groups_after, pools_after}
 use Rattle.drive_parts.specs.Heard.{AreHeard, MayReport}
 
 -- ---- the lines
@@ -24,17 +24,18 @@ abbrev pub counts_after : NightPlan → List Report → Counts
 counts_after old reports = record {
   groups = groups_after old reports;
   commands = commands_after old reports;
-  pools = length old.plan.pools.items;
+  pools = length (pools_after old reports);
 }
 
 -- A line can come next in a round, after these: the plan can grow by it, or it can report a fact.
--- The last group that is new in this round gets one deadline at most.
+-- The last group that is new in this round gets one deadline at most. A pool can always be added.
 abbrev pub MayHear : NightPlan → (living : List ℕ) → List Report → Report → Type 0
 MayHear old living reports (report.Group group name) = MayAddGroup old reports name
 MayHear old living reports (report.Command outline key) =
     MayAddCommand old reports outline.group key
 MayHear old living reports (report.Until moment words) =
     (moment ≤ GREATEST_MOMENT) × LacksUntil (untils_in reports)
+MayHear old living reports (report.Plan (line.Pool size)) = Unit {0}
 MayHear old living reports (report.Plan (line.Need need)) =
     MayAddDetail old reports (report.Plan (line.Need need))
 MayHear old living reports (report.Plan (line.Take take)) =

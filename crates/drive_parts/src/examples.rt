@@ -7,14 +7,15 @@
 ghost use Rattle.std.specs.Prelude.{◌≡◌, [], ◌∷◌, codes, false, true, None, Some};
 ghost use Rattle.std.specs.List.{filter_map, list_any};
 ghost use Rattle.run_model.specs.declared.tasks.Outcome.TheVariants as outcome;
-ghost use Rattle.drive_lines.specs.Examples.{canceled, failed, gone, planned};
+ghost use Rattle.drive_lines.specs.Examples.{asked, canceled, failed, gone, grown, planned};
 ghost use Rattle.drive_parts.specs.Additions.{commands_in, first_of, group_of, groups_in};
-ghost use Rattle.drive_parts.specs.Additions.{is_open, key_of, name_of, untils_in};
-ghost use Rattle.drive_parts.specs.Examples.{busy, dated, growing, once, orders, stopping, users};
-ghost use Rattle.drive_parts.specs.Examples.{whole_pool};
-ghost use Rattle.drive_parts.specs.Heard.{cancel_of, done_of, end_of, gone_of, is_hurry, is_over};
-ghost use Rattle.drive_parts.specs.Heard.{is_question, last_of, size_of, time_of};
-ghost use Rattle.drive_parts.specs.Plans.{all_of, is_next, pool_of};
+ghost use Rattle.drive_parts.specs.Additions.{is_open, key_of, name_of, pool_of, untils_in};
+ghost use Rattle.drive_parts.specs.Examples.{busy, dated, files, growing, once, orders, stopping};
+ghost use Rattle.drive_parts.specs.Examples.{users, whole_pool};
+ghost use Rattle.drive_parts.specs.Heard.{ask_of, cancel_of, done_of, end_of, gone_of};
+ghost use Rattle.drive_parts.specs.Heard.{group_ask_of, is_hurry, is_over, is_question, last_of};
+ghost use Rattle.drive_parts.specs.Heard.{size_of, time_of};
+ghost use Rattle.drive_parts.specs.Plans.{all_of, is_next};
 
 /// The plan of the session has a pool, and a group with two commands.
 pub fn a_plan_has_a_group_and_two_commands()
@@ -62,6 +63,21 @@ pub fn a_round_is_heard_in_order()
     ensures sizes { filter_map size_of busy ≡ record { pool = 0; size = 4 } ∷ [] }
     ensures hurry { list_any is_hurry busy ≡ true }
     ensures asked { list_any is_question busy ≡ false }
+{}
+
+/// What is asked of commands and of groups is kept in the order of the lines, next to the end that
+/// the round reports.
+pub fn a_round_asks_for_errors()
+    ensures ends { filter_map end_of asked ≡ filter_map end_of failed }
+    ensures asks { filter_map ask_of asked ≡ 0 ∷ 1 ∷ [] }
+    ensures firsts { filter_map group_ask_of asked ≡ 0 ∷ [] }
+    ensures question { list_any is_question asked ≡ false }
+{}
+
+/// A pool comes after those of the plan, so a command of the same round can take some of it.
+pub fn a_plan_grows_by_a_pool()
+    ensures pools { filter_map pool_of grown ≡ 2 ∷ [] }
+    ensures commands { commands_in grown ≡ files ∷ [] }
 {}
 
 /// A try is over once a line says so, and no other try is.

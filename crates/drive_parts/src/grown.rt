@@ -1,8 +1,9 @@
-//! A plan with names grows by a group, by the deadline of its last group, or by a command.
+//! A plan with names grows by a pool, by a group, by the deadline of its last group, or by a
+//! command.
 
-ghost use Rattle.std.specs.Prelude.{◌≡◌, ℕ, IfOk, Some, slice_get};
+ghost use Rattle.std.specs.Prelude.{◌≡◌, ◌++◌, ◌∷◌, [], ℕ, IfOk, Some, slice_get};
 ghost use Rattle.plan_lines.specs.States.{MayGrow};
-ghost use Rattle.drive_parts.specs.Growth.{GrowsByLast, HasNewGroup, HasPending};
+ghost use Rattle.drive_parts.specs.Growth.{GrowsByLast, HasNewGroup, HasNewPool, HasPending};
 ghost use Rattle.drive_parts.specs.Names.{IsGroupName};
 ghost use Rattle.drive_parts.specs.Pendings.{CanGrow};
 
@@ -14,6 +15,54 @@ use night_plan::growth::{with_command, with_group};
 use night_plan::plans::growth_fault;
 use run_model::Name;
 use std::alloc::AllocError;
+
+/// The plan with one more pool.
+pub(crate) fn with_pool(plan: NightPlan, size: u32) -> Result<NightPlan, AllocError>
+    ensures { IfOk result (HasNewPool size plan) }
+{
+    let NightPlan {
+        plan,
+        groups,
+        keys,
+        untils,
+        all,
+        next,
+    } = plan;
+    Ok(NightPlan {
+        plan: with_new_pool(plan, size)?,
+        groups,
+        keys,
+        untils,
+        all,
+        next,
+    })
+}
+
+/// The plan without names, with one more pool.
+fn with_new_pool(plan: Plan, size: u32) -> Result<Plan, AllocError>
+    ensures first { IfOk result (λ new. new.first ≡ plan.first) }
+    ensures groups { IfOk result (λ new. new.groups.items ≡ plan.groups.items) }
+    ensures pools { IfOk result (λ new. new.pools.items ≡ plan.pools.items ++ size ∷ []) }
+    ensures commands { IfOk result (λ new. new.commands.items ≡ plan.commands.items) }
+{
+    let Plan {
+        first,
+        groups,
+        mut pools,
+        commands,
+        order,
+        places,
+    } = plan;
+    pools.push(size)?;
+    Ok(Plan {
+        first,
+        groups,
+        pools,
+        commands,
+        order,
+        places,
+    })
+}
 
 /// The plan with one more group, which has no deadline yet.
 pub(crate) fn with_named_group(

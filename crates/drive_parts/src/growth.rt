@@ -3,7 +3,7 @@
 ghost use Rattle.std.specs.Prelude.{◌≤◌, length};
 ghost use Rattle.drive_parts.specs.Pendings.{IsReady};
 
-use crate::grown::{may_grow, with_last_until, with_named_group, with_pending};
+use crate::grown::{may_grow, with_last_until, with_named_group, with_pending, with_pool};
 use crate::names::{has_key, is_among, is_group_name};
 use crate::plans::NightPlan;
 use drive_nights::untils::Until;
@@ -35,7 +35,7 @@ pub struct Growth {
 impl Growth {
     ghost use Rattle.std.specs.Prelude.{◌≡◌, IfOk};
     ghost use Rattle.drive_parts.specs.Growth.{Begins, Closes, GrowsByCommand, GrowsByDetail};
-    ghost use Rattle.drive_parts.specs.Growth.{GrowsByGroup, GrowsByUntil};
+    ghost use Rattle.drive_parts.specs.Growth.{GrowsByGroup, GrowsByPool, GrowsByUntil};
 
     /// A plan that hasn't grown yet.
     pub fn new(plan: NightPlan) -> Growth
@@ -66,6 +66,22 @@ impl Growth {
         };
         Ok(Growth {
             plan: with_pending(plan, pending)?,
+            pending: None,
+            first,
+        })
+    }
+
+    /// The plan with one more pool. No command is pending.
+    pub fn with_pool(self, size: u32) -> Result<Growth, AllocError>
+        ensures { IfOk result (GrowsByPool size self) }
+    {
+        let Growth {
+            plan,
+            pending: _,
+            first,
+        } = self;
+        Ok(Growth {
+            plan: with_pool(plan, size)?,
             pending: None,
             first,
         })

@@ -36,6 +36,10 @@ pub struct Heard {
     pub hurry: bool,
     /// Whether the executor asked how each command stands.
     pub asked: bool,
+    /// The commands of which the executor asked for the last error.
+    pub asks: Vec<usize>,
+    /// The groups of which it asked for the first error.
+    pub firsts: Vec<usize>,
 }
 
 /// What a line reports.
@@ -49,6 +53,8 @@ pub enum Fact {
     Size(PoolSize),
     Question,
     Hurry,
+    Ask(usize),
+    First(usize),
 }
 
 impl Heard {
@@ -65,6 +71,8 @@ impl Heard {
             sizes: Vec::new(alloc),
             hurry: false,
             asked: false,
+            asks: Vec::new(alloc),
+            firsts: Vec::new(alloc),
         }
     }
 }
@@ -82,6 +90,8 @@ pub(crate) fn note(heard: &mut Heard, fact: Fact) -> Result<(), AllocError>
         Fact::Size(size) => heard.sizes.push(size)?,
         Fact::Question => heard.asked = true,
         Fact::Hurry => heard.hurry = true,
+        Fact::Ask(command) => heard.asks.push(command)?,
+        Fact::First(group) => heard.firsts.push(group)?,
     }
     Ok(())
 }
@@ -116,6 +126,8 @@ pub(crate) fn fact_of(counts: Counts, living: &[u16], heard: &Heard, report: Rep
             why,
         })),
         Report::Hurry => Some(Fact::Hurry),
+        Report::Ask(command) => Some(Fact::Ask(within(command, counts.commands)?)),
+        Report::First(group) => Some(Fact::First(within(group, counts.groups)?)),
         _ => None,
     }
 }

@@ -87,6 +87,10 @@ impl HeardDraft {
             living,
         } = self;
         match line {
+            PlanLine::Pool(size) => {
+                let growth = growth.closed()?.with_pool(size)?;
+                Ok(grown(Some(growth), heard, living))
+            }
             PlanLine::Need(need) => {
                 let line = PlanLine::Need(need);
                 Ok(grown(growth.with_detail(line)?, heard, living))

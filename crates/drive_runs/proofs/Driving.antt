@@ -11,17 +11,20 @@ use Rattle.book_model.specs.Openings.{Opens}
 use Rattle.book_model.specs.Steps.{reply_of_save}
 use Rattle.book_model.specs.Stores.{Stores}
 use Rattle.book_model.proofs.Stepping.{answers_flush}
-use Rattle.console_lines.proofs.Written.{appends_then}
+use Rattle.console_lines.proofs.Written.{appends_nothing, appends_then}
+use Rattle.console_lines.specs.declared.faults.RunFault.{RunFault}
 use Rattle.plan_lines.specs.Writing.{WritesPrefix}
 use Rattle.drive_lines.specs.declared.inputs.NextLine.{NextLine}
 use Rattle.drive_lines.specs.declared.orders.Order.{Order}
-use Rattle.drive_parts.specs.declared.heard.Heard.{Heard}
-use Rattle.drive_runs.specs.declared.parts.Part.{Part}
 use Rattle.drive_lines.specs.Orders.{order_lines}
-use Rattle.drive_runs.specs.Answers.{MayAnswer, Writes}
+use Rattle.drive_runs.specs.declared.answers.Answer.{Answer}
+use Rattle.drive_runs.specs.declared.parts.Next.{Next}
+use Rattle.drive_runs.specs.declared.parts.Part.{Part}
+use Rattle.drive_runs.specs.Answers.{Writes}
 use Rattle.drive_runs.specs.Moving.{Moves}
-use Rattle.drive_runs.specs.Parts.{AnswersLine}
-use Rattle.drive_runs.specs.Runs.{Answers, IsAnswer, IsSitting, Sittings, StoresAll}
+use Rattle.drive_runs.specs.Parts.{Gives, TakesLine}
+use Rattle.drive_runs.specs.Runs.{Answers, GivesAnswer, IsAnswer, IsSitting, MayBeAnswered}
+use Rattle.drive_runs.specs.Runs.{Sittings, StoresAll}
 
 -- A text was written, and then a prefix of another one.
 pub prefix_then : (w0 w1 w2 : Option (List ℕ)) (xs ys : List ℕ) → Appends w0 w1 xs
@@ -44,15 +47,39 @@ at_fault w0 w1 text (Ok x) failed part = absurd (cc failed)
 at_fault w0 w1 text (Err why) failed part = part
 
 module _ {D : Type 0} (state : D → DiskState) where
-  -- What answers a line of the input, or a round that was heard, may be written.
-  pub by_line : (it : Part) (found : NextLine) (a b : BookView D) (lines : List Order)
-      → AnswersLine state it found a lines b → IsAnswer state a lines b
-  by_line it found a b lines is = inr (inl (it, found, is))
+  -- The lines of an answer were written, if it was given.
+  pub gives : (it : Answer) (a b : BookView D) (w0 w1 : Option (List ℕ))
+      (result : Result Next RunFault) → MayBeAnswered state a it b → Gives it w0 w1 result
+      → GivesAnswer state a b w0 w1 result
+  gives it a b w0 w1 result may given =
+      (it.lines.items, inr (it, refl, may), by_result result given)
+    where
+      by_result : (result : Result Next RunFault) → Gives it w0 w1 result
+          → Writes w0 w1 result (order_lines it.lines.items)
+      by_result (Ok to) given = given.0
+      by_result (Err why) given = given.0
 
-  pub by_round : (heard : Heard) (a b : BookView D) (lines : List Order)
-      → MayAnswer state heard a lines b → IsAnswer state a lines b
-  by_round heard a b lines (inl quiet) = inl quiet
-  by_round heard a b lines (inr is) = inr (inr (heard, is))
+  -- Nothing was written.
+  pub gives_none : {X E : Type 0} (a b : BookView D) (w0 w1 : Option (List ℕ))
+      (result : Result X E) → w1 ≡ w0 → GivesAnswer state a b w0 w1 result
+  gives_none {X} {E} a b w0 w1 result same = ([], inl refl, by_result result)
+    where
+      whole : Appends w0 w1 []
+      whole = subst (λ (w : Option (List ℕ)). Appends w0 w []) (sym same) (appends_nothing w0)
+
+      by_result : (result : Result X E) → Writes w0 w1 result []
+      by_result (Ok to) = whole
+      by_result (Err why) = ([], ([], refl), whole)
+
+  -- A line of the input was taken.
+  pub takes : (part : Part) (found : NextLine) (number : ℕ) (a b : BookView D)
+      (w0 w1 : Option (List ℕ)) (result : Result Next RunFault)
+      → TakesLine state part found number a b w0 w1 result
+      → GivesAnswer state a b w0 w1 result
+  takes part found number a b w0 w1 result (inl (it, answers, given)) =
+      gives it a b w0 w1 result (inl (part, found, number, answers)) given
+  takes part found number a b w0 w1 result (inr (failed, same)) =
+      gives_none a b w0 w1 result same
 
   -- The first answer over an open store.
   pub one_answer : (a b : BookView D) (lines : List Order) → IsAnswer state a lines b

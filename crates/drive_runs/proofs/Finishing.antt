@@ -7,17 +7,15 @@ use Rattle.std.proofs.lemmas.Bool.Decides.{nat_tests}
 use Rattle.std.proofs.lemmas.Grind.{common_steps}
 use Rattle.std.proofs.lemmas.List.Folds.{list_all_at}
 use Rattle.std.proofs.lemmas.Option.{slice_get-get_or}
-use Rattle.run_model.specs.State.{State}
 use Rattle.run_model.proofs.Common.{and_parts}
 use Rattle.night_plan.specs.Nights.{IsFinal, Night}
 use Rattle.night_plan.specs.Standings.{Stands, is_final}
 use Rattle.night_plan.specs.declared.standings.Standing.{Standing}
 use Rattle.night_plan.specs.declared.standings.Standing.TheVariants as standing
 use Rattle.night_plan.proofs.Final.{final_from}
-use Rattle.night_drive.specs.PlanTurns.{night_in}
 use Rattle.drive_runs.specs.declared.living.Living.{Living}
-use Rattle.drive_runs.specs.declared.sittings.Sitting.{Sitting}
-use Rattle.drive_runs.specs.Rounds.{AreStandings, IsOver, is_over}
+use Rattle.drive_runs.specs.Laws.{IsOver}
+use Rattle.drive_runs.specs.Rounds.{AreStandings, is_over}
 
 passes : (all : List Standing) (c : ℕ) → list_all is_final all ≡ true → c < length all
     → is_final (get_or all c standing.Pending) ≡ true
@@ -55,12 +53,11 @@ none_left [] e = refl
 none_left (one ∷ living) e = absurd (cc (e, never_none (length living)))
 
 -- Each command of the night is final, and no try lives.
-pub over_so : (p : State) (s : Sitting) (all : List Standing)
-    → AreStandings (night_in p s.kept.ends s.plan s.names) p.tree.clock all
-    → is_over all s.kept.living.items ≡ true → IsOver p s
-over_so p s all are over =
-    let parts = and_parts (list_all is_final all) (length s.kept.living.items == 0) over in
+pub over_so : (n : Night) (now : ℕ) (all : List Standing) (living : List Living)
+    → AreStandings n now all → is_over all living ≡ true → IsOver n living
+over_so n now all living are over =
+    let parts = and_parts (list_all is_final all) (length living == 0) over in
     record {
-      final = all_final (night_in p s.kept.ends s.plan s.names) p.tree.clock all are parts.0;
-      idle = none_left s.kept.living.items parts.1;
+      final = all_final n now all are parts.0;
+      idle = none_left living parts.1;
     }

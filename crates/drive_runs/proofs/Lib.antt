@@ -11,3 +11,5 @@ pub mod Finishing
 pub mod Every
 pub mod Stopping
 pub mod Setting
+pub mod Reading
+pub mod Apart

@@ -1,25 +1,24 @@
 -- What was heard is recorded.
-use Rattle.std.specs.Prelude.{◌≡◌, ◌<◌, ◌+◌, ◌++◌, ℕ, List, [], ◌∷◌, Option, Some, None, true, drop}
-use Rattle.std.specs.Prelude.{length, take}
+use Rattle.std.specs.Prelude.{◌≡◌, ◌<◌, ◌≤◌, ◌+◌, ◌&&◌, ◌++◌, ℕ, Bool, true, List, [], ◌∷◌}
+use Rattle.std.specs.Prelude.{Option, Some, None, All, length, ltb, take}
 use Rattle.std.specs.List.{cons_option, filter_map, list_all}
-use Rattle.std.proofs.Common.{ap, append-nil, get_or, subst, ◌∙◌}
+use Rattle.std.proofs.Common.{ap, append-nil, arith, get_or, inr, sym, ◌∙◌}
+use Rattle.std.proofs.lemmas.Bool.{ltb-true}
 use Rattle.std.proofs.lemmas.List.{take_more}
 use Rattle.std.proofs.lemmas.List.Elements.{filter_map-append}
-use Rattle.run_model.specs.declared.answers.Reply.{Reply}
-use Rattle.run_model.specs.declared.commands.Step.{Step}
+use Rattle.run_model.specs.State.{State}
+use Rattle.run_model.proofs.Common.{and_parts}
 use Rattle.run_disk.specs.Disk.{DiskState}
 use Rattle.book_model.specs.Books.{BookView}
-use Rattle.book_model.specs.Steps.{StepsOn}
 use Rattle.drive_parts.specs.declared.heard.Heard.{Heard}
 use Rattle.drive_steps.specs.declared.cancels.CommandCancel.{CommandCancel}
-use Rattle.drive_steps.specs.declared.heard.Ended.{Ended}
-use Rattle.drive_steps.specs.Cancels.{AreTaken, are_started}
-use Rattle.drive_steps.specs.Rounds.{record_of}
-use Rattle.drive_runs.specs.declared.living.Living.{Living}
+use Rattle.drive_steps.specs.declared.cancels.GroupCancel.{GroupCancel}
+use Rattle.drive_steps.specs.Rooms.{are_housed}
 use Rattle.drive_runs.specs.declared.records.Recorded.{Recorded}
 use Rattle.drive_runs.specs.declared.records.Recorded.TheVariants as recorded
 use Rattle.drive_runs.specs.declared.sittings.Sitting.{Sitting}
-use Rattle.drive_runs.specs.Records.{IsWell, Records, Remembers, ends_of, is_met, once_canceled}
+use Rattle.drive_runs.specs.Records.{Becomes, Records, WasPlayed, are_numbered, is_of_plan}
+use Rattle.drive_runs.proofs.Every.{all_below}
 
 -- ---- one element more
 
@@ -45,36 +44,64 @@ none_more f xs i d less is =
     ∙ ap (λ (o : Option _). filter_map f (take i xs) ++ cons_option o []) is
     ∙ append-nil (filter_map f (take i xs))
 
+-- ---- the steps
+
+-- These cancels name commands of a plan with this many.
+abbrev pub AreOfCommands : (count : ℕ) → List CommandCancel → Type 0
+AreOfCommands count cancels =
+    All (λ (cancel : CommandCancel). cancel.command < count) cancels
+
+abbrev pub AreOfGroups : (count : ℕ) → List GroupCancel → Type 0
+AreOfGroups count groups = All (λ (cancel : GroupCancel). cancel.group < count) groups
+
+pub record IsOfPlan (p : State) (s : Sitting) (heard : Heard) : Type 0 where
+  pub housed : are_housed p s.names ≡ true
+  pub cancels : AreOfCommands (length s.plan.commands.items) heard.cancels.items
+  pub groups : AreOfGroups (length s.names.groups.items) heard.done.items
+
+pub of_plan : (p : State) (s : Sitting) (heard : Heard) → is_of_plan p s heard ≡ true
+    → IsOfPlan p s heard
+of_plan p s heard is =
+    let commands : ℕ = length s.plan.commands.items in
+    let groups : ℕ = length s.names.groups.items in
+    let one : Bool =
+    list_all (λ (x : CommandCancel). ltb x.command commands) heard.cancels.items in
+    let two : Bool = list_all (λ (x : GroupCancel). ltb x.group groups) heard.done.items in
+    let first = and_parts (are_housed p s.names) (one && two) is in
+    let others = and_parts one two first.1 in
+    record {
+      housed = first.0;
+      cancels = all_below (λ (x : CommandCancel). x.command) commands heard.cancels.items true
+          (sym others.0);
+      groups = all_below (λ (x : GroupCancel). x.group) groups heard.done.items true
+          (sym others.1);
+    }
+
+pub numbered : (p : State) (s : Sitting) (taken : List CommandCancel)
+    → are_numbered p s taken ≡ true
+    → AreOfCommands (length s.plan.commands.items) taken
+    × (length p.work.tasks + length taken ≤ 65535)
+numbered p s taken is =
+    let commands : ℕ = length s.plan.commands.items in
+    let one : Bool = list_all (λ (x : CommandCancel). ltb x.command commands) taken in
+    let two : Bool = ltb (length taken) 4096 in
+    let three : Bool = ltb (length p.work.tasks) 32768 in
+    let first = and_parts one (two && three) is in
+    let others = and_parts two three first.1 in
+    let short = ltb-true (length taken) 4096 others.0 in
+    let few = ltb-true (length p.work.tasks) 32768 others.1 in (
+      all_below (λ (x : CommandCancel). x.command) commands taken true (sym first.0),
+      omega (arith, short, few),
+    )
+
 -- ---- all of it
 
-pub well_recorded : {D : Type 0} (state : D → DiskState) (s t : Sitting) (heard : Heard)
-    (now : ℕ) (old new : BookView D) (living : List Living) (ends : List Ended)
-    (taken : List CommandCancel) (steps : List Step) (replies : List Reply)
-    → living ≡ once_canceled heard.cancels.items s.kept.living.items → ends ≡ ends_of living heard
-    → AreTaken old.session.state s.names s.plan.commands.items ends heard.cancels.items taken
-    → steps ≡ record_of old.session.state s.names s.plan.commands.items ends taken
-    heard.done.items now
-    → StepsOn state old steps replies new
-    → Remembers s heard ends now t
-    → (how : Recorded)
-    → (IsWell how → (list_all is_met replies ≡ true)
-    × (are_started taken (drop (length ends) replies) ≡ true))
+-- What became of what was heard, by the replies.
+pub has_become : {D : Type 0} (state : D → DiskState) (s t : Sitting) (heard : Heard) (now : ℕ)
+    (old new : BookView D) (row : WasPlayed state s heard now old t new) (how : Recorded)
+    → Becomes (length row.ends) row.taken row.replies row.gone how
     → Records state s heard now old how t new
-well_recorded state s t heard now old new living ends taken steps replies lived ended those
-    recording played remembers recorded.Well well = record {
-      ends = ends;
-      ended = ended ∙ ap (λ (l : List Living). ends_of l heard) lived;
-      taken = taken;
-      those = those;
-      replies = replies;
-      played = subst (λ (all : List Step). StepsOn state old all replies new) recording played;
-      met = (well tt).0;
-      started = (well tt).1;
-      remembers = remembers;
-    }
-well_recorded state s t heard now old new living ends taken steps replies lived ended those
-    recording played remembers recorded.Reopen well = tt
-well_recorded state s t heard now old new living ends taken steps replies lived ended those
-    recording played remembers recorded.Full well = tt
-well_recorded state s t heard now old new living ends taken steps replies lived ended those
-    recording played remembers (recorded.Faulty fault) well = tt
+has_become state s t heard now old new row recorded.Well became = (row, became)
+has_become state s t heard now old new row recorded.Reopen became = (row, became)
+has_become state s t heard now old new row recorded.Full became = inr (row, became)
+has_become state s t heard now old new row (recorded.Faulty fault) became = (row, became)

@@ -1,6 +1,6 @@
 -- The sizes of pools.
 use Rattle.std.specs.Prelude.{◌≡◌, ◌<◌, ◌==◌, ◌+◌, ◌++◌, ◌∷◌, ℕ, Bool, cond, true, false, List, []}
-use Rattle.std.specs.Prelude.{Option, Some, find, length, ltb, reverse, slice_get, slice_index}
+use Rattle.std.specs.Prelude.{Some, find, length, ltb, reverse, slice_get, slice_index}
 use Rattle.std.specs.Prelude.{take}
 use Rattle.std.specs.Prelude.{unwrap_or}
 use Rattle.std.specs.Option.{option_map_or}

@@ -1,22 +1,17 @@
 -- The executor is asked to stop tries.
 use Rattle.std.specs.Prelude.{◌≡◌, ◌<◌, ◌++◌, ℕ, Bool, true, false, cond, List, [], ◌∷◌, Option}
-use Rattle.std.specs.Prelude.{Some, None, All, map}
+use Rattle.std.specs.Prelude.{Some, None, All}
 use Rattle.std.specs.List.{AllByRecursion, cons_option, filter_map}
 use Rattle.std.specs.Option.{option_map}
 use Rattle.std.proofs.Common.{ap, append-nil, refl, subst, sym, ◌∙◌}
-use Rattle.std.proofs.lemmas.List.Elements.{All-from_recursion, filter-append, recursion_from_All}
+use Rattle.std.proofs.lemmas.List.Elements.{All-from_recursion, recursion_from_All}
 use Rattle.std.proofs.lemmas.Option.{none-some, same_Some}
-use Rattle.run_model.specs.State.{State}
-use Rattle.drive_lines.specs.declared.orders.Order.{Order}
 use Rattle.drive_steps.specs.declared.cancels.CommandCancel.{CommandCancel}
 use Rattle.drive_steps.specs.declared.reported.Begun.{Begun}
 use Rattle.drive_steps.specs.declared.stops.Stop.{Stop}
 use Rattle.drive_runs.specs.declared.living.Living.{Living}
-use Rattle.drive_runs.specs.declared.sittings.Sitting.{Sitting}
 use Rattle.drive_runs.specs.Living.{all_asked, cancel_of, cancels_of, once_asked, tries_of}
-use Rattle.drive_runs.specs.Living.{unasked, why_in, with_begun}
-use Rattle.drive_runs.specs.Rounds.{AreRoundLines, AsksNoMore, LivesOn, begins_in, is_begin}
-use Rattle.drive_runs.specs.Stops.{AddsStops, AsksForStops, is_stop, stop_line, stops_in}
+use Rattle.drive_runs.specs.Living.{unasked, why_in}
 
 -- ---- what the decision needs
 
@@ -101,49 +96,3 @@ pub live_asked : (stops : List Stop) (living after : List Living)
 live_asked stops living after is =
     ap (λ (l : List Living). tries_of l) is ∙ tries_asked stops living
     ∙ sym (append-nil (tries_of living))
-
--- ---- the lines
-
-all_stop : (stops : List Stop) → stops_in (map stop_line stops) ≡ map stop_line stops
-all_stop [] = refl
-all_stop (stop ∷ stops) = ap (λ (l : List Order). stop_line stop ∷ l) (all_stop stops)
-
-none_begin : (stops : List Stop) → begins_in (map stop_line stops) ≡ []
-none_begin [] = refl
-none_begin (stop ∷ stops) = none_begin stops
-
--- Stops were added to lines that ask for none, and then lines that ask for nothing.
-pub round_lines : (begins new lines : List Order) (p : State) (s t : Sitting)
-    → AddsStops p s begins new t → stops_in begins ≡ [] → AsksNoMore new lines
-    → AreRoundLines begins p s t lines
-round_lines begins new lines p s t adds none same =
-    let added = map stop_line adds.stops in (
-      same.0 ∙ ap begins_in adds.lines ∙ filter-append is_begin begins added
-          ∙ ap (λ (l : List Order). begins_in begins ++ l) (none_begin adds.stops)
-          ∙ append-nil (begins_in begins),
-      record {
-        stops = adds.stops;
-        those = adds.those;
-        lines =
-            same.1 ∙ ap stops_in adds.lines ∙ filter-append is_stop begins added
-            ∙ ap (λ (l : List Order). l ++ stops_in added) none ∙ all_stop adds.stops;
-        after = adds.after;
-      },
-    )
-
--- The tries that have begun live when stops are asked for.
-pub asks_grown : (p : State) (before middle : Sitting) (begun : List Begun) (lines : List Order)
-    (after : List Living) → LivesOn before begun middle
-    → middle.kept.living.items ≡ with_begun before.kept.living.items begun
-    → AsksForStops p middle.kept.ends middle.plan middle.names middle.kept.living.items lines after
-    → AsksForStops p before.kept.ends before.plan before.names
-    (with_begun before.kept.living.items begun) lines after
-asks_grown p before middle begun lines after on grown asks =
-    subst (λ (l : List Living). AsksForStops p before.kept.ends before.plan before.names l lines
-    after) grown
-    (subst (λ names. AsksForStops p before.kept.ends before.plan names
-    middle.kept.living.items lines after) on.names
-    (subst (λ plan. AsksForStops p before.kept.ends plan middle.names
-    middle.kept.living.items lines after) on.plan
-    (subst (λ ends. AsksForStops p ends middle.plan middle.names
-    middle.kept.living.items lines after) on.ends asks)))

@@ -1,5 +1,5 @@
 -- What laws say of the books of a run: what one has played, and what the store holds after some.
-use Rattle.std.specs.Prelude.{◌≡◌, ℕ, zero, suc, false, List, Some}
+use Rattle.std.specs.Prelude.{◌≡◌, ◌<◌, ℕ, zero, suc, false, List, [], Some, length}
 use Rattle.run_model.specs.Allowed.{run}
 use Rattle.run_model.specs.Event.{Event}
 use Rattle.run_model.specs.State.{State}
@@ -8,6 +8,13 @@ use Rattle.run_model.specs.declared.commands.Step.{Step}
 use Rattle.run_model.specs.Session.{replies, session_after}
 use Rattle.book_model.specs.Books.{BookView}
 use Rattle.book_model.specs.Stores.{restarted}
+use Rattle.night_plan.specs.Nights.{IsFinal, Night}
+use Rattle.drive_runs.specs.declared.living.Living.{Living}
+
+-- Each command of a night is final, and none of these tries lives.
+pub record IsOver (n : Night) (living : List Living) : Type 0 where
+  pub final : (c : ℕ) → c < length n.commands → IsFinal n c
+  pub idle : living ≡ []
 
 -- The book wasn't broken, and replied as its session does. All its events are acknowledged.
 pub record IsPlayedWhole {D : Type 0} (old : BookView D) (steps : List Step) (answers : List Reply)

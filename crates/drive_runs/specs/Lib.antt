@@ -4,10 +4,12 @@ pub mod Faults
 pub mod Begins
 pub mod Living
 pub mod Stops
+pub mod Asks
 pub mod Rounds
 pub mod Records
 pub mod Laws
 pub mod Closing
+pub mod Opens
 pub mod Sittings
 pub mod Nights
 pub mod Answers

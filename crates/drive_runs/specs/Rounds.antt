@@ -1,63 +1,65 @@
 -- A round goes on once what was heard is recorded.
-use Rattle.std.specs.Prelude.{◌≡◌, ◌<◌, ◌==◌, ◌&&◌, ◌++◌, ℕ, Bool, true, false, List, [], Option}
-use Rattle.std.specs.Prelude.{Some}
-use Rattle.std.specs.Prelude.{All, Contains, length, map, slice_get}
-use Rattle.std.specs.List.{filter, list_all}
+use Rattle.std.specs.Prelude.{◌≡◌, ◌⊎◌, ◌&&◌, ◌==◌, ◌++◌, ℕ, Bool, true, false, List, [], Option}
+use Rattle.std.specs.Prelude.{Some, None, All, Contains, is_none, length, ltb, map, slice_get}
+use Rattle.std.specs.List.{list_all, list_any}
 use Rattle.std.specs.Option.{option_map}
 use Rattle.run_model.specs.Event.{Event}
 use Rattle.run_model.specs.Event as event
 use Rattle.run_model.specs.State.{State}
+use Rattle.run_model.specs.declared.faults.Fault.{Fault}
 use Rattle.run_disk.specs.Disk.{DiskState}
 use Rattle.book_model.specs.Books.{BookView}
-use Rattle.night_plan.specs.Nights.{IsFinal, Night}
+use Rattle.night_plan.specs.Nights.{Night}
 use Rattle.night_plan.specs.Standings.{Stands, is_final}
 use Rattle.night_plan.specs.declared.standings.Standing.{Standing}
 use Rattle.night_drive.specs.PlanTurns.{night_in}
+use Rattle.plan_lines.specs.Rounds.{later_lines, standing_lines}
 use Rattle.drive_lines.specs.declared.orders.Order.{Order}
 use Rattle.drive_lines.specs.declared.orders.Order.TheVariants as order
+use Rattle.drive_nights.specs.Deadlines.{IsNextMoment}
 use Rattle.drive_steps.specs.declared.reported.Begun.{Begun}
+use Rattle.drive_steps.specs.declared.stops.Stop.{Stop}
 use Rattle.drive_runs.specs.declared.begins.Beginning.{Beginning}
 use Rattle.drive_runs.specs.declared.living.Living.{Living}
 use Rattle.drive_runs.specs.declared.rounds.Course.{Course}
 use Rattle.drive_runs.specs.declared.rounds.Course.TheVariants as course
+use Rattle.drive_runs.specs.declared.rounds.Orders.{Orders}
 use Rattle.drive_runs.specs.declared.sittings.Sitting.{Sitting}
+use Rattle.drive_runs.specs.Asks.{Questions, error_lines}
 use Rattle.drive_runs.specs.Begins.{Begins}
 use Rattle.drive_runs.specs.Living.{tries_of, with_begun}
 use Rattle.drive_runs.specs.Moving.{IsSaved}
-use Rattle.drive_runs.specs.Stops.{AsksForStops, stops_in}
+use Rattle.drive_runs.specs.Sittings.{IsSameNight}
+use Rattle.drive_runs.specs.Stops.{AreDue, stop_line}
 use Rattle.drive_runs.specs.Tries.{try_name}
 
--- ---- the lines with which commands begin
+-- ---- the lines of a round
 
 -- The line with which a command begins names the command, its task and its try.
 abbrev pub begin_line : State → Begun → Option Order
 begin_line p begin =
     option_map (λ named. order.Begin begin.command begin.task named) (try_name p begin.task)
 
--- A command begins by this line.
-abbrev pub is_begin : Order → Bool
-is_begin (order.Begin c n named) = true
-is_begin _ = false
+-- These are the lines with which these commands begin, in this order.
+abbrev pub AreBegins : State → List Begun → List Order → Type 0
+AreBegins p begun lines = map (begin_line p) begun ≡ map Some lines
 
--- The lines by which commands begin.
-abbrev pub begins_in : List Order → List Order
-begins_in lines = filter is_begin lines
+-- The lines that say how the commands stand, if the executor asked for them.
+abbrev pub asked_lines : (asked : Bool) → List Standing → List Order
+asked_lines true all = map order.Answer (standing_lines 0 all)
+asked_lines false all = []
 
--- By these lines exactly these commands begin, in this order.
-abbrev pub AreTheirBegins : State → List Begun → List Order → Type 0
-AreTheirBegins p begun lines = map (begin_line p) begun ≡ map Some (begins_in lines)
+-- ---- the end of a night
 
--- No other command begins by the new lines than by the old ones.
-abbrev pub BeginsNoMore : (old new : List Order) → Type 0
-BeginsNoMore old new = begins_in new ≡ begins_in old
+-- This is how each command of a night stands.
+pub record AreStandings (n : Night) (now : ℕ) (all : List Standing) : Type 0 where
+  pub sized : length all ≡ length n.commands
+  pub each : (c : ℕ) (standing : Standing) → slice_get all c ≡ Some standing
+      → Stands n now c standing
 
--- Nor is the executor asked for another stop.
-abbrev pub AsksNoMore : (old new : List Order) → Type 0
-AsksNoMore old new = BeginsNoMore old new × (stops_in new ≡ stops_in old)
-
--- No command begins by these lines, and the executor is asked for no stop.
-abbrev pub AsksNothing : List Order → Type 0
-AsksNothing lines = (begins_in lines ≡ []) × (stops_in lines ≡ [])
+-- Each command stands so that it is final, and no try lives.
+abbrev pub is_over : List Standing → List Living → Bool
+is_over all living = list_all is_final all && length living == 0
 
 -- ---- what a round leaves
 
@@ -72,77 +74,81 @@ pub record AreStarted {D : Type 0} (old : BookView D) (begun : List Begun) (new 
 
 -- These tries live now, too. Nothing else has changed but which tries have to stop.
 pub record LivesOn (before : Sitting) (begun : List Begun) (after : Sitting) : Type 0 where
-  pub plan : after.plan ≡ before.plan
-  pub names : after.names ≡ before.names
-  pub night : after.kept.night ≡ before.kept.night
+  pub same : IsSameNight before after
   pub sizes : after.kept.sizes ≡ before.kept.sizes
   pub ends : after.kept.ends ≡ before.kept.ends
   pub living : tries_of after.kept.living.items ≡ tries_of before.kept.living.items ++ begun
 
--- Commands were chosen and got tasks, whose starts are acknowledged. These lines report that these
--- commands begin, and no others. They ask for the stop of each try that lives then, has to stop and
--- wasn't asked to stop before, and for no other stop.
-pub record HasBegun {D : Type 0} (state : D → DiskState) (before : Sitting) (old : BookView D)
-    (lines : List Order) (after : Sitting) (new : BookView D) : Type 0 where
+-- This is the next moment at which something comes by itself: the next retry, or a deadline. There
+-- is none if the night is over.
+abbrev pub IsNext : (over : Bool) → State → Sitting → (retry next : Option ℕ) → Type 0
+IsNext true p s retry next = next ≡ None
+IsNext false p s retry next = IsNextMoment p s.kept.night s.names.groups.items retry next
+
+-- The orders of a round are these lines, and no others: those with which commands begin; a stop for
+-- each living try for which one is due; the next moment, if there is one; if the executor asked for
+-- it, how each command stands; and the errors for which it asked, by the same rows. The night is
+-- over exactly if each command stands so that it is final, and no try lives. (While a try lives it
+-- isn't over, however commands stand. So nobody needs to know that then, unless the executor asks.)
+pub record AreOrders (begins : List Order) (p : State) (s : Sitting) (living : List Living)
+    (retry : Option ℕ) (asked : Questions) (orders : Orders) (t : Sitting) : Type 0 where
+  pub stops : List Stop
+  pub due : AreDue p s.kept.ends s.plan s.names living stops t.kept.living.items
+  pub standings : List Standing
+  pub stand : (asked.standings ≡ true) ⊎ (living ≡ [])
+      → AreStandings (night_in p s.kept.ends s.plan s.names) p.tree.clock standings
+  pub next : Option ℕ
+  pub comes : IsNext orders.is_over p t retry next
+  pub lines : orders.lines.items ≡ begins ++ (map stop_line stops
+      ++ (map order.Answer (later_lines next) ++ (asked_lines asked.standings standings
+      ++ error_lines p s.plan s.names asked)))
+  pub over : orders.is_over ≡ is_over standings t.kept.living.items
+
+-- Commands were chosen and got tasks, whose starts are acknowledged. The orders report that these
+-- commands begin, and no others. They are made from the rows that are acknowledged then.
+pub record HasBegun {D : Type 0} (state : D → DiskState) (before : Sitting) (asked : Questions)
+    (old : BookView D) (orders : Orders) (after : Sitting) (new : BookView D) : Type 0 where
   pub made : Beginning
   pub begins : Begins state before.kept.ends before.plan before.names before.kept.sizes.items old
       made new
   pub begun : List Begun
   pub reported : option_map (λ all. all.items) made.binding.begun ≡ Some begun
   pub started : AreStarted old begun new
-  pub theirs : AreTheirBegins new.session.state begun lines
-  pub stops : AsksForStops new.session.state before.kept.ends before.plan before.names
-      (with_begun before.kept.living.items begun) lines after.kept.living.items
+  pub lines : List Order
+  pub theirs : AreBegins new.session.state begun lines
+  pub are : AreOrders lines new.session.state before
+      (with_begun before.kept.living.items begun) made.choice.later asked orders after
   pub living : LivesOn before begun after
-
--- ---- the end of a night
-
--- This is how each command of a night stands.
-pub record AreStandings (n : Night) (now : ℕ) (all : List Standing) : Type 0 where
-  pub sized : length all ≡ length n.commands
-  pub each : (c : ℕ) (standing : Standing) → slice_get all c ≡ Some standing
-      → Stands n now c standing
-
--- Each command of the night is final, and no try lives.
-pub record IsOver (p : State) (s : Sitting) : Type 0 where
-  pub final : (c : ℕ) → c < length s.plan.commands.items
-      → IsFinal (night_in p s.kept.ends s.plan s.names) c
-  pub idle : s.kept.living.items ≡ []
-
--- Each command stands so that it is final, and no try lives.
-abbrev pub is_over : List Standing → List Living → Bool
-is_over all living = list_all is_final all && length living == 0
-
--- A command of the night doesn't stand so that it is final, or a try lives.
-abbrev pub IsOpen : State → Sitting → Type 0
-IsOpen p s =
-    (all : List Standing) × AreStandings (night_in p s.kept.ends s.plan s.names) p.tree.clock all
-    × (is_over all s.kept.living.items ≡ false)
 
 -- ---- how a round went on
 
--- If it went on, commands have begun, and its lines report that, and ask for what has to stop. The
--- night is over exactly if each command is final, and no try lives.
-abbrev pub GoesOn : {D : Type 0} → (D → DiskState) → (before : Sitting) → (old : BookView D)
-    → Course → (after : Sitting) → (new : BookView D) → Type 0
-GoesOn state before old (course.Next orders) after new =
-    HasBegun state before old orders.items after new × IsOpen new.session.state after
-GoesOn state before old (course.Over orders) after new =
-    HasBegun state before old orders.items after new × IsOver new.session.state after
-GoesOn state before old _ after new = Unit {0}
+-- Commands were chosen. But no step met a fault, and one was refused: so the log or the store had
+-- no room for them. Or a task that was started isn't there, or a living try isn't one of a command
+-- of the plan.
+abbrev pub WasRefused : {D : Type 0} → (D → DiskState) → (before : Sitting) → (old new : BookView D)
+    → Type 0
+WasRefused state before old new =
+    (made : Beginning) × Begins state before.kept.ends before.plan before.names
+    before.kept.sizes.items old made new
+    × (((made.binding.begun ≡ None) × (made.binding.fault ≡ None))
+    ⊎ ((begun : List Begun) × (option_map (λ all. all.items) made.binding.begun ≡ Some begun)
+    × ((list_any (λ (begin : Begun). is_none (try_name new.session.state begin.task)) begun ≡ true)
+    ⊎ (list_all (λ (one : Living). ltb one.command (length before.plan.commands.items))
+    (with_begun before.kept.living.items begun) ≡ false))))
 
--- ---- for private functions: no public contract cites what follows
+-- How it went on if no command could begin: a step met this fault, or one was refused.
+abbrev pub unbegun : Option Fault → Course
+unbegun None = course.Refused
+unbegun (Some fault) = course.Faulty fault
 
--- The lines of a round, by which commands begin as by these, and which ask for what has to stop.
-abbrev pub AreRoundLines : List Order → State → (before after : Sitting) → List Order → Type 0
-AreRoundLines begins p s t lines =
-    BeginsNoMore begins lines
-    × AsksForStops p s.kept.ends s.plan s.names s.kept.living.items lines t.kept.living.items
-
--- The round goes on with these begins and no others, and says whether the night is over.
-abbrev pub Concludes : List Order → State → (before after : Sitting) → Course → Type 0
-Concludes begins p s t (course.Next orders) =
-    AreRoundLines begins p s t orders.items × IsOpen p t
-Concludes begins p s t (course.Over orders) =
-    AreRoundLines begins p s t orders.items × IsOver p t
-Concludes begins p s t _ = ⊥
+-- If it went on, commands have begun, and these are its orders. It went on unless a step was
+-- refused or met a fault.
+abbrev pub GoesOn : {D : Type 0} → (D → DiskState) → (before : Sitting) → (asked : Questions)
+    → (old : BookView D) → Course → (after : Sitting) → (new : BookView D) → Type 0
+GoesOn state before asked old (course.On orders) after new =
+    HasBegun state before asked old orders after new
+GoesOn state before asked old course.Refused after new = WasRefused state before old new
+GoesOn state before asked old (course.Faulty fault) after new =
+    (made : Beginning) × Begins state before.kept.ends before.plan before.names
+    before.kept.sizes.items old made new
+    × (made.binding.begun ≡ None) × (made.binding.fault ≡ Some fault)

@@ -9,23 +9,33 @@ use Rattle.drive_lines.specs.declared.inputs.NextLine.{NextLine}
 use Rattle.drive_lines.specs.declared.orders.Order.{Order}
 use Rattle.drive_lines.specs.Orders.{order_lines}
 use Rattle.drive_parts.specs.declared.heard.Heard.{Heard}
+use Rattle.drive_runs.specs.declared.answers.Answer.{Answer}
 use Rattle.drive_runs.specs.declared.parts.Part.{Part}
+use Rattle.drive_runs.specs.declared.round_parts.RoundKind.TheVariants as kind
 use Rattle.drive_runs.specs.declared.runs.Sat.{Sat}
 use Rattle.drive_runs.specs.declared.runs.Sat.TheVariants as sat
-use Rattle.drive_runs.specs.Answers.{AnswersRound, AreQuiet, Writes}
+use Rattle.drive_runs.specs.Answers.{IsHindered, MayAnswer, Writes}
 use Rattle.drive_runs.specs.Moving.{Moves}
 use Rattle.drive_runs.specs.Parts.{AnswersLine}
 
 -- ---- an answer
 
--- These lines may be written as an answer: they are quiet, or they answer what comes next in the
--- input, or a round for which the store was opened again and of which this was heard.
+-- This may be answered: to a line of the input; or to a round for which the store was opened again,
+-- and of which this was heard; or that something hinders the night.
+abbrev pub MayBeAnswered : {D : Type 0} → (D → DiskState) → (old : BookView D) → Answer
+    → (new : BookView D) → Type 0
+MayBeAnswered state old it new =
+    ((part : Part) × (found : NextLine) × (number : ℕ)
+    × AnswersLine state part found number old it new)
+    ⊎ ((heard : Heard) × MayAnswer state kind.Again heard old it new)
+    ⊎ IsHindered it
+
+-- These lines may be written: there are none, or they are those of an answer.
 abbrev pub IsAnswer : {D : Type 0} → (D → DiskState) → (old : BookView D) → List Order
     → (new : BookView D) → Type 0
 IsAnswer state old lines new =
-    AreQuiet lines
-    ⊎ ((it : Part) × (found : NextLine) × AnswersLine state it found old lines new)
-    ⊎ ((heard : Heard) × AnswersRound state heard old lines new)
+    (lines ≡ [])
+    ⊎ ((it : Answer) × (it.lines.items ≡ lines) × MayBeAnswered state old it new)
 
 -- The lines of an answer were written that were allowed as the book was then.
 abbrev pub GivesAnswer : {D X E : Type 0} → (D → DiskState) → (old new : BookView D)

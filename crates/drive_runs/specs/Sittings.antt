@@ -12,6 +12,22 @@ use Rattle.drive_runs.specs.declared.sittings.Sitting.{Sitting}
 
 -- ---- the plan
 
+-- Two plans are the same, but one of them may want another night.
+pub record IsSamePlan (n m : NightPlan) : Type 0 where
+  pub plan : m.plan ≡ n.plan
+  pub groups : m.groups ≡ n.groups
+  pub keys : m.keys ≡ n.keys
+  pub untils : m.untils ≡ n.untils
+  pub all : m.all ≡ n.all
+
+-- Two sittings are of the same night, and of the same plan with its names and deadlines.
+pub record IsSameNight (s t : Sitting) : Type 0 where
+  pub plan : t.plan ≡ s.plan
+  pub names : t.names ≡ s.names
+  pub untils : t.untils ≡ s.untils
+  pub all : t.all ≡ s.all
+  pub night : t.kept.night ≡ s.kept.night
+
 -- The sitting is one of this plan.
 pub record HasPlan (s : Sitting) (n : NightPlan) : Type 0 where
   pub plan : n.plan ≡ s.plan

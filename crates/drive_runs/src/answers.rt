@@ -1,10 +1,11 @@
 //! The answer to a part of the input: its lines are made, written one after another, and flushed.
 
-ghost use Rattle.std.specs.Prelude.{◌≡◌, IfErr, IfOk, OnErr, OnOk, [], true};
+ghost use Rattle.std.specs.Prelude.{◌≡◌, ◌∷◌, IfErr, IfOk, OnErr, OnOk, []};
 ghost use Rattle.std.specs.Io.KnownBytes.{Appends};
 ghost use Rattle.plan_lines.specs.Writing.{WritesPrefix};
 ghost use Rattle.drive_lines.specs.Orders.{order_lines};
-ghost use Rattle.drive_runs.specs.Answers.{AreQuiet, is_quiet};
+ghost use Rattle.drive_runs.specs.Answers.{Hinders, IsSilent, Says, end_line};
+ghost use Rattle.drive_runs.specs.declared.openings.Hindrance.TheVariants as hindrance;
 
 use crate::drive_ends::DriveEnd;
 use crate::openings::Hindrance;
@@ -27,7 +28,7 @@ pub struct Answer {
 
 /// Nothing is answered.
 pub fn nothing(alloc: Global, next: Next) -> Answer
-    ensures { result.lines.items ≡ [] }
+    ensures { IsSilent next result }
 {
     Answer {
         lines: Vec::new(alloc),
@@ -35,21 +36,17 @@ pub fn nothing(alloc: Global, next: Next) -> Answer
     }
 }
 
-/// An answer of one line.
+/// An answer of one line, and the empty one.
 pub fn end_with(alloc: Global, line: Order, next: Next) -> Result<Answer, AllocError>
-    requires { is_quiet line ≡ true }
-    ensures { IfOk result (λ answer. AreQuiet answer.lines.items) }
+    ensures { IfOk result (Says line next) }
 {
-    Ok(Answer {
-        lines: one_line(alloc, line)?,
-        next,
-    })
+    let lines = one_line(alloc, line)?;
+    Ok(Answer { lines, next })
 }
 
 /// The lines of an answer of one line: this one, and the empty one.
 pub fn one_line(alloc: Global, line: Order) -> Result<Vec<Order>, AllocError>
-    requires { is_quiet line ≡ true }
-    ensures { IfOk result (λ lines. AreQuiet lines.items) }
+    ensures { IfOk result (λ lines. lines.items ≡ line ∷ end_line ∷ []) }
 {
     let mut lines = Vec::new(alloc);
     lines.push(line)?;
@@ -59,7 +56,7 @@ pub fn one_line(alloc: Global, line: Order) -> Result<Vec<Order>, AllocError>
 
 /// The answer of a run that something hinders.
 pub fn hindered(alloc: Global, hindrance: Hindrance) -> Result<Answer, AllocError>
-    ensures { IfOk result (λ answer. AreQuiet answer.lines.items) }
+    ensures { IfOk result (Hinders hindrance) }
 {
     match hindrance {
         Hindrance::Full => end_with(alloc, Order::Full, Next::End(DriveEnd::Full)),
@@ -69,7 +66,7 @@ pub fn hindered(alloc: Global, hindrance: Hindrance) -> Result<Answer, AllocErro
 
 /// The answer of a run that a fault of the store ends.
 pub fn fail(alloc: Global, fault: Fault) -> Result<Answer, AllocError>
-    ensures { IfOk result (λ answer. AreQuiet answer.lines.items) }
+    ensures { IfOk result (Hinders (hindrance.Fault fault)) }
 {
     end_with(
         alloc,

@@ -1,6 +1,6 @@
 //! Laws of what a run reports, and of what it leaves of a store.
 
-ghost use Rattle.std.specs.Prelude.{◌≡◌, ℕ, List, Ok, Some};
+ghost use Rattle.std.specs.Prelude.{◌≡◌, ℕ, List, Ok, Some, true};
 ghost use Rattle.run_model.specs.declared.answers.Reply.{Reply};
 ghost use Rattle.book_model.specs.Books.{BookView, IsReached, acked};
 ghost use Rattle.book_model.specs.Openings.{Opens};
@@ -9,12 +9,16 @@ ghost use Rattle.book_model.specs.Steps.{StepsOn};
 ghost use Rattle.book_model.specs.Stores.{StoresOpened, StoresPrefix, restarted};
 ghost use Rattle.night_drive.specs.declared.names.Names.{Names as NamesOf};
 ghost use Rattle.night_plan.specs.declared.commands.Command.{Command};
+ghost use Rattle.night_plan.specs.declared.standings.Standing.{Standing};
+ghost use Rattle.night_plan.specs.Nights.{Night};
 ghost use Rattle.drive_steps.specs.declared.reported.Begun.{Begun};
 ghost use Rattle.drive_steps.specs.Reported.{begins_reported};
 ghost use Rattle.drive_steps.specs.Starts.{row_of};
 ghost use Rattle.run_model.specs.State.{State};
-ghost use Rattle.drive_runs.specs.Laws.{IsPlayedWhole, Reaches};
+ghost use Rattle.drive_runs.specs.declared.living.Living.{Living};
+ghost use Rattle.drive_runs.specs.Laws.{IsOver, IsPlayedWhole, Reaches};
 ghost use Rattle.drive_runs.specs.Moving.{Moves};
+ghost use Rattle.drive_runs.specs.Rounds.{AreStandings, is_over};
 ghost use Rattle.drive_runs.specs.Runs.{Answers, Sittings};
 
 use run_disk::RunDisk;
@@ -28,6 +32,12 @@ pub fn what_is_reported_was_played_whole<D: RunDisk>()
         → StepsOn D.state old (row_of p names commands chosen) answers new
         → begins_reported chosen answers ≡ Some begun
         → IsPlayedWhole old (row_of p names commands chosen) answers new }
+{}
+
+/// If the answer to a round says that the night is over, each command is final, and no try lives.
+pub fn a_night_is_over_when_all_is_final()
+    ensures { (n : Night) (now : ℕ) (all : List Standing) (living : List Living)
+        → AreStandings n now all → is_over all living ≡ true → IsOver n living }
 {}
 
 /// Suppose that a run begins on an honest disk at rest, which stores state `p`. Each time the run

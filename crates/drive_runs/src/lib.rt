@@ -2,6 +2,7 @@
 #![tactic(auto)]
 
 pub mod answers;
+pub mod asks;
 pub mod begins;
 pub mod bindings;
 pub mod drive_ends;

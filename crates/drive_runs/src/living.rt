@@ -116,7 +116,7 @@ pub fn without(alloc: Global, living: &[Living], tasks: &[u16]) -> Result<Vec<Li
 }
 
 /// Returns whether a task is one of these.
-fn is_among(tasks: &[u16], task: u16) -> bool
+pub(crate) fn is_among(tasks: &[u16], task: u16) -> bool
     ensures { result ≡ is_among tasks.now task }
 {
     tasks.iter().any(|other| *other == task)

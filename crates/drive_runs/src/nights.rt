@@ -19,7 +19,7 @@ use drive_nights::nights::night_text;
 use drive_nights::openings::growth_of;
 use drive_nights::replies::are_taken;
 use drive_parts::plans::NightPlan;
-use drive_steps::rooms::last_group;
+use drive_steps::rooms::{are_housed, last_group};
 use night_drive::seen::last_try;
 use run_book::Book;
 use run_disk::RunDisk;
@@ -104,7 +104,8 @@ pub fn missing_groups<D: RunDisk, A: Allocator>(
             return Ok(Some(Hindrance::Full));
         }
     }
-    Ok(hindered_by(None, book.state(), sitting))
+    let is_open = are_housed(book.state(), &sitting.names);
+    Ok(hindered_by(None, is_open))
 }
 
 /// Marks a night as ended. Returns what hinders that, if anything does.

@@ -1,8 +1,8 @@
 //! The night is opened in a store, and the tries that live get tasks again.
 
-ghost use Rattle.drive_runs.specs.Answers.{BeginsNone};
-ghost use Rattle.drive_runs.specs.Rounds.{AsksNothing};
+ghost use Rattle.drive_runs.specs.Answers.{AreBound, AreRebounds};
 ghost use Rattle.drive_runs.specs.Moving.{Moves};
+ghost use Rattle.drive_runs.specs.Opens.{EndsOthers, Opens, hindered_by};
 ghost use Rattle.std.specs.Bool.{OnTrue};
 ghost use Rattle.std.specs.List.{list_all};
 ghost use Rattle.std.specs.Prelude.{◌≡◌, ◌<◌, All, IfOk};
@@ -17,13 +17,14 @@ use crate::tries::try_name;
 use drive_lines::orders::Order;
 use drive_nights::endings::endings_of;
 use drive_nights::names::is_short;
+use drive_nights::nights::last_night;
 use drive_nights::openings::opening_of;
 use drive_nights::replies::are_taken;
 use drive_steps::reported::Begun;
 use drive_steps::rooms::are_housed;
 use run_book::Book;
 use run_disk::RunDisk;
-use run_model::{Fault, Name};
+use run_model::{Fault, Name, Step};
 use run_session::State;
 use std::alloc::{AllocError, Allocator, Global};
 
@@ -46,14 +47,17 @@ fn are_short(groups: &[Name], night: u64) -> bool
     groups.iter().all(|group| is_short(group, night))
 }
 
-/// Makes in the store what the night needs, and returns what hinders the night, if anything does.
+/// Makes in the store what the night needs, and ends what is left of other nights. Returns what
+/// hinders the night, if anything does. The other nights are ended also if the store has no room
+/// for this one: then a renewal makes room.
 #[tactic(auto, using(crate::proofs::Moving::moves_none, crate::proofs::Moving::moves_then))]
 pub fn open_night<D: RunDisk, A: Allocator>(
     alloc: Global,
     book: &mut Book<D, A>,
     sitting: &Sitting,
 ) -> Result<Option<Hindrance>, AllocError>
-    ensures { Moves D.state book.old book.new }
+    ensures opens { IfOk result (λ found. Opens D.state sitting.now book.old found book.new) }
+    ensures moves { Moves D.state book.old book.new }
 {
     let night = sitting.kept.night;
     if night >= LATE || !are_short(sitting.names.groups.as_slice(), night) {
@@ -71,37 +75,35 @@ pub fn open_night<D: RunDisk, A: Allocator>(
     if let Some(fault) = first_fault(replies.as_slice()) {
         return Ok(Some(Hindrance::Fault(fault)));
     }
-    if !are_taken(replies.as_slice()) {
-        return Ok(Some(Hindrance::Full));
-    }
-    let fault = end_others(alloc, book, night)?;
-    Ok(hindered_by(fault, book.state(), sitting))
+    let fault = end_others(alloc, book)?;
+    let is_open = are_taken(replies.as_slice()) && are_housed(book.state(), &sitting.names);
+    Ok(hindered_by(fault, is_open))
 }
 
-/// Ends what is left of other nights, as far as the store has room for that. Returns a fault, if
-/// one is met.
+/// Ends what is left of all nights but the last one, as far as the store has room for that, and
+/// makes it durable. Returns a fault, if one is met.
 #[tactic(auto, using(crate::proofs::Moving::moves_none, crate::proofs::Moving::moves_then))]
 fn end_others<D: RunDisk, A: Allocator>(
     alloc: Global,
     book: &mut Book<D, A>,
-    night: u64,
 ) -> Result<Option<Fault>, AllocError>
-    ensures { Moves D.state book.old book.new }
+    ensures ends { IfOk result (λ found. EndsOthers D.state book.old found book.new) }
+    ensures moves { Moves D.state book.old book.new }
 {
-    let steps = endings_of(alloc, book.state(), night)?;
+    let last = last_night(book.state());
+    let mut steps = endings_of(alloc, book.state(), last)?;
+    steps.push(Step::Flush)?;
     let replies = play(alloc, book, steps.as_slice())?;
     Ok(first_fault(replies.as_slice()))
 }
 
-/// Returns what hinders a night: a fault, or that a group has no place in the store.
-pub fn hindered_by<A: Allocator>(
-    fault: Option<Fault>,
-    state: &State<A>,
-    sitting: &Sitting,
-) -> Option<Hindrance> {
+/// Returns what hinders a night: a fault, or that it isn't open.
+pub fn hindered_by(fault: Option<Fault>, is_open: bool) -> Option<Hindrance>
+    ensures { result ≡ hindered_by fault is_open }
+{
     match fault {
         Some(fault) => Some(Hindrance::Fault(fault)),
-        None if are_housed(state, &sitting.names) => None,
+        None if is_open => None,
         None => Some(Hindrance::Full),
     }
 }
@@ -121,7 +123,7 @@ pub fn bind_all<D: RunDisk, A: Allocator>(
     book: &mut Book<D, A>,
     sitting: &mut Sitting,
 ) -> Result<Bound, AllocError>
-    ensures bound { IfOk result BeginsNone }
+    ensures bound { IfOk result AreBound }
     ensures moves { Moves D.state book.old book.new }
 {
     let commands = commands_of(alloc, sitting.kept.living.as_slice())?;
@@ -170,13 +172,13 @@ fn rebind(living: &mut Vec<Living>, begun: &[Begun]) {
 }
 
 /// Returns an order for each try that has another task now.
-#[tactic(auto, using(crate::proofs::Ordering::quiet_more, crate::proofs::Ordering::stopless_more))]
+#[tactic(auto, using(crate::proofs::Ordering::rebound_more))]
 fn rebound_orders<A: Allocator>(
     alloc: Global,
     state: &State<A>,
     begun: &[Begun],
 ) -> Result<Vec<Order>, AllocError>
-    ensures { IfOk result (λ orders. AsksNothing orders.items) }
+    ensures { IfOk result (λ orders. AreRebounds orders.items) }
 {
     let mut orders = Vec::new(alloc);
     for begin in begun {

@@ -1,9 +1,10 @@
 //! The parts of an input are read line by line, and answered when they end.
 
-ghost use Rattle.std.specs.Prelude.{IfOk};
-ghost use Rattle.drive_lines.specs.Orders.{order_lines};
-ghost use Rattle.drive_runs.specs.Answers.{AreQuiet, Writes};
-ghost use Rattle.drive_runs.specs.Parts.{AnswersLine, AnswersPart, LeavesAlone, TakesLine};
+ghost use Rattle.std.specs.Prelude.{◌≡◌, IfOk};
+ghost use Rattle.std.specs.Option.{option_map};
+ghost use Rattle.drive_runs.specs.declared.parts.Part.TheVariants as part;
+ghost use Rattle.drive_runs.specs.Parts.{AnswersLine, AnswersMore, AnswersPart, Gains, Gives};
+ghost use Rattle.drive_runs.specs.Parts.{HearsIn, LeavesAlone, Rejects, TakesLine};
 ghost use Rattle.drive_runs.specs.Moving.{Moves};
 
 use crate::answers::{Answer, end_with, nothing, write_answer};
@@ -13,6 +14,7 @@ use crate::plan_parts::end_plan;
 use crate::round_parts::{Rest, RoundKind, end_round};
 use crate::sittings::{Kept, Sitting};
 use console_lines::RunFault;
+use drive_lines::fields::TryName;
 use drive_lines::inputs::NextLine;
 use drive_lines::orders::Order;
 use drive_lines::reports::Report;
@@ -48,8 +50,7 @@ pub enum Next {
 
 /// Writes an answer, if it has lines.
 pub fn give<W: Write>(answer: Answer, output: &mut W) -> Result<Next, RunFault>
-    ensures { Writes (W.contents output.old) (W.contents output.new) result
-        (order_lines answer.lines.items) }
+    ensures { Gives answer (W.contents output.old) (W.contents output.new) result }
 {
     let Answer { lines, next } = answer;
     if !lines.is_empty() {
@@ -67,8 +68,8 @@ pub fn take_line<D: RunDisk, A: Allocator, W: Write>(
     number: u64,
     output: &mut W,
 ) -> Result<Next, RunFault>
-    ensures taken { TakesLine D.state part found book.old book.new (W.contents output.old)
-        (W.contents output.new) result }
+    ensures taken { TakesLine D.state part found number book.old book.new
+        (W.contents output.old) (W.contents output.new) result }
     ensures alone { LeavesAlone found book.old book.new }
     ensures moves { Moves D.state book.old book.new }
 {
@@ -88,7 +89,7 @@ fn answer_to<D: RunDisk, A: Allocator>(
     number: u64,
 ) -> Result<Answer, AllocError>
     ensures answered { IfOk result (λ answer.
-        AnswersLine D.state part found book.old answer.lines.items book.new) }
+        AnswersLine D.state part found number book.old answer book.new) }
     ensures alone { LeavesAlone found book.old book.new }
     ensures moves { Moves D.state book.old book.new }
 {
@@ -96,10 +97,20 @@ fn answer_to<D: RunDisk, A: Allocator>(
         NextLine::InputEnded => Ok(nothing(alloc, Next::End(DriveEnd::InputEnded))),
         NextLine::Bad => reject(alloc, number),
         NextLine::PartEnded => end_part(alloc, book, part),
-        NextLine::Report(report) => match add(alloc, book.state(), part, report)? {
-            Some(part) => Ok(nothing(alloc, Next::Part(part))),
-            None => reject(alloc, number),
-        },
+        NextLine::Report(report) => {
+            let more = add(alloc, book.state(), part, report)?;
+            answer_more(alloc, more, number)
+        }
+    }
+}
+
+/// Nothing is answered to a line that was added to its part. One that can't come next is bad.
+fn answer_more(alloc: Global, more: Option<Part>, number: u64) -> Result<Answer, AllocError>
+    ensures { IfOk result (AnswersMore number more) }
+{
+    match more {
+        Some(part) => Ok(nothing(alloc, Next::Part(part))),
+        None => reject(alloc, number),
     }
 }
 
@@ -109,17 +120,49 @@ fn add<A: Allocator>(
     state: &State<A>,
     part: Part,
     report: Report,
-) -> Result<Option<Part>, AllocError> {
+) -> Result<Option<Part>, AllocError>
+    ensures { IfOk result (Gains part report) }
+{
     match part {
-        Part::Plan(draft) => match draft.add(alloc, report)? {
-            Some(draft) => Ok(Some(Part::Plan(draft))),
-            None => Ok(None),
-        },
+        Part::Plan(draft) => {
+            let drafts = draft.add(alloc, report)?;
+            Ok(plan_part(drafts))
+        }
         Part::First(kept, lives, heard) => add_first(alloc, state, kept, lives, heard, report),
-        Part::Round(kept, heard) => match heard.hear(alloc, report)? {
-            Some(heard) => Ok(Some(Part::Round(kept, heard))),
-            None => Ok(None),
-        },
+        Part::Round(kept, heard) => {
+            let drafts = heard.hear(alloc, report)?;
+            Ok(round_part(kept, drafts))
+        }
+    }
+}
+
+/// The part of a plan of which this was read, if it was.
+fn plan_part(draft: Option<PlanDraft>) -> Option<Part>
+    ensures { result ≡ option_map part.Plan draft }
+{
+    match draft {
+        Some(draft) => Some(Part::Plan(draft)),
+        None => None,
+    }
+}
+
+/// The part of a round of which this was read, if it was.
+fn round_part(kept: Kept, heard: Option<HeardDraft>) -> Option<Part>
+    ensures { result ≡ option_map (part.Round kept) heard }
+{
+    match heard {
+        Some(heard) => Some(Part::Round(kept, heard)),
+        None => None,
+    }
+}
+
+/// The part of a first round of which this was read, if it was.
+fn first_part(kept: Kept, lives: LivesDraft, heard: Option<HeardDraft>) -> Option<Part>
+    ensures { result ≡ option_map (part.First kept lives) heard }
+{
+    match heard {
+        Some(heard) => Some(Part::First(kept, lives, heard)),
+        None => None,
     }
 }
 
@@ -131,13 +174,26 @@ fn add_first<A: Allocator>(
     lives: LivesDraft,
     heard: HeardDraft,
     report: Report,
+) -> Result<Option<Part>, AllocError>
+    ensures { IfOk result (Gains (part.First kept lives heard) report) }
+{
+    match report {
+        Report::Lives(named) => add_living(state, kept, lives, heard, named),
+        _ => {
+            let drafts = heard.hear(alloc, report)?;
+            Ok(first_part(kept, lives, drafts))
+        }
+    }
+}
+
+/// Returns the first round with a try that lives, or `None` if it can't be named so.
+fn add_living<A: Allocator>(
+    state: &State<A>,
+    kept: Kept,
+    lives: LivesDraft,
+    heard: HeardDraft,
+    named: TryName,
 ) -> Result<Option<Part>, AllocError> {
-    let Report::Lives(named) = report else {
-        return match heard.hear(alloc, report)? {
-            Some(heard) => Ok(Some(Part::First(kept, lives, heard))),
-            None => Ok(None),
-        };
-    };
     let Some(living) = living_of(state, &heard.growth.plan, kept.night, &named) else {
         return Ok(None);
     };
@@ -151,7 +207,7 @@ fn add_first<A: Allocator>(
 
 /// Answers a bad line.
 fn reject(alloc: Global, number: u64) -> Result<Answer, AllocError>
-    ensures { IfOk result (λ answer. AreQuiet answer.lines.items) }
+    ensures { IfOk result (Rejects number) }
 {
     end_with(
         alloc,
@@ -167,7 +223,7 @@ fn end_part<D: RunDisk, A: Allocator>(
     part: Part,
 ) -> Result<Answer, AllocError>
     ensures answered { IfOk result (λ answer.
-        AnswersPart D.state part book.old answer.lines.items book.new) }
+        AnswersPart D.state part book.old answer book.new) }
     ensures moves { Moves D.state book.old book.new }
 {
     match part {

@@ -1,10 +1,13 @@
 //! The part of the input that is a plan opens a night, or is refused.
 
-ghost use Rattle.std.specs.Prelude.{IfOk};
-ghost use Rattle.drive_runs.specs.Answers.{AreQuiet};
+ghost use Rattle.std.specs.Prelude.{◌≡◌, ◌∷◌, IfOk, IfSome, [], map};
+ghost use Rattle.drive_lines.specs.declared.orders.Order.TheVariants as order;
+ghost use Rattle.plan_lines.specs.declared.answers.AnswerLine.TheVariants as answer;
+ghost use Rattle.drive_runs.specs.Answers.{end_line};
 ghost use Rattle.drive_runs.specs.Moving.{Moves};
+ghost use Rattle.drive_runs.specs.Parts.{AnswersPlan, IsLong, MayOpen, TakesPlan, refused_lines};
 
-use crate::answers::{Answer, end_with, hindered};
+use crate::answers::{Answer, end_with, hindered, one_line};
 use crate::drive_ends::DriveEnd;
 use crate::nights::other_task;
 use crate::openings::open_night;
@@ -16,10 +19,11 @@ use drive_nights::nights::night_of_store;
 use drive_parts::lives::LivesDraft;
 use drive_parts::plans::{NightPlan, PlanDraft, PlanRefusal};
 use drive_parts::rounds::HeardDraft;
-use night_plan::plans::PlanFault;
 use plan_lines::answers::AnswerLine;
+use plan_lines::rounds::refused_answer;
 use run_book::Book;
 use run_disk::RunDisk;
+use run_model::Name;
 use std::alloc::{AllocError, Allocator, Global};
 
 /// Opens the night of a plan, or says why the plan is refused.
@@ -29,53 +33,54 @@ pub(crate) fn end_plan<D: RunDisk, A: Allocator>(
     book: &mut Book<D, A>,
     draft: PlanDraft,
 ) -> Result<Answer, AllocError>
-    ensures quiet { IfOk result (λ answer. AreQuiet answer.lines.items) }
+    ensures answered { IfOk result (AnswersPlan book.old.session.state draft) }
     ensures moves { Moves D.state book.old book.new }
 {
     match draft.finish(alloc) {
         Ok(plan) => begin_night(alloc, book, plan),
-        Err(refusal) => Ok(Answer {
-            lines: refusal_lines(alloc, refusal)?,
-            next: Next::End(DriveEnd::Refused),
-        }),
+        Err(refusal) => {
+            let lines = refusal_lines(alloc, refusal)?;
+            Ok(Answer {
+                lines,
+                next: Next::End(DriveEnd::Refused),
+            })
+        }
     }
 }
 
 /// Returns the lines that say why a plan is refused.
-#[tactic(auto, using(crate::proofs::Ordering::quiet_line))]
 fn refusal_lines(alloc: Global, refusal: PlanRefusal) -> Result<Vec<Order>, AllocError>
-    ensures { IfOk result (λ lines. AreQuiet lines.items) }
+    ensures { IfOk result (λ lines. lines.items ≡ refused_lines refusal) }
 {
-    let mut lines = Vec::new(alloc);
     match refusal {
-        PlanRefusal::Name(group) => lines.push(Order::Name(group as u64))?,
-        PlanRefusal::Twice(command) => lines.push(Order::Twice(command as u64))?,
-        PlanRefusal::Fault(PlanFault::Memory) => return Err(AllocError),
-        PlanRefusal::Fault(PlanFault::Unknown(command)) => {
-            lines.push(Order::Answer(AnswerLine::Unknown(command)))?
-        }
-        PlanRefusal::Fault(PlanFault::TooMuch(command)) => {
-            lines.push(Order::Answer(AnswerLine::TooMuch(command)))?
-        }
-        PlanRefusal::Fault(PlanFault::Circle(members)) => {
-            lines.push(Order::Answer(AnswerLine::Circle))?;
-            for member in &members {
-                lines.push(Order::Answer(AnswerLine::Member(*member)))?;
-            }
+        PlanRefusal::Name(group) => one_line(alloc, Order::Name(group as u64)),
+        PlanRefusal::Twice(command) => one_line(alloc, Order::Twice(command as u64)),
+        PlanRefusal::Fault(fault) => {
+            let lines = refused_answer(alloc, &fault)?;
+            orders_of(alloc, lines.as_slice())
         }
     }
-    lines.push(Order::Answer(AnswerLine::End))?;
-    Ok(lines)
 }
 
-/// Opens the night of a plan.
+/// Returns these lines as those of the answer to an executor.
+fn orders_of(alloc: Global, lines: &[AnswerLine]) -> Result<Vec<Order>, AllocError>
+    ensures { IfOk result (λ orders. orders.items ≡ map order.Answer lines.now) }
+{
+    let mut orders = Vec::new(alloc);
+    for line in lines {
+        orders.push(Order::Answer(*line))?;
+    }
+    Ok(orders)
+}
+
+/// Opens the night of a plan, if the store can have one.
 #[tactic(auto, using(crate::proofs::Moving::moves_none))]
 fn begin_night<D: RunDisk, A: Allocator>(
     alloc: Global,
     book: &mut Book<D, A>,
     plan: NightPlan,
 ) -> Result<Answer, AllocError>
-    ensures quiet { IfOk result (λ answer. AreQuiet answer.lines.items) }
+    ensures answered { IfOk result (TakesPlan book.old.session.state plan) }
     ensures moves { Moves D.state book.old book.new }
 {
     let refused = Next::End(DriveEnd::Refused);
@@ -83,29 +88,56 @@ fn begin_night<D: RunDisk, A: Allocator>(
         return end_with(alloc, Order::Other(task as u64), refused);
     }
     let night = night_of_store(book.state(), plan.next);
-    for g in 0..plan.groups.len() {
-        if !is_short(&plan.groups[g], night) {
-            return end_with(alloc, Order::Name(g as u64), refused);
+    if let Some(group) = first_long(plan.groups.as_slice(), night) {
+        return end_with(alloc, Order::Name(group as u64), refused);
+    }
+    open_first(alloc, book, plan, night)
+}
+
+/// Returns the first of these groups whose name leaves no room for the number of the night.
+fn first_long(groups: &[Name], night: u64) -> Option<usize>
+    ensures { IfSome result (IsLong night groups.now) }
+{
+    for (g, group) in groups.iter().enumerate() {
+        if !is_short(group, night) {
+            return Some(g);
         }
     }
+    None
+}
+
+/// Opens the night of a plan, for the first time in this run.
+#[tactic(auto, using(crate::proofs::Moving::moves_none))]
+fn open_first<D: RunDisk, A: Allocator>(
+    alloc: Global,
+    book: &mut Book<D, A>,
+    plan: NightPlan,
+    night: u64,
+) -> Result<Answer, AllocError>
+    ensures opened { IfOk result (MayOpen book.old.session.state plan night) }
+    ensures moves { Moves D.state book.old book.new }
+{
     let count = plan.plan.commands.len();
     let now = book.state().clock().get();
-    let kept = Kept::new(alloc, &plan.plan, night, now)?;
-    let sitting = Sitting::of(plan, kept);
+    let fresh = Kept::new(alloc, &plan.plan, night, now)?;
+    let sitting = Sitting::of(plan, fresh);
     if let Some(hindrance) = open_night(alloc, book, &sitting)? {
         return hindered(alloc, hindrance);
     }
-    let (plan, kept) = sitting.parts();
-    let heard = HeardDraft::new(alloc, plan, Vec::new(alloc));
+    let (rounds, kept) = sitting.parts();
+    let heard = HeardDraft::new(alloc, rounds, Vec::new(alloc));
+    let lives = LivesDraft::new(alloc);
+    let lines = opened_lines(alloc, count, night)?;
     Ok(Answer {
-        lines: opened_lines(alloc, count, night)?,
-        next: Next::Part(Part::First(kept, LivesDraft::new(alloc), heard)),
+        lines,
+        next: Next::Part(Part::First(kept, lives, heard)),
     })
 }
 
 /// The answer to a plan that was taken.
 fn opened_lines(alloc: Global, commands: usize, night: u64) -> Result<Vec<Order>, AllocError>
-    ensures { IfOk result (λ lines. AreQuiet lines.items) }
+    ensures { IfOk result (λ lines. lines.items
+        ≡ order.Answer (answer.Plan commands) ∷ order.Night night ∷ end_line ∷ []) }
 {
     let mut lines = Vec::new(alloc);
     lines.push(Order::Answer(AnswerLine::Plan(commands)))?;

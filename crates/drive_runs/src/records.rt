@@ -1,19 +1,19 @@
 //! What was heard in a round is recorded in a book.
 
-ghost use Rattle.std.specs.Bool.{OnTrue};
 ghost use Rattle.std.specs.List.{filter_map, list_all};
-ghost use Rattle.std.specs.Prelude.{◌≡◌, ◌<◌, All, IfOk, IfSome, drop, length, map, true};
+ghost use Rattle.std.specs.Prelude.{◌≡◌, IfOk, MatchOption, length, ltb, map};
 ghost use Rattle.drive_steps.specs.declared.cancels.CommandCancel.{CommandCancel as CancelOf};
 ghost use Rattle.drive_steps.specs.declared.cancels.GroupCancel.{GroupCancel as GroupCancelOf};
-ghost use Rattle.drive_steps.specs.Cancels.{AreTaken, are_started};
+ghost use Rattle.drive_steps.specs.Cancels.{AreTaken};
 ghost use Rattle.drive_steps.specs.Rounds.{record_of};
 ghost use Rattle.drive_runs.specs.Living.{as_recorded};
-ghost use Rattle.drive_runs.specs.Records.{IsWell, Records, end_of_gone, ends_of, is_met};
-ghost use Rattle.drive_runs.specs.Records.{once_canceled};
+ghost use Rattle.drive_runs.specs.Records.{Becomes, HasNoSteps, Records, are_numbered};
+ghost use Rattle.drive_runs.specs.Records.{end_of_gone, ends_of, is_met, is_of_plan, is_whole};
+ghost use Rattle.drive_runs.specs.Records.{once_canceled, some_gone};
 ghost use Rattle.drive_runs.specs.Moving.{Moves};
 
 use crate::faults::first_fault;
-use crate::living::{Living, after_ends, as_recorded, reason_of, without};
+use crate::living::{Living, after_ends, as_recorded, is_among, reason_of, without};
 use crate::plays::play;
 use crate::sittings::Sitting;
 use drive_parts::heard::Heard;
@@ -64,8 +64,8 @@ pub fn record<D: RunDisk, A: Allocator>(
     note(&mut sitting.kept.ends, ends, now.get())?;
     let replies = play(alloc, book, recording.steps.as_slice())?;
     let left = after_ends(alloc, parts.living.as_slice(), ends)?;
+    let is_gone = some_gone(left.as_slice(), heard.gone.as_slice());
     let living = without(alloc, left.as_slice(), heard.gone.as_slice())?;
-    let is_gone = living.len() < left.len();
     sitting.kept.living = living;
     Ok(what_became(ends, taken, replies.as_slice(), is_gone))
 }
@@ -77,8 +77,7 @@ fn what_became(
     replies: &[Reply],
     is_gone: bool,
 ) -> Recorded
-    ensures { IsWell result → (list_all is_met replies.now ≡ true)
-        × (are_started taken.now (drop (length ends.now) replies.now) ≡ true) }
+    ensures { Becomes (length ends.now) taken.now replies.now is_gone result }
 {
     if let Some(fault) = first_fault(replies) {
         return Recorded::Faulty(fault);
@@ -86,7 +85,7 @@ fn what_became(
     if !had_room(replies) {
         return Recorded::Reopen;
     }
-    if !are_met(replies) || !were_canceled(ends.len(), taken, replies) {
+    if !is_whole(ends.len(), taken, replies) {
         return Recorded::Full;
     }
     if is_gone {
@@ -94,6 +93,14 @@ fn what_became(
     } else {
         Recorded::Well
     }
+}
+
+/// Returns whether each step was taken or had nothing to do, and whether a task was submitted and
+/// started for each of these cancels. This many ends came before them.
+fn is_whole(ends: usize, taken: &[CommandCancel], replies: &[Reply]) -> bool
+    ensures { result ≡ is_whole ends taken.now replies.now }
+{
+    are_met(replies) && were_canceled(ends, taken, replies)
 }
 
 /// Returns whether each step was taken, or had nothing to do.
@@ -112,6 +119,13 @@ fn is_met(reply: &Reply) -> bool
         Reply::Refused(_) | Reply::Faulty(_) => false,
         _ => true,
     }
+}
+
+/// Returns whether one of these tries is gone.
+fn some_gone(living: &[Living], gone: &[u16]) -> bool
+    ensures { result ≡ some_gone gone.now living.now }
+{
+    living.iter().any(|one| is_among(gone, one.task))
 }
 
 /// What becomes of the living tries by what was heard.
@@ -151,8 +165,9 @@ fn steps_of<A: Allocator>(
     heard: &Heard,
     now: Moment,
 ) -> Result<Option<Recording>, AllocError>
-    ensures { IfOk result (λ found. IfSome found (λ recording.
-        AreTaken state.now sitting.now.names sitting.now.plan.commands.items ends.now
+    ensures { IfOk result (λ found. MatchOption found
+        (HasNoSteps state.now sitting.now ends.now heard.now)
+        (λ recording. AreTaken state.now sitting.now.names sitting.now.plan.commands.items ends.now
         heard.now.cancels.items recording.taken.items
         × (recording.steps.items ≡ record_of state.now sitting.now.names
         sitting.now.plan.commands.items ends.now recording.taken.items heard.now.done.items
@@ -160,17 +175,11 @@ fn steps_of<A: Allocator>(
 {
     let (plan, names) = (&sitting.plan, &sitting.names);
     let (cancels, groups) = (heard.cancels.as_slice(), heard.done.as_slice());
-    let are_there = are_housed(state, names)
-        && are_of_plan(cancels, plan.commands.len())
-        && have_names(groups, names.groups.len());
-    if !are_there {
+    if !is_of_plan(state, sitting, heard) {
         return Ok(None);
     }
     let taken = taken_cancels(alloc, state, plan, names, ends, cancels)?;
-    let are_numbered = are_of_plan(taken.as_slice(), plan.commands.len())
-        && taken.len() < 4096
-        && state.task_count() < 32768;
-    if !are_numbered {
+    if !are_numbered(state, sitting, taken.as_slice()) {
         return Ok(None);
     }
     let steps = record_of(
@@ -186,17 +195,35 @@ fn steps_of<A: Allocator>(
     Ok(Some(Recording { taken, steps }))
 }
 
+/// Returns whether each group of the plan has a group of the store, and what was heard names
+/// commands and groups of the plan.
+fn is_of_plan<A: Allocator>(state: &State<A>, sitting: &Sitting, heard: &Heard) -> bool
+    ensures { result ≡ is_of_plan state.now sitting.now heard.now }
+{
+    are_housed(state, &sitting.names)
+        && are_of_plan(heard.cancels.as_slice(), sitting.plan.commands.len())
+        && have_names(heard.done.as_slice(), sitting.names.groups.len())
+}
+
+/// Returns whether these cancels of commands can get tasks.
+fn are_numbered<A: Allocator>(state: &State<A>, sitting: &Sitting, taken: &[CommandCancel]) -> bool
+    ensures { result ≡ are_numbered state.now sitting.now taken.now }
+{
+    are_of_plan(taken, sitting.plan.commands.len())
+        && taken.len() < 4096
+        && state.task_count() < 32768
+}
+
 /// Returns whether these cancels name commands of a plan with this many.
 fn are_of_plan(cancels: &[CommandCancel], count: usize) -> bool
-    ensures { OnTrue result (All (λ (cancel : CancelOf). cancel.command < count)
-        cancels.now) }
+    ensures { result ≡ list_all (λ (cancel : CancelOf). ltb cancel.command count) cancels.now }
 {
     cancels.iter().all(|cancel| cancel.command < count)
 }
 
 /// Returns whether these cancels name groups of a plan with this many.
 fn have_names(groups: &[GroupCancel], count: usize) -> bool
-    ensures { OnTrue result (All (λ (cancel : GroupCancelOf). cancel.group < count) groups.now) }
+    ensures { result ≡ list_all (λ (cancel : GroupCancelOf). ltb cancel.group count) groups.now }
 {
     groups.iter().all(|cancel| cancel.group < count)
 }

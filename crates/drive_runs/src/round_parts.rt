@@ -1,10 +1,11 @@
 //! The part of the input that is a round is recorded, and then answered.
 
-ghost use Rattle.std.specs.Prelude.{◌≡◌, ◌++◌, IfOk, OnOk, true};
-ghost use Rattle.drive_steps.specs.Rooms.{are_housed};
-ghost use Rattle.drive_runs.specs.Answers.{AreQuiet, BeginsNone, MayAnswer, MayEndRound};
+ghost use Rattle.std.specs.Prelude.{◌≡◌, ◌++◌, IfOk, OnOk, map};
+ghost use Rattle.drive_runs.specs.declared.living.Living.{Living as LivingOf};
+ghost use Rattle.drive_runs.specs.declared.round_parts.RoundKind.TheVariants as round_kind;
+ghost use Rattle.drive_runs.specs.Answers.{AreBound, AreRebounds, ClosesRound, EndsNight};
+ghost use Rattle.drive_runs.specs.Answers.{GoesTo, IsRest, MayAnswer, MayEndRound, PutsBack};
 ghost use Rattle.drive_runs.specs.Answers.{closing, over_lines};
-ghost use Rattle.drive_runs.specs.Rounds.{AsksNoMore, AsksNothing};
 ghost use Rattle.drive_runs.specs.Parts.{AnswersDraft};
 ghost use Rattle.drive_runs.specs.Moving.{Moves};
 
@@ -15,7 +16,7 @@ use crate::nights::{close_night, missing_groups};
 use crate::openings::{Bound, Hindrance, bind_all, open_night};
 use crate::parts::{Next, Part};
 use crate::records::{Recorded, record};
-use crate::rounds::{Course, go_on};
+use crate::rounds::{Course, Orders, go_on};
 use crate::sittings::{Kept, Sitting};
 use drive_lines::orders::Order;
 use drive_parts::heard::Heard;
@@ -39,7 +40,9 @@ pub struct Rest {
 
 impl Rest {
     /// The same, without the ends.
-    fn without_ends(self, alloc: Global) -> Rest {
+    fn without_ends(self, alloc: Global) -> Rest
+        ensures { IsRest self.heard result }
+    {
         let Rest { mut heard, now } = self;
         heard.ends = Vec::new(alloc);
         heard.gone = Vec::new(alloc);
@@ -68,7 +71,7 @@ pub(crate) fn end_round<D: RunDisk, A: Allocator>(
     kind: RoundKind,
 ) -> Result<Answer, AllocError>
     ensures answered { IfOk result (λ answer.
-        AnswersDraft D.state heard book.old answer.lines.items book.new) }
+        AnswersDraft D.state kind heard book.old answer book.new) }
     ensures moves { Moves D.state book.old book.new }
 {
     let Round { plan, heard } = heard.finish()?;
@@ -91,7 +94,7 @@ pub(crate) fn resume<D: RunDisk, A: Allocator>(
     rest: Rest,
 ) -> Result<Answer, AllocError>
     ensures answered { IfOk result (λ answer.
-        MayAnswer D.state rest.heard book.old answer.lines.items book.new) }
+        MayAnswer D.state round_kind.Again rest.heard book.old answer book.new) }
     ensures moves { Moves D.state book.old book.new }
 {
     if let Some(hindrance) = open_night(alloc, book, &sitting)? {
@@ -111,7 +114,7 @@ fn play_round<D: RunDisk, A: Allocator>(
     kind: RoundKind,
 ) -> Result<Answer, AllocError>
     ensures answered { IfOk result (λ answer.
-        MayAnswer D.state rest.heard book.old answer.lines.items book.new) }
+        MayAnswer D.state kind rest.heard book.old answer book.new) }
     ensures moves { Moves D.state book.old book.new }
 {
     let mut sitting = sitting;
@@ -137,7 +140,7 @@ fn bind_first<D: RunDisk, A: Allocator>(
     sitting: &mut Sitting,
     kind: RoundKind,
 ) -> Result<Bound, AllocError>
-    ensures bound { IfOk result BeginsNone }
+    ensures bound { IfOk result AreBound }
     ensures moves { Moves D.state book.old book.new }
 {
     match kind {
@@ -162,7 +165,7 @@ fn open_again(
     rest: Rest,
     kind: RoundKind,
 ) -> Result<Answer, AllocError>
-    ensures quiet { IfOk result (λ answer. AreQuiet answer.lines.items) }
+    ensures { IfOk result (PutsBack kind sitting rest) }
 {
     match kind {
         RoundKind::Again => hindered(alloc, Hindrance::Full),
@@ -172,7 +175,7 @@ fn open_again(
 
 /// Lets commands begin, and answers the round. `bound` are the lines that say which tasks the tries
 /// have that lived before.
-#[tactic(auto, using(crate::proofs::Moving::moves_none, crate::proofs::Moving::moves_then))]
+#[tactic(auto, using(crate::proofs::Moving::moves_none))]
 fn answer<D: RunDisk, A: Allocator>(
     alloc: Global,
     book: &mut Book<D, A>,
@@ -181,34 +184,71 @@ fn answer<D: RunDisk, A: Allocator>(
     bound: Vec<Order>,
     kind: RoundKind,
 ) -> Result<Answer, AllocError>
-    requires { AsksNothing bound.items }
     ensures ended { IfOk result (λ answer.
-        MayEndRound D.state sitting book.old answer.lines.items book.new) }
+        MayEndRound D.state kind rest sitting book.old bound.items answer book.new) }
     ensures moves { Moves D.state book.old book.new }
 {
     let mut sitting = sitting;
     if !are_housed(book.state(), &sitting.names) {
         return hindered(alloc, Hindrance::Full);
     }
-    match go_on(alloc, book, &mut sitting, rest.heard.asked)? {
-        Course::Next(orders) => Ok(Answer {
-            lines: round_lines(bound, orders, false)?,
-            next: next_round(alloc, sitting)?,
-        }),
-        Course::Over(orders) => match close_night(alloc, book, sitting.kept.night)? {
-            None => Ok(Answer {
-                lines: round_lines(bound, orders, true)?,
-                next: Next::End(DriveEnd::Over),
-            }),
-            Some(hindrance) => hindered(alloc, hindrance),
-        },
+    match go_on(alloc, book, &mut sitting, &rest.heard)? {
+        Course::On(orders) => give_orders(alloc, book, sitting, bound, orders),
         Course::Faulty(fault) => fail(alloc, fault),
         Course::Refused => open_again(alloc, sitting, rest, kind),
     }
 }
 
-/// The next round can come.
-fn next_round(alloc: Global, sitting: Sitting) -> Result<Next, AllocError> {
+/// Answers a round by its orders, once the end of the night is marked, if the night is over.
+#[tactic(auto, using(crate::proofs::Moving::moves_none))]
+fn give_orders<D: RunDisk, A: Allocator>(
+    alloc: Global,
+    book: &mut Book<D, A>,
+    sitting: Sitting,
+    bound: Vec<Order>,
+    orders: Orders,
+) -> Result<Answer, AllocError>
+    ensures closed { IfOk result (λ answer.
+        ClosesRound D.state sitting book.old bound.items orders answer book.new) }
+    ensures moves { Moves D.state book.old book.new }
+{
+    let is_over = orders.is_over;
+    match mark_end(alloc, book, sitting.kept.night, is_over)? {
+        Some(hindrance) => hindered(alloc, hindrance),
+        None => {
+            let lines = round_lines(bound, orders)?;
+            let next = next_after(alloc, sitting, is_over)?;
+            Ok(Answer { lines, next })
+        }
+    }
+}
+
+/// Marks the end of the night, if it is over. Returns what hinders that, if anything does.
+#[tactic(auto, using(crate::proofs::Moving::moves_none))]
+fn mark_end<D: RunDisk, A: Allocator>(
+    alloc: Global,
+    book: &mut Book<D, A>,
+    night: u64,
+    is_over: bool,
+) -> Result<Option<Hindrance>, AllocError>
+    ensures ends { IfOk result (λ found.
+        EndsNight D.state night is_over book.old found book.new) }
+    ensures moves { Moves D.state book.old book.new }
+{
+    if is_over {
+        close_night(alloc, book, night)
+    } else {
+        Ok(None)
+    }
+}
+
+/// The run ends, if the night is over. Otherwise the next round can come.
+fn next_after(alloc: Global, sitting: Sitting, is_over: bool) -> Result<Next, AllocError>
+    ensures { IfOk result (GoesTo is_over sitting) }
+{
+    if is_over {
+        return Ok(Next::End(DriveEnd::Over));
+    }
     let (plan, kept) = sitting.parts();
     let living = tasks_of(alloc, kept.living.as_slice())?;
     let heard = HeardDraft::new(alloc, plan, living);
@@ -216,7 +256,9 @@ fn next_round(alloc: Global, sitting: Sitting) -> Result<Next, AllocError> {
 }
 
 /// Returns the tasks of these tries.
-fn tasks_of(alloc: Global, living: &[Living]) -> Result<Vec<u16>, AllocError> {
+fn tasks_of(alloc: Global, living: &[Living]) -> Result<Vec<u16>, AllocError>
+    ensures { IfOk result (λ tasks. tasks.items ≡ map (λ (one : LivingOf). one.task) living.now) }
+{
     let mut tasks = Vec::new(alloc);
     for one in living {
         tasks.push(one.task)?;
@@ -225,30 +267,22 @@ fn tasks_of(alloc: Global, living: &[Living]) -> Result<Vec<u16>, AllocError> {
 }
 
 /// Returns the lines of the answer to a round of which all is recorded.
-#[tactic(auto, using(crate::proofs::Ordering::quiet_more, crate::proofs::Ordering::stopless_more))]
-fn round_lines(
-    bound: Vec<Order>,
-    orders: Vec<Order>,
-    is_over: bool,
-) -> Result<Vec<Order>, AllocError>
-    ensures asks { IfOk result (λ lines. AsksNoMore (bound.items ++ orders.items) lines.items) }
-    ensures all { IfOk result (λ lines.
-        lines.items ≡ (bound.items ++ orders.items) ++ closing is_over) }
+fn round_lines(bound: Vec<Order>, orders: Orders) -> Result<Vec<Order>, AllocError>
+    ensures { IfOk result (λ lines.
+        lines.items ≡ bound.items ++ (orders.lines.items ++ closing orders.is_over)) }
 {
     let mut lines = bound;
-    let mut orders = orders;
-    lines.append(&mut orders)?;
+    let mut given = orders.lines;
+    lines.append(&mut given)?;
     lines.push(Order::Durable)?;
-    push_over(&mut lines, is_over)?;
+    push_over(&mut lines, orders.is_over)?;
     lines.push(Order::Answer(AnswerLine::End))?;
     Ok(lines)
 }
 
 /// Appends the line that says that the night is over, if it is.
-#[tactic(auto, using(crate::proofs::Ordering::quiet_more, crate::proofs::Ordering::stopless_more))]
 fn push_over(lines: &mut Vec<Order>, is_over: bool) -> Result<(), AllocError>
-    ensures asks { IfOk result (λ _. AsksNoMore lines.old.items lines.new.items) }
-    ensures all { OnOk result (lines.new.items ≡ lines.old.items ++ over_lines is_over) }
+    ensures { OnOk result (lines.new.items ≡ lines.old.items ++ over_lines is_over) }
 {
     if is_over {
         lines.push(Order::Over)?;

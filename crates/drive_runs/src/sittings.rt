@@ -11,6 +11,7 @@ use drive_nights::untils::Until;
 use drive_parts::heard::Heard;
 use drive_parts::plans::NightPlan;
 use night_drive::ends::Ends;
+use night_drive::guesses::Guesses;
 use night_drive::names::Names;
 use night_plan::commands::Plan;
 use std::alloc::{AllocError, Global};
@@ -43,6 +44,8 @@ pub struct Kept {
     pub ends: Ends,
     /// The tries that live.
     pub living: Vec<Living>,
+    /// Which commands the tasks may belong to. This only saves time.
+    pub guesses: Guesses,
 }
 
 impl Kept {
@@ -60,6 +63,7 @@ impl Kept {
                 otherwise: now,
             },
             living: Vec::new(alloc),
+            guesses: Guesses::new(alloc),
         })
     }
 }
@@ -82,6 +86,7 @@ impl Kept {
             sizes,
             ends,
             living,
+            guesses,
         } = self;
         let sizes = sizes_of(alloc, sizes.as_slice(), heard.sizes.as_slice(), pools)?;
         Ok(Kept {
@@ -89,6 +94,7 @@ impl Kept {
             sizes,
             ends: ended_by(alloc, heard.hurry, ends),
             living,
+            guesses,
         })
     }
 }

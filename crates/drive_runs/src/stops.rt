@@ -39,6 +39,7 @@ pub fn push_stops<A: Allocator>(
         &sitting.kept.ends,
         &sitting.plan,
         &sitting.names,
+        &mut sitting.kept.guesses,
         canceled.as_slice(),
         tries.as_slice(),
     )?;

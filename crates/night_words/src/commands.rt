@@ -247,7 +247,10 @@ const DRIVE: Page = Page {
     done GROUP WHY                       the group was canceled\n  \
     size POOL SIZE                       a pool has another size\n  \
     hurry                                no retry waits for its time any longer\n  \
-    group, until, command, need, take    the plan grows\n  \
+    ask COMMAND                          asks for the error of its last try\n  \
+    first GROUP                          asks for the first error of the group\n  \
+    pool, group, until, command, need, take\n  \
+    \x20                                    the plan grows\n  \
     standings                            asks how each command stands\n  \
     lives GROUP KEY TRY                  in the first round: this try still runs\n\n\
     The answers:\n\n  \
@@ -261,6 +264,8 @@ const DRIVE: Page = Page {
     begin COMMAND TASK GROUP KEY TRY     begin the command; its try is this task\n  \
     rebound COMMAND TASK GROUP KEY TRY   it runs already, and is this task from now on\n  \
     stop TASK WHY                        stop the try\n  \
+    error COMMAND TEXT                   the last try of the command has failed so\n  \
+    first GROUP TEXT                     the first error of the group\n  \
     later MOMENT                         when to report the time again\n  \
     stands COMMAND STANDING              how a command stands\n  \
     durable                              all lines so far are recorded\n  \

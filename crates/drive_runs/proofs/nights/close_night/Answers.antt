@@ -1,6 +1,6 @@
 use Rattle.std.specs.Prelude.{◌++◌, ◌∷◌, List, []}
-use Rattle.std.proofs.Common.{None, Option, Some, ap, inl, inr, refl, subst, sym, ◌≡◌, ◌∙◌}
-use Rattle.std.proofs.Common.{Bool, true, false, ℕ}
+use Rattle.std.proofs.Common.{None, Some, ap, inl, inr, refl, subst, sym, ◌≡◌, ◌∙◌}
+use Rattle.std.proofs.Common.{true}
 use Rattle.std.specs.List.{list_all}
 use Rattle.run_model.specs.State.{State}
 use Rattle.run_model.specs.declared.answers.Reply.{Reply}

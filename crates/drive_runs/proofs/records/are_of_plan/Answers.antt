@@ -2,12 +2,10 @@ use Rattle.std.proofs.Common.{ltb, rules, tests}
 use Rattle.std.proofs.lemmas.Iterator.{YieldsList-from_slice}
 use Rattle.std.proofs.lemmas.Iterator.Search.{all_from_yields_List}
 use Rattle.drive_steps.specs.declared.cancels.CommandCancel.{CommandCancel}
-use Rattle.drive_runs.proofs.Every.{all_below}
 use Rattle.drive_runs.proofs.records.are_of_plan.Goals as goal
 
 pub returns : goal.returns
 returns c =
-    all_below (λ (x : CommandCancel). x.command) c.args.count c.args.cancels.now c.all.result
-    (all_from_yields_List (λ (x : CommandCancel). ltb x.command c.args.count) _ _ c.all.result
+    all_from_yields_List (λ (x : CommandCancel). ltb x.command c.args.count) _ _ c.all.result
     c.all.ensures.ran (YieldsList-from_slice _ c.iter.ensures.rest)
-    (λ x b q k. search (rules, tests)))
+    (λ x b q k. search (rules, tests))

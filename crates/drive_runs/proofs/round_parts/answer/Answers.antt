@@ -1,51 +1,53 @@
+use Rattle.std.proofs.Common.{inl, inr, subst}
+use Rattle.std.proofs.lemmas.Result.{IfOk-weaker}
+use Rattle.drive_runs.specs.declared.answers.Answer.{Answer}
+use Rattle.drive_runs.specs.declared.openings.Hindrance.TheVariants as hindrance
 use Rattle.drive_runs.specs.declared.rounds.Course.{Course}
-use Rattle.std.proofs.Common.{Option, false, refl, subst, true}
-use Rattle.drive_runs.specs.declared.openings.Hindrance.{Hindrance}
-use Rattle.drive_runs.specs.Closing.{Closes}
+use Rattle.drive_runs.specs.Answers.{ClosesRound, Hinders, MayEndRound, PutsBack}
+use Rattle.drive_runs.specs.Asks.{questions_of}
 use Rattle.drive_runs.specs.Rounds.{GoesOn}
 use Rattle.drive_runs.proofs.Answering.{ends_round}
 use Rattle.drive_runs.proofs.Moving.{moves_then}
 use Rattle.drive_runs.proofs.round_parts.answer.Goals as goal
 
-pub returns-in-Next-clause-ended : goal.returns-in-Next-clause-ended
-returns-in-Next-clause-ended g c =
-    let went = subst (λ (course : Course). GoesOn g.D.RunDisk.state c.args.sitting c.args.book.now
-    course c.go_on.new.sitting c.go_on.new.book) c.in-Next.is c.in_ok-orders.ensures.goes_on in
-    ends_round g.D.RunDisk.state c.args.book.now c.go_on.new.book c.go_on.new.book
-    c.args.sitting c.go_on.new.sitting c.args.bound.items c.in-Next.orders.items
-    c.in_ok-round_lines-in-Next.field-0.items
-    false went.0 (went.1, refl) c.requires c.in_ok-round_lines-in-Next.ensures.asks
-    c.in_ok-round_lines-in-Next.ensures.all
+pub returns-then-not-are_housed-clause-ended : goal.returns-then-not-are_housed-clause-ended
+returns-then-not-are_housed-clause-ended g c =
+    IfOk-weaker c.hindered.result (Hinders hindrance.Full)
+    (λ (answer : Answer). MayEndRound g.D.RunDisk.state c.args.kind c.args.rest c.args.sitting
+    c.args.book.now c.args.bound.items answer c.args.book.now)
+    (λ answer is. inl (hindrance.Full, is)) c.hindered.ensures
 
-pub returns-in-None-clause-ended : goal.returns-in-None-clause-ended
-returns-in-None-clause-ended g c =
-    let went = subst (λ (course : Course). GoesOn g.D.RunDisk.state c.args.sitting c.args.book.now
-    course c.go_on.new.sitting c.go_on.new.book) c.in-Over.is c.in_ok-orders.ensures.goes_on in
-    ends_round g.D.RunDisk.state c.args.book.now c.go_on.new.book c.close_night.new.book
-    c.args.sitting c.go_on.new.sitting c.args.bound.items c.in-Over.orders.items
-    c.in_ok-round_lines-in-None.field-0.items
-    true went.0 (
-      went.1,
-      subst (λ (found : Option Hindrance). Closes g.D.RunDisk.state
-          c.go_on.new.sitting.kept.night c.go_on.new.book found c.close_night.new.book)
-          c.in-None.is c.in_ok-close_night-in-Over.ensures.closes,
-    ) c.requires c.in_ok-round_lines-in-None.ensures.asks
-    c.in_ok-round_lines-in-None.ensures.all
+pub returns-in-On-clause-ended : goal.returns-in-On-clause-ended
+returns-in-On-clause-ended g c =
+    let after = c.go_on.new.sitting in
+    let to = c.go_on.new.book in
+    let orders = c.in-On.orders in
+    IfOk-weaker c.give_orders.result
+    (λ (answer : Answer). ClosesRound g.D.RunDisk.state after to c.args.bound.items orders answer
+    c.give_orders.new.book)
+    (λ (answer : Answer). MayEndRound g.D.RunDisk.state c.args.kind c.args.rest c.args.sitting
+    c.args.book.now c.args.bound.items answer c.give_orders.new.book)
+    (λ answer closes. ends_round g.D.RunDisk.state c.args.kind c.args.rest c.args.sitting after
+    c.args.book.now to c.give_orders.new.book c.args.bound.items orders answer
+    (subst (λ (course : Course). GoesOn g.D.RunDisk.state c.args.sitting
+    (questions_of c.args.rest.heard) c.args.book.now course after to) c.in-On.is
+    c.in_ok-orders.ensures.goes_on) closes) c.give_orders.ensures.closed
 
-pub returns-in_err-close_night-in-Over-clause-moves :
-    goal.returns-in_err-close_night-in-Over-clause-moves
-returns-in_err-close_night-in-Over-clause-moves g c =
-    moves_then g.D.RunDisk.state _ _ _ c.go_on.ensures.moves c.close_night.ensures.moves
+pub returns-in-Faulty-clause-ended : goal.returns-in-Faulty-clause-ended
+returns-in-Faulty-clause-ended g c =
+    IfOk-weaker c.fail.result (Hinders (hindrance.Fault c.in-Faulty.fault))
+    (λ (answer : Answer). MayEndRound g.D.RunDisk.state c.args.kind c.args.rest c.args.sitting
+    c.args.book.now c.args.bound.items answer c.go_on.new.book)
+    (λ answer is. inl (hindrance.Fault c.in-Faulty.fault, is)) c.fail.ensures
 
-pub returns-in_err-round_lines-in-None-clause-moves :
-    goal.returns-in_err-round_lines-in-None-clause-moves
-returns-in_err-round_lines-in-None-clause-moves g c =
-    moves_then g.D.RunDisk.state _ _ _ c.go_on.ensures.moves c.close_night.ensures.moves
+pub returns-in-Refused-clause-ended : goal.returns-in-Refused-clause-ended
+returns-in-Refused-clause-ended g c =
+    let after = c.go_on.new.sitting in
+    IfOk-weaker c.open_again.result (PutsBack c.args.kind after c.args.rest)
+    (λ (answer : Answer). MayEndRound g.D.RunDisk.state c.args.kind c.args.rest c.args.sitting
+    c.args.book.now c.args.bound.items answer c.go_on.new.book)
+    (λ answer back. inr (inl (after, back))) c.open_again.ensures
 
-pub returns-in-None-clause-moves : goal.returns-in-None-clause-moves
-returns-in-None-clause-moves g c =
-    moves_then g.D.RunDisk.state _ _ _ c.go_on.ensures.moves c.close_night.ensures.moves
-
-pub returns-in-Over-clause-moves : goal.returns-in-Over-clause-moves
-returns-in-Over-clause-moves g c =
-    moves_then g.D.RunDisk.state _ _ _ c.go_on.ensures.moves c.close_night.ensures.moves
+pub returns-in-On-clause-moves : goal.returns-in-On-clause-moves
+returns-in-On-clause-moves g c =
+    moves_then g.D.RunDisk.state _ _ _ c.go_on.ensures.moves c.give_orders.ensures.moves

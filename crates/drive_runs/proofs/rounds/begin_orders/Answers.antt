@@ -1,12 +1,14 @@
-use Rattle.std.proofs.Common.{List, Option, ap, get_or, refl, subst, sym, take, ◌+◌, ◌∙◌}
+use Rattle.std.proofs.Common.{List, Option, ap, get_or, subst, sym, take, ◌+◌, ◌∙◌}
+use Rattle.std.specs.Prelude.{is_none}
 use Rattle.std.specs.Option.{option_map}
+use Rattle.std.proofs.lemmas.List.Folds.{list_any_at}
 use Rattle.drive_lines.specs.declared.fields.TryName.{TryName}
 use Rattle.drive_lines.specs.declared.orders.Order.{Order}
 use Rattle.drive_lines.specs.declared.orders.Order.TheVariants as order
 use Rattle.drive_steps.specs.declared.reported.Begun.{Begun}
-use Rattle.drive_runs.specs.Rounds.{AreTheirBegins}
-use Rattle.drive_runs.specs.Stops.{stops_in}
-use Rattle.drive_runs.proofs.Ordering.{begins_more, stopless_more}
+use Rattle.drive_runs.specs.Rounds.{AreBegins}
+use Rattle.drive_runs.specs.Tries.{try_name}
+use Rattle.drive_runs.proofs.Ordering.{begins_more}
 use Rattle.drive_runs.proofs.rounds.begin_orders.Goals as goal
 
 pub loop-begin-preserved : goal.loop-begin-preserved
@@ -15,15 +17,16 @@ loop-begin-preserved g c =
     let begin : Begun = get_or c.args.begun.now c.loop-begin.begin-index none in
     let old : List Order = c.loop-begin.orders.items in
     let line : Order = order.Begin begin.command begin.task c.in-Some.named in
-    record {
-      theirs = subst (λ (lines : List Order). AreTheirBegins c.args.state.now
-          (take (c.loop-begin.begin-index + 1) c.args.begun.now) lines)
-          (sym c.in_ok-push.ensures.items)
-          (begins_more c.args.state.now c.args.begun.now c.loop-begin.begin-index none old line
-          c.loop-begin-test.true c.loop-begin.invariant.theirs
-          (ap (λ (o : Option TryName). option_map (λ named.
-          order.Begin begin.command begin.task named) o) (sym c.try_name.ensures ∙ c.in-Some.is))
-          refl);
-      stopless = ap stops_in c.in_ok-push.ensures.items ∙ stopless_more old line refl
-          ∙ c.loop-begin.invariant.stopless;
-    }
+    subst (λ (lines : List Order). AreBegins c.args.state.now
+    (take (c.loop-begin.begin-index + 1) c.args.begun.now) lines) (sym c.in_ok-push.ensures.items)
+    (begins_more c.args.state.now c.args.begun.now c.loop-begin.begin-index none old line
+    c.loop-begin-test.true c.loop-begin.invariant
+    (ap (λ (o : Option TryName). option_map (λ named.
+    order.Begin begin.command begin.task named) o) (sym c.try_name.ensures ∙ c.in-Some.is)))
+
+pub returns-in_default : goal.returns-in_default
+returns-in_default g c =
+    list_any_at (λ (begin : Begun). is_none (try_name c.args.state.now begin.task))
+    c.args.begun.now c.loop-begin.begin-index (record { command = 0; task = 0 })
+    c.loop-begin-test.true
+    (ap (λ (o : Option TryName). is_none o) (sym c.try_name.ensures ∙ c.in_default.is))

@@ -1,9 +1,15 @@
-use Rattle.drive_runs.proofs.Driving.{by_round}
+use Rattle.std.proofs.Common.{[], inl, inr, refl}
+use Rattle.console_lines.proofs.Written.{appends_nothing}
+use Rattle.drive_runs.proofs.Driving.{gives}
 use Rattle.drive_runs.proofs.runs.begin.Goals as goal
 
+pub returns-in-Part-clause-given : goal.returns-in-Part-clause-given
+returns-in-Part-clause-given g c = ([], inl refl, appends_nothing _)
+
 pub returns-in-Ok-clause-given : goal.returns-in-Ok-clause-given
-returns-in-Ok-clause-given g c = (
-  c.in-Ok.answer.lines.items,
-  by_round g.D.RunDisk.state c.in-Recorded.rest.heard _ _ _ c.in-Ok.ensures.answered,
-  c.give.ensures,
-)
+returns-in-Ok-clause-given g c =
+    gives g.D.RunDisk.state c.in-Ok.answer _ _ _ _ _
+    (inr (inl (c.in-Recorded.rest.heard, c.in-Ok.ensures.answered))) c.give.ensures
+
+pub returns-in-Err-clause-given : goal.returns-in-Err-clause-given
+returns-in-Err-clause-given g c = ([], inl refl, ([], ([], refl), appends_nothing _))

@@ -1,7 +1,7 @@
 use Rattle.std.specs.Prelude.{suc, zero, ◌++◌}
 use Rattle.console_lines.proofs.Written.{appends_then}
 use Rattle.drive_lines.specs.Orders.{order_lines}
-use Rattle.drive_runs.proofs.Driving.{answer_more, at_fault, by_line, one_answer, prefix_then}
+use Rattle.drive_runs.proofs.Driving.{answer_more, at_fault, one_answer, prefix_then, takes}
 use Rattle.drive_runs.proofs.Driving.{whole_prefix}
 use Rattle.drive_runs.proofs.runs.sit.Goals as goal
 
@@ -36,15 +36,14 @@ returns-in_err-found-in-Part-clause-answers g c =
 pub returns-in_err-next-in-Part-clause-answers : goal.returns-in_err-next-in-Part-clause-answers
 returns-in_err-next-in-Part-clause-answers g c =
     let before = c.loop-line.invariant in
-    let e = c.in_err-next-in-Part.ensures in (
+    let e = c.in_err-next-in-Part.ensures in
+    let taken = takes g.D.RunDisk.state _ _ _ _ _ _ _ _ e.taken in (
       suc before.0,
-      before.1 ++ order_lines e.taken.0,
-      answer_more g.D.RunDisk.state _ _ _ before.0 before.1 e.taken.0 before.2
-          (by_line g.D.RunDisk.state c.in-Part.part c.in_ok-found-in-Part.found _ _ e.taken.0
-          e.taken.1) e.moves,
+      before.1 ++ order_lines taken.0,
+      answer_more g.D.RunDisk.state _ _ _ before.0 before.1 taken.0 before.2 taken.1 e.moves,
       at_fault _ _ _ c.from_residual-in_err-next-in-Part.result
           c.from_residual-in_err-next-in-Part.ensures.0
-          (prefix_then _ _ _ before.1 (order_lines e.taken.0) before.3 e.taken.2),
+          (prefix_then _ _ _ before.1 (order_lines taken.0) before.3 taken.2),
     )
 
 pub returns-in-Ok-clause-answers : goal.returns-in-Ok-clause-answers
@@ -75,13 +74,12 @@ returns-in-Fault-clause-answers g c =
 pub loop-line-preserved : goal.loop-line-preserved
 loop-line-preserved g c =
     let before = c.loop-line.invariant in
-    let e = c.in_ok-next-in-Part.ensures in (
+    let e = c.in_ok-next-in-Part.ensures in
+    let taken = takes g.D.RunDisk.state _ _ _ _ _ _ _ _ e.taken in (
       suc before.0,
-      before.1 ++ order_lines e.taken.0,
-      answer_more g.D.RunDisk.state _ _ _ before.0 before.1 e.taken.0 before.2
-          (by_line g.D.RunDisk.state c.in-Part.part c.in_ok-found-in-Part.found _ _ e.taken.0
-          e.taken.1) e.moves,
-      appends_then _ _ _ before.1 (order_lines e.taken.0) before.3 e.taken.2,
+      before.1 ++ order_lines taken.0,
+      answer_more g.D.RunDisk.state _ _ _ before.0 before.1 taken.0 before.2 taken.1 e.moves,
+      appends_then _ _ _ before.1 (order_lines taken.0) before.3 taken.2,
     )
 
 pub returns-clause-answers : goal.returns-clause-answers
