@@ -40,11 +40,14 @@ class Night:
         return {it.value for it in self.notes if it.word == word}
 
     def is_first(self, text: str) -> bool:
-        """Whether no run has reported another error before the function of this one had ended for
-        the last time."""
+        """Whether a function has failed with this error, and no run has reported another one before
+        that function had ended for the last time. If a run was killed before the first failure, the
+        store doesn't know their order, and takes the one that began first."""
         name = text.partition("_")[0]
         if name not in self.failed:
             return False
+        if next((it.word for it in self.notes if it.word in ("failed", "killed"))) == "killed":
+            return True
         ended = max(place for place, it in enumerate(self.notes)
                     if (it.word, it.name) == ("end", name))
         others = [place for place, it in enumerate(self.notes)

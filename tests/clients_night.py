@@ -132,7 +132,8 @@ def main(path: str, notes_path: str, way: str, count: str, limit: str, wrong: st
     note_syncs(path)
     notes = Notes(notes_path)
     try:
-        with pokhnier.open(path) as store:
+        # (A run whose program was killed may take long to end on a busy machine.)
+        with pokhnier.open(path, patience=100) as store:
             notes.add("open", value=store.value("seed", random.getrandbits(60)),
                       attempt=store.night)
             if way == "threads":

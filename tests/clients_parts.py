@@ -9,6 +9,8 @@ The program is a script.
   both functions are called.
 - It gives a running try another task, and stops it by the new number. The client has to report the
   end by that number.
+- It names the second of two failures as the first one. So the group has to raise that one. It says
+  of a task of an earlier run that it failed, and with which error, which no results have.
 
 WRONG is a mistake of clients_wrong.py.
 """
@@ -18,6 +20,7 @@ from __future__ import annotations
 import os
 import sys
 import tempfile
+import time
 
 sys.dont_write_bytecode = True
 HERE = os.path.dirname(os.path.realpath(__file__))
@@ -42,6 +45,22 @@ part; printf 'durable\n\n'
 part; printf 'begin 1 0 g a 0\nbegin 2 1 g b 0\ndurable\n\n'
 part; printf 'rebound 1 7 g a 1\nstop 7 no use\ndurable\n\n'
 part; printf 'stands 0 ready\nstands 1 canceled\nstands 2 ok\ndurable\n\n'
+"""
+
+
+NAMING = r"""#!/bin/sh
+[ "$1" = format ] && { : > "$3"; exit 0; }
+part() { part=; while IFS= read -r line && [ "$line" ]; do part="$part$line;"; done; }
+part; printf 'plan 1\nnight 1\n\n'
+part; printf 'durable\n\n'
+part; printf 'begin 1 0 g a 0\nbegin 2 1 g b 0\nstands 3 failed\ndurable\n\n'
+while :; do
+    part
+    case $part in *standings*) printf 'stands 1 failed\nstands 2 failed\nstands 3 failed\n';; esac
+    case $part in *'ask 3;'*) printf 'error 3 no disk\n';; esac
+    case $part in *'first 1;'*) printf 'first 1 b is bad\n';; esac
+    printf 'durable\n\n'
+done
 """
 
 
@@ -80,6 +99,27 @@ def rebound(folder: str) -> str:
         store.close()
 
 
+def named(folder: str) -> str:
+    """Which error a group raises of which the program names the first one."""
+    def fail(key: str) -> None:
+        time.sleep(0.2 if key == "b" else 0)
+        raise ValueError(f"{key} is bad")
+    store = pokhnier.open(f"{folder}/named")
+    group = store.group("g", on_error="go-on")
+    try:
+        with store._pump.work:
+            tasks = [group.run(key, fail, key) for key in "abc"]
+        errors = [it.exception(30) for it in tasks]
+        try:
+            group.wait()
+        except Exception as error:
+            errors.append(error)
+        return ", ".join(map(repr, errors))
+    finally:
+        store._drive.process.kill()
+        store.close()
+
+
 def program(folder: str, text: str) -> None:
     os.environ["NIGHT"] = f"{folder}/night"
     with open(os.environ["NIGHT"], "w", encoding="ascii") as file:
@@ -96,11 +136,16 @@ def faults() -> list[str]:
         with open(f"{folder}/lines", encoding="ascii") as file:
             if "ended 7 error no use\n" not in file.read():
                 bad.append("the end of a try that got another task isn't reported")
+        program(folder, NAMING)
+        wanted = ("ValueError('a is bad'), ValueError('b is bad'), Failed('no disk'), "
+                  "ValueError('b is bad')")
+        if (ended := named(folder)) != wanted:
+            bad.append(f"errors that the program names: {ended}")
         program(folder, PROGRAM)
         for size in range(len(ANSWER) + 1):
             calls, ended = called(folder, ANSWER[:size])
-            wanted = ["a", "b"] if size == len(ANSWER) else []
-            if sorted(calls) != wanted or ended != "Lost":
+            begun = ["a", "b"] if size == len(ANSWER) else []
+            if sorted(calls) != begun or ended != "Lost":
                 bad.append(f"after {size} of {len(ANSWER)} bytes, {calls} are called, {ended}")
     return bad
 
@@ -109,7 +154,8 @@ def main(wrong: str = "") -> int:
     clients_wrong.make(wrong)
     bad = faults()
     print("".join(f"FAILED {it}\n" for it in bad[:3]), end="")
-    print(f"{len(ANSWER) + 1} prefixes of an answer, another task of a try, {len(bad)} failed")
+    print(f"{len(ANSWER) + 1} prefixes of an answer, another task of a try, a first error, "
+          f"{len(bad)} failed")
     return 1 if bad else 0
 
 

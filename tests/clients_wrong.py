@@ -7,8 +7,8 @@ import os
 import threading
 from collections.abc import Callable
 
-from pokhnier import board, drive, ends, files, groups, names, results, rounds
-from pokhnier.calls import Call, Ended, Settled
+from pokhnier import board, drive, ends, files, groups, names, outcomes, results, rounds
+from pokhnier.calls import Call, Ended, GroupPlan, Settled, has_failed
 from pokhnier.current import Try, enter
 from pokhnier.errors import Error
 from pokhnier.outcomes import Ok
@@ -87,7 +87,7 @@ def repeats() -> None:
 
 def swallows() -> None:
     """The end of a group raises no error of a function."""
-    setattr(ends, "has_failed", lambda call: False)
+    setattr(groups, "may_have_failed", lambda *words: False)
     found = ends.end_of
 
     def swallowing(*words: object) -> BaseException | None:
@@ -98,10 +98,22 @@ def swallows() -> None:
 
 def last() -> None:
     """The end of a group raises the error of the task that comes last in the group."""
-    def ending(group: object, calls: list[Call], results: object) -> BaseException | None:
-        errors = [error for it in calls if (error := it.future.exception())]
-        return errors[-1] if errors else None
-    setattr(groups, "end_of", ending)
+    def ending(self: board.Board, group: GroupPlan, text: str) -> BaseException | None:
+        errors = [it.future.exception() for it in self.plan.calls
+                  if it and it.group is group and has_failed(it)]
+        return errors[-1]
+    setattr(board.Board, "error_with", ending)
+
+
+def decides() -> None:
+    """It takes the failure for the first one of a group that its results have first."""
+    def deciding(self: board.Board, group: GroupPlan, text: str) -> BaseException | None:
+        for name, outcome in self.results.failures(group.name):
+            for it in self.plan.calls:
+                if it and it.name == name and it.future.done():
+                    return it.future.exception()
+        return outcomes.raised(outcomes.Wrong(text))
+    setattr(board.Board, "error_with", deciding)
 
 
 def unlocked() -> None:
@@ -111,7 +123,7 @@ def unlocked() -> None:
 
 WRONG: dict[str, Callable[[], None]] = {
     it.__name__: it for it in (early, unwritten, unsynced, renames, halves, repeats, swallows, last,
-                               unlocked)}
+                               decides, unlocked)}
 
 
 def make(wrong: str) -> None:

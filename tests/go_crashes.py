@@ -45,6 +45,7 @@ class Night:
     env: dict[str, str]
     dice: random.Random
     seconds: float = SECONDS
+    again: float = 0.5  # how likely it is that `night` is killed once more
     kills: Counter[str] = field(default_factory=Counter)
     counts: Counter[str] = field(default_factory=Counter)
     bad: list[str] = field(default_factory=list)
@@ -89,7 +90,7 @@ class Night:
         killed = kill(nights)
         if victim == "night":
             self.kills[victim] += killed
-            while killed and self.dice.random() < 0.5:
+            while killed and self.dice.random() < self.again:
                 time.sleep(self.dice.random() * 0.1)
                 killed = kill(children(program.pid))
                 self.kills[victim] += killed

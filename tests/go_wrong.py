@@ -24,8 +24,8 @@ class Wrong:
 WRONGS = {
     "early": Wrong(
         "reports a result before the end is durable", "command.go",
-        "	c.phase, c.result, c.err = hasEnded, result, err\n",
-        "	c.phase, c.result, c.err = hasEnded, result, err\n"
+        "	c.phase, c.result, c.err, c.text = hasEnded, result, err, text\n",
+        "	c.phase, c.result, c.err, c.text = hasEnded, result, err, text\n"
         "	if c.then != nil {\n		go c.then(result, err)\n		c.then = nil\n	}\n"),
     "forgets": Wrong(
         "says of a good end that nobody knows it", "parts.go",
@@ -51,15 +51,39 @@ WRONGS = {
         "		case phase == phaseInterrupted:\n			c.phase = isWaiting\n			continue\n"
         "		case phase == \"none\":\n"),
     "blames": Wrong(
-        "takes the last error of a group for its first", "failures.go",
-        "	for _, it := range s.failures[g.name] {\n",
-        "	for at := range s.failures[g.name] {\n"
-        "		it := s.failures[g.name][len(s.failures[g.name])-1-at]\n",
+        "takes an error for the first one that the program doesn't name", "failures.go",
+        "		if it.text == text {\n", "		if it.text != text {\n",
         "TestTheFirstErrorAfterAnInterruption"),
+    "unasked": Wrong(
+        "doesn't ask for the first error of an earlier run", "group.go",
+        "		err = g.askFirst()\n", "", "TestTheFirstErrorOutlivesACrash"),
+    "stale": Wrong(
+        "keeps a first error whose task was repeated well", "failures.go",
+        "		if it.key == c.key {\n			return true\n",
+        "		if it.key == c.key {\n			break\n",
+        "TestARepeatedFailureIsNone"),
+    "pools": Wrong(
+        "adds no pool for a limit that comes later", "parts.go",
+        "		p.lines = append(p.lines, poolLine)\n", "", "TestManyLimits"),
+    "again": Wrong(
+        "calls a task again that it has left to the next run", "calls.go",
+        "	if why, is := s.left[named]; is {\n", "	if why := s.left[named]; false {\n",
+        "TestATaskThatWasLeftIsCalledAgain"),
+    "retries": Wrong(
+        "waits for a retry although this run ends", "standings.go",
+        "	if local := s.localCause(c); local != nil {\n",
+        "	if local := s.localCause(c); false {\n", "TestARetryDoesntOutliveItsRun"),
+    "blocks": Wrong(
+        "calls the functions of AfterFunc before it goes on", "ctx.go",
+        "c.onEnd(func() { go f() })", "c.onEnd(f)", "TestAfterFuncIsCalledUnderAMutex"),
+    "leaks": Wrong(
+        "leaves files open if a store can't be opened", "store.go",
+        "		s.closeFiles()\n		return nil, err\n", "		lock.Close()\n		return nil, err\n",
+        "TestNothingIsLeftOpen"),
     "fails": Wrong(
         "records an error that the end of this run has caused", "command.go",
-        "	if local == nil && err != nil && c.why == nil {\n",
-        "	if local == nil && err != nil && c.why == nil && s.cut == nil {\n",
+        "	if local == nil && err != nil && c.why.err == nil {\n",
+        "	if local == nil && err != nil && c.why.err == nil && s.cut == nil {\n",
         "TestCloseRecordsNoFailure"),
     "restarts": Wrong(
         "counts a timeout from the start of each run", "scope.go",
@@ -72,7 +96,7 @@ WRONGS = {
         "TestValuesAreThoseOfTheFirstRun"),
     "cancels": Wrong(
         "lets a cancel end this run alone", "cancel.go",
-        "	s.todo.dones = append(s.todo.dones, done{r, cause})\n", "	_ = r\n",
+        "	s.todo.dones = append(s.todo.dones, done{r, why})\n", "	_ = r\n",
         "TestADurableCancel"),
     "abandons": Wrong(
         "doesn't say that a task was abandoned", "group.go",

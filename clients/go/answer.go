@@ -26,13 +26,14 @@ type answer struct {
 	stops            []stop
 	later            int64          // when to ask again, or 0
 	stands           map[int]string // how a command stands, if that was asked
+	firsts           map[int]string // the first error of a group that was asked for and has one
 	isDurable        bool
 	isOver           bool
 }
 
 // readAnswer reads the lines of an answer. A refusal, a fault and a full store are errors.
 func readAnswer(lines []string) (*answer, error) {
-	a := &answer{stands: map[int]string{}}
+	a := &answer{stands: map[int]string{}, firsts: map[int]string{}}
 	for _, line := range lines {
 		word, rest, _ := strings.Cut(line, " ")
 		if why := refusals[word]; why != 0 {
@@ -64,6 +65,10 @@ func (a *answer) take(word, rest string) (err error) {
 		number, standing, _ := strings.Cut(rest, " ")
 		command, not := strconv.Atoi(number)
 		a.stands[command], err = standing, not
+	case "first":
+		number, text, _ := strings.Cut(rest, " ")
+		group, not := strconv.Atoi(number)
+		a.firsts[group], err = text, not
 	case "durable":
 		a.isDurable = true
 	case "over":

@@ -1,9 +1,6 @@
 package pokhnier
 
-import (
-	"context"
-	"fmt"
-)
+import "fmt"
 
 // add calls a task, or takes the outcome that it has already. With isTry it does so only if the
 // limit allows it, and reports that.
@@ -53,13 +50,16 @@ func (s *Store) call(c *command) (*outcome, error) {
 	if err, is := s.finals[named]; is {
 		return &outcome{c, nil, err}, nil
 	}
+	if why, is := s.left[named]; is {
+		return s.leftOutcome(c, why), nil // the program has it in its plan already
+	}
 	if err := s.refusal(); err != nil {
 		return s.leftOutcome(c, err), nil
 	}
 	if err := g.ctx.localCause(); err != nil {
 		return s.leftOutcome(c, err), nil
 	}
-	if s.used+2*len(s.open)+2 > s.past.room {
+	if s.used+len(s.open)+2 > s.past.room { // with another task for each that runs, if night dies
 		return &outcome{c, nil, ErrFull}, ErrFull
 	}
 	if err := s.ensureRoom(g); err != nil {
@@ -79,7 +79,7 @@ func (s *Store) plant(c *command, row *pastTask) {
 	s.isOpen[taskKey{g.name, c.key}] = true
 	s.todo.commands = append(s.todo.commands, c)
 	if g.ctx.isEndedAbove() && !g.room.isDone {
-		s.todo.dones = append(s.todo.dones, done{g.room, context.Cause(g.ctx)})
+		s.todo.dones = append(s.todo.dones, done{g.room, g.ctx.reason()})
 	}
 	s.todo.asks = s.todo.asks || g.ctx.Err() != nil || row != nil && row.phase == phaseFailed
 }

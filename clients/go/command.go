@@ -20,7 +20,8 @@ type command struct {
 	try    tryName
 	result json.RawMessage
 	err    error
-	why    error // why the program asked it to stop, if it did
+	text   string // of the error
+	why    reason // why the program asked it to stop, if it did
 	cancel context.CancelCauseFunc
 }
 
@@ -42,7 +43,7 @@ func (c *command) work() {
 	defer context.AfterFunc(s.root, func() { cancel(context.Cause(s.root)) })()
 	s.mu.Lock()
 	c.cancel = cancel
-	why := c.why
+	why := c.why.err
 	s.mu.Unlock()
 	if why != nil {
 		cancel(why)
@@ -71,12 +72,14 @@ func (c *command) call(ctx context.Context) {
 // takeEnd takes the end of a function. An error that comes after the end of this run, or of a
 // context that ends for this run alone, isn't recorded: the next run begins the task again.
 func (s *Store) takeEnd(c *command, result json.RawMessage, err error) {
+	text := ""
+	if err != nil {
+		text = err.Error()
+	}
 	s.mu.Lock()
 	local := s.dead
-	if local == nil && err != nil && c.why == nil {
-		if local = s.cut; local == nil {
-			local = c.group.ctx.localCause()
-		}
+	if local == nil && err != nil && c.why.err == nil {
+		local = s.localCause(c)
 	}
 	if local != nil {
 		outcome := s.leave(c, local)
@@ -84,7 +87,7 @@ func (s *Store) takeEnd(c *command, result json.RawMessage, err error) {
 		outcome.give()
 		return
 	}
-	c.phase, c.result, c.err = hasEnded, result, err
+	c.phase, c.result, c.err, c.text = hasEnded, result, err, text
 	s.todo.ends = append(s.todo.ends, c)
 	s.mu.Unlock()
 	s.wakeUp()
@@ -120,6 +123,7 @@ func (s *Store) leave(c *command, why error) outcome {
 		c.group.left = why
 	}
 	s.hasLeft = true
+	s.left[taskKey{c.group.name, c.key}] = why
 	return s.settle(c, nil, why)
 }
 

@@ -18,7 +18,7 @@ type Ctx struct {
 	deadline time.Time // its own, or zero
 	moment   int64     // the same
 	words    string
-	cause    error // of its deadline
+	cause    reason // of its deadline
 
 	holder context.Context // has the values, and once it is done the cause, for context.Cause
 	fill   context.CancelCauseFunc
@@ -26,8 +26,9 @@ type Ctx struct {
 
 	mu        sync.Mutex
 	err       error
-	local     error // why it ended for this run alone, if it did
-	byFailure bool  // of a function of its group
+	why       reason // why it has ended
+	local     error  // the same, if it ended for this run alone
+	byFailure bool   // of a function of its group
 	byWait    bool
 	funcs     map[*func()]struct{}
 	unwatch   func() bool
@@ -85,9 +86,14 @@ func (c *Ctx) Value(key any) any {
 
 func (c *Ctx) String() string { return "pokhnier." + c.name }
 
-// AfterFunc is the method that package context looks for. It calls f when the context ends, before
-// whoever caused that goes on.
-func (c *Ctx) AfterFunc(f func()) func() bool {
+// AfterFunc is the method that package context looks for. Once the context has ended, f is called
+// in a goroutine of its own. (Package context calls this under a mutex that f takes, and an f of
+// others may wait for the store.)
+func (c *Ctx) AfterFunc(f func()) func() bool { return c.onEnd(func() { go f() }) }
+
+// onEnd calls f when the context ends, before whoever caused that goes on, or at once if it has
+// ended.
+func (c *Ctx) onEnd(f func()) func() bool {
 	c.mu.Lock()
 	if c.err != nil {
 		c.mu.Unlock()

@@ -2,17 +2,17 @@ package pokhnier
 
 import "context"
 
-// end ends the context, if it hasn't ended. With local it ends for this run alone.
-func (c *Ctx) end(err, cause error, isLocal bool) {
+// end ends the context, if it hasn't ended. With isLocal it ends for this run alone.
+func (c *Ctx) end(err error, why reason, isLocal bool) {
 	c.mu.Lock()
 	if c.err != nil || c.isDone == nil {
 		c.mu.Unlock()
 		return
 	}
-	c.fill(cause)
-	c.err = err
+	c.fill(why.err)
+	c.err, c.why = err, why
 	if isLocal {
-		c.local = cause
+		c.local = why.err
 	}
 	close(c.isDone)
 	funcs, unwatch := c.funcs, c.unwatch
@@ -21,7 +21,7 @@ func (c *Ctx) end(err, cause error, isLocal bool) {
 	if unwatch != nil {
 		unwatch()
 	}
-	for _, it := range c.s.forget(c, isLocal, cause) {
+	for _, it := range c.s.forget(c, isLocal) {
 		it.give()
 	}
 	for it := range funcs {
@@ -29,18 +29,30 @@ func (c *Ctx) end(err, cause error, isLocal bool) {
 	}
 }
 
+// reason returns why the context has ended.
+func (c *Ctx) reason() reason {
+	c.mu.Lock()
+	defer c.mu.Unlock()
+	return c.why
+}
+
 // forget forgets a context that has ended. If it ended for this run alone, commands of its group
-// that wait are left to the next run.
-func (s *Store) forget(c *Ctx, isLocal bool, cause error) []outcome {
+// that wait are left to the next run. If it ended with a scope above it, the program has to know.
+func (s *Store) forget(c *Ctx, isLocal bool) []outcome {
 	s.mu.Lock()
 	defer s.mu.Unlock()
 	delete(s.ctxs, c)
 	delete(s.dated, c)
 	s.dropNamed(c)
-	if !isLocal || c.group == nil {
-		return nil
+	switch g := c.group; {
+	case g == nil:
+	case isLocal:
+		return s.leaveWaiting(g, c.localCause())
+	case g.room != nil && g.room.active > 0 && !g.room.isDone && c.isEndedAbove():
+		s.todo.dones = append(s.todo.dones, done{g.room, c.reason()})
+		s.wakeUp()
 	}
-	return s.leaveWaiting(c.group, cause)
+	return nil
 }
 
 func (s *Store) dropNamed(c *Ctx) {
@@ -56,7 +68,7 @@ func (s *Store) dropNamed(c *Ctx) {
 }
 
 // endByFailure ends the context of a group. The program knows of it.
-func (c *Ctx) endByFailure(why error) {
+func (c *Ctx) endByFailure(why reason) {
 	c.mu.Lock()
 	c.byFailure = c.byFailure || c.err == nil
 	c.mu.Unlock()
@@ -64,7 +76,7 @@ func (c *Ctx) endByFailure(why error) {
 }
 
 // endByWait ends the context of a group that was waited for, if it hasn't ended.
-func (c *Ctx) endByWait(why error) {
+func (c *Ctx) endByWait(why reason) {
 	c.mu.Lock()
 	c.byWait = c.byWait || c.err == nil
 	c.mu.Unlock()
@@ -92,11 +104,11 @@ func (c *Ctx) watch() {
 	}
 	follow := func() {
 		isLocal := c.up.Err() == nil || c.up.localCause() != nil
-		c.end(c.parent.Err(), context.Cause(c.parent), isLocal)
+		c.end(c.parent.Err(), reasonOf(context.Cause(c.parent)), isLocal)
 	}
 	var unwatch func() bool
 	if c.parent.Done() == c.up.Done() {
-		unwatch = c.up.AfterFunc(follow)
+		unwatch = c.up.onEnd(follow)
 	} else {
 		unwatch = context.AfterFunc(c.parent, follow)
 	}

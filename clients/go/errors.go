@@ -12,8 +12,8 @@ var (
 	ErrAbandoned = errors.New("pokhnier: interrupted tasks weren't called again")
 	// ErrFull says that the store has no room left for another task.
 	ErrFull = errors.New("pokhnier: the store is full")
-	// ErrGoexit says that a function ended its goroutine with runtime.Goexit, as t.FailNow does, and
-	// so returned nothing. Its task has failed.
+	// ErrGoexit says that a function ended its goroutine with runtime.Goexit, as t.FailNow does,
+	// and so returned nothing. Its task has failed.
 	ErrGoexit = errors.New("pokhnier: the function called runtime.Goexit")
 	// ErrInterrupted says that this run of the program ends, by Close or by the context that was
 	// given to Open. What it left undone is no failure: the next run takes it up.
@@ -90,6 +90,17 @@ func (f Fault) Error() string {
 	}
 	return fmt.Sprintf("pokhnier: fault %d", uint8(f))
 }
+
+// A joined error is both. Its text is made when somebody asks for it, and not under the mutex of
+// the store.
+type joined struct {
+	one, other error
+	between    string
+}
+
+func (e *joined) Error() string { return fmt.Sprintf("%v%s%v", e.one, e.between, e.other) }
+
+func (e *joined) Unwrap() []error { return []error{e.one, e.other} }
 
 // A NightError says how the program `night` ended.
 type NightError struct {

@@ -3,11 +3,14 @@ package pokhnier
 import (
 	"context"
 	"encoding/json"
+	"sync"
 )
 
 // A Future is the result of a task, in this run or in an earlier one.
 type Future[T any] struct {
 	isDone chan struct{}
+	result json.RawMessage
+	read   sync.Once
 	value  T
 	err    error
 }
@@ -15,7 +18,20 @@ type Future[T any] struct {
 // Get waits until the end of the task is durable, and returns its result.
 func (f *Future[T]) Get() (T, error) {
 	<-f.isDone
+	f.read.Do(f.decode)
 	return f.value, f.err
+}
+
+// decode reads the result. Its type may have a method for that, so only those who ask for the
+// result wait for it.
+func (f *Future[T]) decode() {
+	switch {
+	case f.err != nil:
+	case f.result == nil:
+		f.err = ErrNoResult
+	default:
+		f.err = json.Unmarshal(f.result, &f.value)
+	}
 }
 
 // Do is Group.Go for a function with a result. The result is kept as JSON, and the Future has what
@@ -30,14 +46,8 @@ func Do[T any](g *Group, key string, f func(context.Context) (T, error)) *Future
 		return json.Marshal(value)
 	}
 	then := func(result json.RawMessage, err error) {
-		defer close(future.isDone)
-		switch future.err = err; {
-		case err != nil:
-		case result == nil:
-			future.err = ErrNoResult
-		default:
-			future.err = json.Unmarshal(result, &future.value)
-		}
+		future.result, future.err = result, err
+		close(future.isDone)
 	}
 	g.add(&command{group: g, key: keyName(key), run: run, then: then}, false)
 	return future

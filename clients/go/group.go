@@ -32,10 +32,17 @@ type Group struct {
 // A GroupOption says how the tasks of a group are run.
 type GroupOption func(*Group)
 
-// Retries lets the program begin a function again after a failure, at most this many times, and this
-// long after it. A failure for good is one without a retry left.
+// Retries lets the program begin a function again after a failure, at most this many times, and
+// this long after it. A failure for good is one without a retry left.
 func Retries(most int, wait time.Duration) GroupOption {
-	return func(g *Group) { g.retries, g.wait = most, int64((wait+time.Second-1)/time.Second) }
+	seconds := wait / time.Second
+	if wait%time.Second > 0 {
+		seconds++
+	}
+	return func(g *Group) {
+		g.retries = min(max(most, 0), anyLimit)
+		g.wait = min(max(int64(seconds), 0), anyLimit)
+	}
 }
 
 // WithContext makes a group with a context of its own, or finds the one of this name. The context
@@ -48,8 +55,12 @@ func WithContext(parent context.Context, name string, options ...GroupOption) (*
 }
 
 // Group makes a group whose functions live in the context of parent, as a zero errgroup.Group, or
-// finds the one of this name. A failure cancels nothing.
+// finds the one of this name. A failure cancels nothing. A parent that doesn't lie in this store
+// gets a place in it, as by On.
 func (s *Store) Group(parent context.Context, name string, options ...GroupOption) *Group {
+	if parent != nil && (!Has(parent) || ctxOf(parent).s != s) {
+		parent = s.On(parent)
+	}
 	return newGroup(parent, name, false, options)
 }
 
@@ -62,15 +73,18 @@ func newGroup(parent context.Context, name string, isOwn bool, options []GroupOp
 		option(g)
 	}
 	err := g.ctx.open(&scopeWish{})
+	if err == nil {
+		err = g.askFirst()
+	}
 	g.ctx.give(err)
 	// The group is done with what it lies in: that context has the cause.
 	g.ctx.endAsBefore()
 	g.s.mu.Lock()
 	g.local = err
-	first := g.s.firstFailure(g)
+	first := g.s.firstOf(g)
 	g.s.mu.Unlock()
 	if isOwn && first != nil && g.retries == 0 {
-		g.ctx.endByFailure(first)
+		g.ctx.endByFailure(reasonOf(first))
 	}
 	return g
 }
@@ -90,7 +104,7 @@ func (g *Group) failed(err error) {
 	}
 	g.s.mu.Unlock()
 	if g.isOwn {
-		g.ctx.end(context.Canceled, err, true)
+		g.ctx.end(context.Canceled, reasonOf(err), true)
 	}
 }
 
@@ -103,31 +117,37 @@ func (g *Group) SetLimit(n int) {
 	if err == nil {
 		err = s.ensureRoom(g)
 	}
-	if err == nil && g.room.active > 0 {
-		s.mu.Unlock()
-		panic(fmt.Errorf("pokhnier: modify limit while %v tasks of the group are open", g.room.active))
-	}
-	if err == nil && g.room.pool == 0 {
-		if err = ErrFull; s.pools < pools {
-			err = nil
-			s.pools++
-			g.room.pool = s.pools
-		}
-	}
+	active := 0
 	if err == nil {
-		g.room.limit = max(n, -1)
-		s.todo.sizes = append(s.todo.sizes, g.room)
+		active = g.room.active
+	}
+	if err == nil && active == 0 {
+		s.limit(g.room, n)
 	}
 	s.mu.Unlock()
+	if active > 0 {
+		panic(fmt.Errorf("pokhnier: modify limit while %v tasks of the group are open", active))
+	}
 	if err != nil {
 		g.failed(err)
 	}
 	s.wakeUp()
 }
 
+// limit gives a room a pool of this size. The mutex is held.
+func (s *Store) limit(r *room, n int) {
+	if r.pool == 0 {
+		s.pools++
+		s.todo.pools++
+		r.pool = s.pools
+	}
+	r.limit = max(n, -1)
+	s.todo.sizes = append(s.todo.sizes, r)
+}
+
 // Go lets the program begin f in a goroutine, as the task with this key. Its beginning is durable
-// before f is called. If the task ended well in an earlier run, f isn't called. Go doesn't block: if
-// as many functions run as the limit allows, f waits.
+// before f is called. If the task ended well in an earlier run, f isn't called. Go doesn't block:
+// if as many functions run as the limit allows, f waits.
 func (g *Group) Go(key string, f func(context.Context) error) {
 	g.add(plainCommand(g, key, f), false)
 }
@@ -157,16 +177,16 @@ func (g *Group) Wait() error {
 		if cause == nil {
 			cause = context.Canceled
 		}
-		g.ctx.endByWait(cause)
+		g.ctx.endByWait(reasonOf(cause))
 	}
 	return err
 }
 
 // resultOf returns what Wait returns. The mutex is held.
 func (s *Store) resultOf(g *Group) error {
-	if first := s.firstFailure(g); first != nil {
+	if first := s.firstOf(g); first != nil {
 		if g.local != nil {
-			return fmt.Errorf("%w; %w", first, g.local)
+			return &joined{first, g.local, "; "}
 		}
 		return first
 	}

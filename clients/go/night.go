@@ -16,7 +16,11 @@ const mostLost = 5
 // of this program, or one on the path.
 func findNight() (string, error) {
 	if named := os.Getenv("NIGHT"); named != "" {
-		return exec.LookPath(named)
+		found, err := exec.LookPath(named)
+		if err != nil {
+			return "", fmt.Errorf("pokhnier: NIGHT names no program: %w", err)
+		}
+		return filepath.Abs(found)
 	}
 	if own, err := os.Executable(); err == nil {
 		beside := filepath.Join(filepath.Dir(own), "night")
@@ -28,7 +32,16 @@ func findNight() (string, error) {
 	if err != nil {
 		return "", fmt.Errorf("pokhnier: no program night: set NIGHT or PATH: %w", err)
 	}
-	return found, nil
+	return filepath.Abs(found)
+}
+
+// wholePath returns the path of a store, without links: the files next to it are found whatever
+// link leads to it, and also if this program changes its folder.
+func wholePath(path string) (string, error) {
+	if found, err := filepath.EvalSymlinks(path); err == nil {
+		path = found
+	}
+	return filepath.Abs(path)
 }
 
 // apart starts a process in a group of its own, so that Ctrl-C at the terminal doesn't reach it.
@@ -58,10 +71,10 @@ func ensureStore(program, path string) error {
 	return format(program, path)
 }
 
-// format makes a store next to its place, and gives it its name only when it is complete. So a crash
-// leaves no half of a store.
+// format makes a store next to its place, and gives it its name only when it is complete. So a
+// crash leaves no half of a store.
 func format(program, path string) error {
-	beside := fmt.Sprintf("%s.new-%d", path, os.Getpid())
+	beside := path + ".new"
 	defer os.Remove(beside)
 	for try := 1; ; try++ {
 		os.Remove(beside)

@@ -187,7 +187,7 @@ func TestTexts(t *testing.T) {
 		"canceled: x": "error: canceled: x", "a\nb\u00e9": "a?b?",
 		strings.Repeat("x", 65): strings.Repeat("x", 62) + "..",
 	} {
-		if got := textOf(errors.New(text)); got != wanted {
+		if got := textOf(text); got != wanted {
 			t.Errorf("%q is %q", text, got)
 		}
 	}
@@ -199,7 +199,7 @@ func TestAnotherRunHasTheLock(t *testing.T) {
 	path := fresh(t)
 	open(t, path).Close()
 	// Its night has died, and its functions go on.
-	lock, err := lockClient(path + ".client")
+	lock, err := lockClient(context.Background(), path+".client")
 	if err != nil {
 		t.Fatal(err)
 	}

@@ -7,6 +7,7 @@ import (
 
 // A todo is what the next round says.
 type todo struct {
+	pools    int
 	rooms    []*room
 	commands []*command
 	ends     []*command
@@ -20,19 +21,20 @@ type todo struct {
 var nothing todo
 
 func (t *todo) isEmpty() bool {
-	return len(t.rooms)+len(t.commands)+len(t.ends)+len(t.dones)+len(t.sizes)+len(t.ops) == 0 &&
-		!t.asks && !t.finishes
+	lines := t.pools + len(t.rooms) + len(t.commands) + len(t.ends) + len(t.dones) + len(t.sizes)
+	return lines+len(t.ops) == 0 && !t.asks && !t.finishes
 }
 
 // A done cancels a group.
 type done struct {
-	room  *room
-	cause error
+	room *room
+	why  reason
 }
 
 // An op waits until the round after its call is durable.
 type op struct {
 	ends   []func() // of contexts
+	first  *room    // whose first error it asks for, or nil
 	err    error
 	isDone chan struct{}
 }
@@ -59,6 +61,7 @@ type part struct {
 	ends     []*command
 	dones    []done
 	due      []*Ctx // whose deadlines have come
+	firsts   []*room
 	ops      []*op
 	finishes bool
 }
@@ -67,6 +70,9 @@ type part struct {
 func (s *Store) nextPart() *part {
 	p, todo := &part{}, s.todo
 	s.todo = nothing
+	for ; todo.pools > 0; todo.pools-- {
+		p.lines = append(p.lines, poolLine)
+	}
 	for _, r := range todo.rooms {
 		p.lines = append(p.lines, s.plan.addRoom(r)...)
 	}
@@ -82,13 +88,35 @@ func (s *Store) nextPart() *part {
 		p.lines = append(p.lines, r.size(s.cut != nil))
 	}
 	p.ops = todo.ops
+	for _, it := range p.ops {
+		p.askFirst(it.first)
+	}
 	if p.finishes = todo.finishes; p.finishes {
 		p.lines = append(p.lines, "done 0 finished")
 	}
 	if todo.asks || len(p.dones)+len(p.due) > 0 || p.hasFailure() {
 		p.lines = append(p.lines, "standings")
 	}
+	p.addFirsts()
 	return p
+}
+
+// askFirst asks for the first error of a group once.
+func (p *part) askFirst(r *room) {
+	for _, it := range p.firsts {
+		if it == r {
+			return
+		}
+	}
+	if r != nil {
+		p.firsts = append(p.firsts, r)
+	}
+}
+
+func (p *part) addFirsts() {
+	for _, r := range p.firsts {
+		p.lines = append(p.lines, fmt.Sprintf("first %d", r.number))
+	}
 }
 
 // addEnds adds the ends of commands. Of a group that a failure cancels it adds one failure: those
@@ -97,12 +125,15 @@ func (s *Store) addEnds(p *part, ends []*command) {
 	failed := map[*room]bool{}
 	for _, c := range ends {
 		r := c.group.room
-		if isFailure := c.err != nil && c.why == nil && r.way == wayCancel; isFailure {
+		if c.isFailure() && r.way == wayCancel {
 			if failed[r] {
 				s.todo.ends = append(s.todo.ends, c)
 				continue
 			}
 			failed[r] = true
+		}
+		if s.asksFirst(c) {
+			p.askFirst(r)
 		}
 		p.addEnd(s.results.night, c)
 	}
@@ -111,7 +142,7 @@ func (s *Store) addEnds(p *part, ends []*command) {
 func (p *part) addEnd(night int, c *command) {
 	line := fmt.Sprintf("ended %d ok", c.task)
 	if c.err != nil {
-		line = fmt.Sprintf("ended %d error %s", c.task, textOf(c.err))
+		line = fmt.Sprintf("ended %d error %s", c.task, textOf(c.text))
 	}
 	p.results = append(p.results, c.line(night))
 	p.lines = append(p.lines, line)
@@ -125,9 +156,9 @@ func (c *command) line(night int) line {
 		it.Value = c.result
 		return it
 	}
-	text := c.err.Error()
-	if it.Is = lineError; c.why != nil {
-		it.Is, text = lineCanceled, c.why.Error()
+	text := c.text
+	if it.Is = lineError; c.why.err != nil {
+		it.Is, text = lineCanceled, c.why.text
 	}
 	it.Text = &text
 	return it
@@ -154,10 +185,14 @@ func (s *Store) addDue(p *part) {
 // addDones adds cancels of groups. The results have the full text of each cause.
 func (s *Store) addDones(p *part, dones []done) {
 	for _, it := range dones {
-		text := it.cause.Error()
+		if it.room.number < 0 { // it comes in the next round, and so does this
+			s.todo.dones = append(s.todo.dones, it)
+			continue
+		}
+		text := it.why.text
 		p.results = append(p.results, line{Night: s.results.night, Group: it.room.name,
 			Is: lineCanceled, Text: &text})
-		p.lines = append(p.lines, fmt.Sprintf("done %d %s", it.room.number, textOf(it.cause)))
+		p.lines = append(p.lines, fmt.Sprintf("done %d %s", it.room.number, textOf(text)))
 		p.dones = append(p.dones, it)
 	}
 }

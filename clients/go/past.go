@@ -42,7 +42,6 @@ type pastScope struct {
 type past struct {
 	night     int
 	tasks     map[taskKey]*pastTask
-	phases    map[tryName]string
 	scopes    map[string]*pastScope
 	order     []taskKey // the tasks, in the order of their last tries
 	used      int       // rows for tasks
@@ -84,7 +83,7 @@ func readPast(program, path string, night int) (*past, error) {
 	if err := json.Unmarshal(out, &all); err != nil {
 		return nil, fmt.Errorf("pokhnier: night inspect --json: %w", err)
 	}
-	p := &past{night: night, tasks: map[taskKey]*pastTask{}, phases: map[tryName]string{},
+	p := &past{night: night, tasks: map[taskKey]*pastTask{},
 		scopes: map[string]*pastScope{}, used: len(all.Tasks), room: all.Room.Tasks,
 		groups: len(all.Groups), groupRoom: all.Room.Groups}
 	for _, row := range all.Scopes {
@@ -154,7 +153,6 @@ func (p *past) end(name string, err, cause error) {
 
 func (p *past) addTask(row taskRow, number int) {
 	name := tryName{row.GroupName, row.Argument, number}
-	p.phases[name] = row.Phase
 	group, is := p.inPlan(row.GroupName)
 	if !is || row.Error != nil && *row.Error == "withdrawn" {
 		return

@@ -6,7 +6,6 @@ import (
 )
 
 const (
-	pools      = 64 // that groups can have; no pool can be added to a plan later
 	anyLimit   = 4_294_967_295
 	keeperRoom = "_"
 	keeper     = "stay"
@@ -49,6 +48,10 @@ func (r *room) lines() []string {
 	return lines
 }
 
+// poolLine adds a pool. It has all sizes that a limit may have: a command may not take more of a
+// pool than the plan says, whatever its size is by then.
+var poolLine = fmt.Sprintf("pool %d", anyLimit)
+
 // size returns the line for the limit of a room that has a pool.
 func (r *room) size(isCut bool) string {
 	limit := r.limit
@@ -75,6 +78,7 @@ func (c *command) lines() []string {
 // command that never begins, because its pool has no room. So the night isn't over before Finish
 // cancels its group.
 type plan struct {
+	pools    int // but for that of the keeper
 	rooms    []*room
 	commands []*command
 	running  map[int]*command // by their tasks
@@ -82,10 +86,11 @@ type plan struct {
 
 // newPlan numbers all rooms and all open commands, and returns the lines of a plan.
 func (s *Store) newPlan() []string {
-	s.plan = plan{rooms: []*room{nil}, commands: []*command{nil}, running: map[int]*command{}}
+	s.plan = plan{pools: s.pools, rooms: []*room{nil}, commands: []*command{nil},
+		running: map[int]*command{}}
 	var lines []string
-	for i := 0; i <= pools; i++ {
-		lines = append(lines, fmt.Sprintf("pool %d", anyLimit))
+	for i := 0; i <= s.pools; i++ {
+		lines = append(lines, poolLine)
 	}
 	lines = append(lines, "group 0 go-on "+keeperRoom, "command 0 0 0 0 1 0 "+keeper, "take 0 1")
 	for _, r := range s.roomList {
@@ -94,7 +99,7 @@ func (s *Store) newPlan() []string {
 	for _, c := range s.openInOrder() {
 		lines = append(lines, s.plan.addCommand(c)...)
 	}
-	s.todo.rooms, s.todo.commands = nil, nil
+	s.todo.pools, s.todo.rooms, s.todo.commands = 0, nil, nil
 	return lines
 }
 

@@ -1,13 +1,14 @@
 package pokhnier
 
 import (
+	"context"
 	"fmt"
 	"runtime"
 	"time"
 )
 
-// The pump is the goroutine that talks with `night drive`. All that is called while a round is under
-// way goes into the next one, and shares its syncs.
+// The pump is the goroutine that talks with `night drive`. All that is called while a round is
+// under way goes into the next one, and shares its syncs.
 
 func (s *Store) wakeUp() {
 	select {
@@ -58,12 +59,18 @@ func (s *Store) untilWork() time.Duration {
 	case !s.todo.isEmpty():
 		return 0
 	case s.later > 0:
-		wait = time.Until(time.Unix(s.later, 0))
+		wait = untilMoment(s.later)
 	}
 	for c := range s.dated {
-		wait = min(wait, time.Until(time.Unix(c.moment, 0)))
+		wait = min(wait, untilMoment(c.moment))
 	}
 	return wait
+}
+
+// untilMoment returns how long a timer may wait for a moment. It isn't more than a second, since
+// timers stop while the machine sleeps, and don't notice when its clock is set.
+func untilMoment(moment int64) time.Duration {
+	return min(time.Until(time.Unix(moment, 0)), time.Second)
 }
 
 // turn says what there is to say. If the session is lost, another one is opened.
@@ -80,7 +87,7 @@ func (s *Store) turn() {
 		s.putBack(p)
 		s.mu.Unlock()
 		if err = s.endLost(err); isLost(err) && lost < mostLost {
-			err = s.begin()
+			err = s.begin(context.Background()) // also for the good ends of a run that ends
 		}
 		if err != nil {
 			s.die(err)
@@ -120,11 +127,13 @@ func (s *Store) die(why error) {
 	}
 	s.mu.Lock()
 	s.dead = why
-	ended, ops := s.todo.ends, s.todo.ops
+	ops := s.todo.ops
 	s.todo = todo{}
 	var outcomes []outcome
-	for _, c := range ended {
-		outcomes = append(outcomes, s.leave(c, why))
+	for c := range s.open { // in whichever part its end is
+		if c.phase == hasEnded {
+			outcomes = append(outcomes, s.leave(c, why))
+		}
 	}
 	s.mu.Unlock()
 	s.interrupt(why)

@@ -8,10 +8,10 @@ import (
 	"unicode/utf16"
 )
 
-// The results stand in a file next to the store, and have what doesn't fit into it: results, and the
-// full texts of errors. The page ../README.md describes their lines. A line is written before the
-// store records what it belongs to, and counts only if the store has recorded that. So the results
-// decide nothing.
+// The results stand in a file next to the store, and have what doesn't fit into it: results, and
+// the full texts of errors. The page ../README.md describes their lines. A line is written before
+// the store records what it belongs to, and counts only if the store has recorded that. So the
+// results decide nothing.
 
 // How a try is, by the lines of the results.
 const (
@@ -40,8 +40,8 @@ type results struct {
 	errors []line // in the order of the failures
 }
 
-// openResults opens the lines of a night. It drops those of other nights, and the end of the file if
-// a crash left half a line there.
+// openResults opens the lines of a night. It drops those of other nights, and the end of the file
+// if a crash left half a line there.
 func openResults(path string, night int) (*results, error) {
 	text, err := os.ReadFile(path)
 	if err != nil && !os.IsNotExist(err) {
@@ -54,8 +54,10 @@ func openResults(path string, night int) (*results, error) {
 			return nil, err
 		}
 	}
-	r.file, err = os.OpenFile(path, os.O_WRONLY|os.O_APPEND, 0)
-	return r, err
+	if r.file, err = os.OpenFile(path, os.O_WRONLY|os.O_APPEND, 0); err != nil {
+		return nil, err
+	}
+	return r, nil
 }
 
 // readAll takes the lines of the night, and returns them.
@@ -157,6 +159,7 @@ func replaceFile(path string, text []byte) error {
 		err = os.Rename(beside, path)
 	}
 	if err != nil {
+		os.Remove(beside)
 		return err
 	}
 	return syncFolder(path)

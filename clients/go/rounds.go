@@ -25,14 +25,14 @@ func (s *Store) round(p *part) error {
 	s.mu.Lock()
 	news := s.take(p, a)
 	s.mu.Unlock()
-	err = s.results.write(news.results)
-	if err != nil {
+	if err = s.results.write(news.results); err != nil {
+		err = fmt.Errorf("%w: %w", errResults, err)
 		s.leaveBegun(news, err)
 	}
 	news.give()
 	if err != nil {
 		s.session.end()
-		s.die(fmt.Errorf("%w: %w", errResults, err))
+		s.die(err)
 	}
 	return nil
 }
@@ -41,6 +41,7 @@ func (s *Store) round(p *part) error {
 func (s *Store) leaveBegun(n *news, why error) {
 	s.mu.Lock()
 	defer s.mu.Unlock()
+	s.dead = why
 	for _, c := range n.begun {
 		s.functions.Done()
 		n.outcomes = append(n.outcomes, s.leave(c, why))
@@ -48,7 +49,7 @@ func (s *Store) leaveBegun(n *news, why error) {
 	n.begun = nil
 }
 
-var errResults = errors.New("pokhnier: the results can't be read or written")
+var errResults = fmt.Errorf("%w: the results can't be read or written", ErrLost)
 
 // take takes the answer to a part. The mutex is held.
 func (s *Store) take(p *part, a *answer) *news {
@@ -58,13 +59,13 @@ func (s *Store) take(p *part, a *answer) *news {
 	}
 	for _, it := range p.dones {
 		it.room.isDone = true
-		s.past.end(it.room.name, context.Canceled, it.cause)
+		s.past.end(it.room.name, context.Canceled, it.why.err)
 	}
 	for _, c := range p.due {
 		c := c
 		n.ends = append(n.ends, func() { c.end(context.DeadlineExceeded, c.cause, false) })
 		delete(s.dated, c)
-		s.past.end(c.name, context.DeadlineExceeded, c.cause)
+		s.past.end(c.name, context.DeadlineExceeded, c.cause.err)
 	}
 	for _, it := range p.ops {
 		n.ends = append(n.ends, it.ends...)
@@ -72,6 +73,10 @@ func (s *Store) take(p *part, a *answer) *news {
 			it.err = ErrUnfinished
 		}
 	}
+	for _, c := range p.ends {
+		s.noteFailure(c)
+	}
+	s.takeFirsts(p.firsts, a.firsts)
 	for _, c := range p.ends {
 		s.takeRecorded(n, c, a)
 	}
@@ -105,19 +110,25 @@ func (s *Store) bind(c *command, it begun) {
 	s.plan.running[it.task] = c
 }
 
-// takeStop asks a function to stop. Mostly its context has ended by then.
+// takeStop asks a function to stop. Mostly its context ends by the same answer, and has the very
+// error of which the program has the text.
 func (s *Store) takeStop(n *news, it stop) {
 	c := s.plan.running[it.task]
 	if c == nil {
 		return
 	}
-	c.why = errorOf(it.why)
-	if cause := context.Cause(c.group.ctx); cause != nil {
-		c.why = cause
-	}
-	if cancel, why := c.cancel, c.why; cancel != nil {
-		n.ends = append(n.ends, func() { cancel(why) })
-	}
+	c.why = reason{errorOf(it.why), it.why}
+	n.ends = append(n.ends, func() {
+		s.mu.Lock()
+		if why := c.group.ctx.reason(); why.err != nil && c.phase == isRunning {
+			c.why = why
+		}
+		cancel, why := c.cancel, c.why.err
+		s.mu.Unlock()
+		if cancel != nil {
+			cancel(why)
+		}
+	})
 }
 
 // takeBegin begins a command, if it wasn't left to the next run meanwhile.
@@ -128,12 +139,8 @@ func (s *Store) takeBegin(n *news, it begun) {
 		return
 	}
 	c.phase = isRunning
-	c.why = nil
-	local := s.cut
-	if local == nil {
-		local = c.group.ctx.localCause()
-	}
-	if local != nil {
+	c.why = reason{}
+	if local := s.localCause(c); local != nil {
 		n.outcomes = append(n.outcomes, s.leave(c, local))
 		return
 	}

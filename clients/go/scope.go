@@ -2,7 +2,6 @@ package pokhnier
 
 import (
 	"context"
-	"errors"
 	"fmt"
 	"time"
 )
@@ -13,7 +12,7 @@ type ScopeOption func(*scopeWish)
 type scopeWish struct {
 	at         time.Time
 	words      string
-	cause      error
+	cause      reason
 	values     map[Key]string
 	isDetached bool
 }
@@ -34,11 +33,12 @@ func deadline(at time.Time, words string, cause error) ScopeOption {
 	if cause == nil {
 		cause = context.DeadlineExceeded
 	}
-	return func(w *scopeWish) { w.at, w.words, w.cause = at, words, cause }
+	why := reasonOf(cause)
+	return func(w *scopeWish) { w.at, w.words, w.cause = at, words, why }
 }
 
-// Value gives a scope a value. A scope that an earlier run made keeps the text that it had there. So
-// a number that the first run has drawn is the one of all runs.
+// Value gives a scope a value. A scope that an earlier run made keeps the text that it had there.
+// So a number that the first run has drawn is the one of all runs.
 func Value(key Key, text string) ScopeOption {
 	return func(w *scopeWish) {
 		if w.values == nil {
@@ -83,12 +83,12 @@ func (c *Ctx) endAsBefore() {
 	}
 	cause := row.reason
 	switch _, isPast := cause.(*Recorded); {
-	case row.err == context.DeadlineExceeded && c.cause != nil:
-		cause = c.cause
-	case hasText && isPast && textOf(errors.New(text)) == cause.Error():
+	case row.err == context.DeadlineExceeded && c.cause.err != nil:
+		cause = c.cause.err
+	case hasText && isPast && textOf(text) == cause.Error():
 		cause = errorOf(text)
 	}
-	c.end(row.err, cause, false)
+	c.end(row.err, reasonOf(cause), false)
 }
 
 // give lets a context live, or ends it for this run if it couldn't be opened.
@@ -98,7 +98,7 @@ func (c *Ctx) give(err error) {
 		c.isDone = make(chan struct{})
 	}
 	if err != nil {
-		c.end(context.Canceled, err, true)
+		c.end(context.Canceled, reasonOf(err), true)
 		return
 	}
 	c.watch()
@@ -106,7 +106,7 @@ func (c *Ctx) give(err error) {
 	cut := c.s.cut
 	c.s.mu.Unlock()
 	if cut != nil {
-		c.end(context.Canceled, cut, true)
+		c.end(context.Canceled, reasonOf(cut), true)
 	}
 }
 
@@ -146,8 +146,8 @@ func (c *Ctx) openOp(wish *scopeWish) (*op, error) {
 	return o, nil
 }
 
-// openDeadline finds the deadline of a scope, or makes a room for it. It reports whether a round has
-// to be durable for that.
+// openDeadline finds the deadline of a scope, or makes a room for it. It reports whether a round
+// has to be durable for that.
 func (c *Ctx) openDeadline(wish *scopeWish) (bool, error) {
 	s := c.s
 	row := s.past.scopes[c.name]
@@ -165,11 +165,14 @@ func (c *Ctx) openDeadline(wish *scopeWish) (bool, error) {
 	return !isOld || c.moment <= time.Now().Unix(), nil
 }
 
+// lastMoment is the latest one of a store, in the year 9987.
+const lastMoment = 253_000_000_000
+
 // momentOf returns the second with which a deadline comes.
 func momentOf(at time.Time) int64 {
 	moment := at.Unix()
 	if at.After(time.Now()) && at.Nanosecond() > 0 {
 		moment++
 	}
-	return max(moment, 0)
+	return min(max(moment, 0), lastMoment)
 }

@@ -1,6 +1,7 @@
 package pokhnier
 
 import (
+	"context"
 	"errors"
 	"fmt"
 	"io"
@@ -30,8 +31,8 @@ func isLost(err error) bool {
 }
 
 // begin opens a session. While another program has the store, and while the sessions are killed, it
-// tries again.
-func (s *Store) begin() error {
+// tries again, unless this run ends.
+func (s *Store) begin(run context.Context) error {
 	end := time.Now().Add(busyTime)
 	for lost := 0; ; {
 		err := s.beginOnce()
@@ -46,7 +47,9 @@ func (s *Store) begin() error {
 		if lost == mostLost {
 			return err
 		}
-		time.Sleep(lostTime)
+		if ended := pause(run, lostTime); ended != nil {
+			return ended
+		}
 	}
 }
 
@@ -105,9 +108,13 @@ func (s *Store) readNight(night int) (*past, error) {
 	isOpen := make(chan struct{})
 	go func() {
 		defer close(isOpen)
-		if s.results == nil || s.results.night != night {
-			s.results, opening = openResults(s.path+".results", night)
+		if s.results != nil && s.results.night == night {
+			return
 		}
+		if s.results != nil {
+			s.results.file.Close()
+		}
+		s.results, opening = openResults(s.path+".results", night)
 	}()
 	found, err := readPast(s.program, s.path, night)
 	<-isOpen
@@ -129,11 +136,19 @@ func (s *Store) firstPart(found *past) (*part, error) {
 		if c.phase == isWaiting {
 			continue
 		}
-		switch phase := found.phases[c.try]; {
+		phase := ""
+		// If a session died before its `rebound` was read, the last try has another name.
+		if row := found.tasks[taskKey{c.group.name, c.key}]; row != nil {
+			phase, c.try = row.phase, row.last
+		}
+		switch {
 		case phase == phaseInterrupted:
 			p.lines = append(p.lines, fmt.Sprintf("lives %s %s %d", c.try.group, c.try.key, c.try.number))
 		case c.phase == hasEnded && (phase == phaseOK || phase == phaseFailed):
 			p.ends = append(p.ends, c)
+			if s.asksFirst(c) {
+				p.askFirst(c.group.room)
+			}
 			s.results.take(c.line(found.night))
 		default:
 			return nil, fmt.Errorf("%w: the try %s %s %d", ErrOther, c.try.group, c.try.key, c.try.number)
@@ -142,7 +157,7 @@ func (s *Store) firstPart(found *past) (*part, error) {
 	s.todo.ends = without(s.todo.ends, p.ends)
 	p.lines = append(p.lines, "size 0 0")
 	for _, r := range s.roomList {
-		if r.pool > 0 {
+		if 0 < r.pool && r.pool <= s.plan.pools { // later ones come in the next round
 			p.lines = append(p.lines, r.size(s.cut != nil))
 		}
 	}
@@ -150,6 +165,7 @@ func (s *Store) firstPart(found *past) (*part, error) {
 	if len(p.ends) > 0 || len(s.open) > 0 {
 		p.lines = append(p.lines, "standings")
 	}
+	p.addFirsts()
 	return p, nil
 }
 

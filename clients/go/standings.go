@@ -3,7 +3,6 @@ package pokhnier
 import (
 	"context"
 	"encoding/json"
-	"fmt"
 )
 
 func isFinalStanding(standing string) bool {
@@ -18,19 +17,18 @@ func isFinalStanding(standing string) bool {
 func (s *Store) takeRecorded(n *news, c *command, a *answer) {
 	g := c.group
 	delete(s.plan.running, c.task)
-	s.dropFailure(c)
 	row := &pastTask{last: c.try, phase: phaseOK}
 	s.past.tasks[taskKey{g.name, c.key}] = row
 	if c.err == nil {
 		n.outcomes = append(n.outcomes, s.settle(c, c.result, nil))
 		return
 	}
-	row.phase, row.text = phaseFailed, textOf(c.err)
+	row.phase, row.text = phaseFailed, textOf(c.text)
 	if !isFinalStanding(a.stands[c.number]) {
-		c.phase, c.err, c.result = isWaiting, nil, nil
+		s.takeRetry(n, c)
 		return
 	}
-	if c.why == nil {
+	if c.why.err == nil {
 		s.takeFailure(n, c)
 	} else {
 		row.text = canceledText
@@ -40,16 +38,39 @@ func (s *Store) takeRecorded(n *news, c *command, a *answer) {
 	n.outcomes = append(n.outcomes, s.settle(c, nil, c.err))
 }
 
-// takeFailure takes a failure for good. If it is the first one of a group that it cancels, the
-// context of the group ends, and so do groups in it.
+// takeRetry lets a command wait for its retry, unless nothing of it begins any more in this run.
+func (s *Store) takeRetry(n *news, c *command) {
+	c.phase, c.err, c.result = isWaiting, nil, nil
+	if local := s.localCause(c); local != nil {
+		n.outcomes = append(n.outcomes, s.leave(c, local))
+	}
+}
+
+// localCause returns why a command is left to the next run, or nil.
+func (s *Store) localCause(c *command) error {
+	if s.cut != nil {
+		return s.cut
+	}
+	return c.group.ctx.localCause()
+}
+
+// takeFailure takes a failure for good. If the group has a context of its own, it ends with the
+// first error of the group, and so do groups in it.
 func (s *Store) takeFailure(n *news, c *command) {
 	g := c.group
-	s.failures[g.name] = append(s.failures[g.name], failure{c.key, c.err})
-	if g.isOwn {
-		err := c.err
-		n.ends = append(n.ends, func() { g.ctx.endByFailure(err) })
-		s.todo.dones = append(s.todo.dones, s.donesBelow(g.ctx, err)...)
+	if !g.isOwn {
+		return
 	}
+	why := reason{c.err, c.text}
+	if first := s.firsts[g.name]; first.err != nil && first.key != c.key {
+		why = reason{first.err, first.text}
+	}
+	for _, it := range s.named[g.name] {
+		if it := it; it.group != nil && it.group.isOwn {
+			n.ends = append(n.ends, func() { it.endByFailure(why) })
+		}
+	}
+	s.todo.dones = append(s.todo.dones, s.donesBelow(g.ctx, why)...)
 }
 
 // takeStanding takes how a command stands that isn't running.
@@ -78,11 +99,11 @@ func (s *Store) takeStanding(n *news, c *command, standing string) {
 
 // whyNotRun returns the error of a task that isn't run, because its group is done.
 func (s *Store) whyNotRun(g *Group) error {
-	if first := s.firstFailure(g); first != nil {
-		return fmt.Errorf("%w: %w", ErrNotRun, first)
+	if first := s.firstOf(g); first != nil {
+		return &joined{ErrNotRun, first, ": "}
 	}
 	if cause := context.Cause(g.ctx); cause != nil {
-		return fmt.Errorf("%w: %w", ErrNotRun, cause)
+		return &joined{ErrNotRun, cause, ": "}
 	}
 	return ErrNotRun
 }

@@ -26,7 +26,9 @@ type Store struct {
 	past     *past
 	results  *results
 	failures map[string][]failure
-	finals   map[taskKey]error // of tasks that failed or were canceled in this run
+	firsts   map[string]failure // of the groups that have a first error
+	left     map[taskKey]error  // why a task was left to the next run
+	finals   map[taskKey]error  // of tasks that failed or were canceled in this run
 	plan     plan
 	rooms    map[string]*room
 	roomList []*room
@@ -57,7 +59,10 @@ func Open(run context.Context, path string) (*Store, error) {
 	if err != nil {
 		return nil, err
 	}
-	lock, err := lockClient(path + ".client")
+	if path, err = wholePath(path); err != nil {
+		return nil, err
+	}
+	lock, err := lockClient(run, path+".client")
 	if err != nil {
 		return nil, err
 	}
@@ -65,12 +70,9 @@ func Open(run context.Context, path string) (*Store, error) {
 		lock.Close()
 		return nil, err
 	}
-	s := &Store{path: path, program: program, lock: lock, wake: make(chan struct{}, 1),
-		ended: make(chan struct{}), finals: map[taskKey]error{}, rooms: map[string]*room{},
-		open: map[*command]struct{}{}, isOpen: map[taskKey]bool{}, ctxs: map[*Ctx]struct{}{},
-		dated: map[*Ctx]struct{}{}, named: map[string][]*Ctx{}}
-	if err := s.begin(); err != nil {
-		lock.Close()
+	s := newStore(path, program, lock)
+	if err := s.begin(run); err != nil {
+		s.closeFiles()
 		return nil, err
 	}
 	s.root = newCtx(s, "root", context.WithoutCancel(run), nil, false)
@@ -84,6 +86,14 @@ func Open(run context.Context, path string) (*Store, error) {
 	}
 	go s.pump()
 	return s, nil
+}
+
+func newStore(path, program string, lock *os.File) *Store {
+	return &Store{path: path, program: program, lock: lock, wake: make(chan struct{}, 1),
+		ended: make(chan struct{}), finals: map[taskKey]error{}, firsts: map[string]failure{},
+		left: map[taskKey]error{}, rooms: map[string]*room{}, open: map[*command]struct{}{},
+		isOpen: map[taskKey]bool{}, ctxs: map[*Ctx]struct{}{}, dated: map[*Ctx]struct{}{},
+		named: map[string][]*Ctx{}}
 }
 
 // Root returns the context above all others of the store. It ends with this run alone.
@@ -119,8 +129,7 @@ func (s *Store) endRun() error {
 	s.mu.Unlock()
 	s.wakeUp()
 	<-s.ended
-	defer s.lock.Close()
-	s.results.file.Close()
+	defer s.closeFiles()
 	s.mu.Lock()
 	dead := s.dead
 	s.mu.Unlock()
@@ -131,6 +140,14 @@ func (s *Store) endRun() error {
 		return err
 	}
 	return nil
+}
+
+// closeFiles closes the results, and then gives the lock back.
+func (s *Store) closeFiles() {
+	if s.results != nil {
+		s.results.file.Close()
+	}
+	s.lock.Close()
 }
 
 // Finish ends the night, and closes the store. The next Open begins another night, in which all
@@ -167,6 +184,7 @@ func (s *Store) hasInterrupted() bool {
 
 // interrupt ends this run for its functions.
 func (s *Store) interrupt(why error) {
+	reason := reasonOf(why)
 	s.mu.Lock()
 	if s.cut != nil {
 		s.mu.Unlock()
@@ -186,7 +204,7 @@ func (s *Store) interrupt(why error) {
 	s.mu.Unlock()
 	s.wakeUp()
 	for _, c := range live {
-		c.end(context.Canceled, why, true)
+		c.end(context.Canceled, reason, true)
 	}
 	for _, it := range outcomes {
 		it.give()

@@ -16,6 +16,15 @@ func (e *Recorded) Error() string { return e.Text }
 // Is reports whether the target has the same text.
 func (e *Recorded) Is(target error) bool { return target.Error() == e.Text }
 
+// A reason is an error with its text. Whoever gives the error asks for the text, once: so no method
+// of it runs under the mutex of the store.
+type reason struct {
+	err  error
+	text string
+}
+
+func reasonOf(err error) reason { return reason{err, err.Error()} }
+
 // errorOf returns the error with a text. The two errors of package context are themselves.
 func errorOf(text string) error {
 	switch text {
@@ -29,8 +38,8 @@ func errorOf(text string) error {
 
 // textOf returns the text of an error as the store takes it: 1 to 64 bytes of printable ASCII. A
 // text that means something else in the store has `error: ` before it.
-func textOf(err error) string {
-	text := strings.Map(printable, err.Error())
+func textOf(text string) string {
+	text = strings.Map(printable, text)
 	if text == "interrupted" || text == "withdrawn" || strings.HasPrefix(text, canceledText) {
 		text = "error: " + text
 	}

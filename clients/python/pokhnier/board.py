@@ -3,16 +3,19 @@
 from __future__ import annotations
 
 import threading
+from collections.abc import Iterator
+from contextlib import contextmanager, suppress
 
-from .calls import Call, Ended, GroupPlan, Runs, Settled, Waits
+from .calls import Call, Ended, GroupPlan, Runs, Settled, Waits, has_failed
 from .current import Try
 from .errors import Canceled, Error, Interrupted
-from .orders import Begin, Later, Order, Rebound, Stands, Stop
-from .outcomes import Ok, raised
+from .names import error_text
+from .orders import Begin, ErrorOf, First, Later, Order, Rebound, Stands, Stop
+from .outcomes import NO_TEXT, Ok, Wrong, raised, wrong
 from .plan import Plan
 from .results import Results
 from .rounds import Round
-from .wishes import AddCall, AddGroup, CancelCall, End, Wish
+from .wishes import AddCall, AddGroup, AskError, CancelCall, End, Wish
 
 
 class Board:
@@ -26,6 +29,11 @@ class Board:
         self.running: dict[int, Call] = {}
         self.later: int | None = None
         self.cut: Error | None = None
+        # These are opened after each round. (Ctrl-C may come when a future's lock was just taken.
+        # Then the thread of the store would never get that lock. It doesn't take these.)
+        self.gates: list[threading.Lock] = []
+        # What the answers of the program have it asked in the next round.
+        self.questions: list[Wish] = []
 
     def round(self, wishes: list[Wish]) -> tuple[Round, list[Wish]]:
         """The next round, with all of these wishes for which it isn't too late, and those that come
@@ -52,11 +60,12 @@ class Board:
             case AddGroup(group):
                 self.has_deadline = self.has_deadline or group.until is not None
             case AddCall(call):
-                return not self.is_cut(call)
+                return not self.is_cut(call) and not isinstance(call.state, Settled)
             case CancelCall(call):
                 return call.number >= 0 and not isinstance(call.state, Settled)
-            case End(call, outcome, _) if isinstance(call.state, Runs):
-                return isinstance(outcome, Ok) or not call.state.one.is_cut()
+            case End(call, outcome, _):
+                return isinstance(call.state, Runs) and (
+                    isinstance(outcome, Ok) or not call.state.one.is_cut())
             case _:
                 pass
         return True
@@ -68,8 +77,8 @@ class Board:
                 self.fail(call, self.cut_of(call))
             case End(call, _, _) if isinstance(call.state, Runs):
                 self.fail(call, call.state.one.why or self.cut_of(call))
-            case CancelCall(_, _, durable):
-                durable.set_result(None)
+            case CancelCall(_, _, answer):
+                answer.set_result(None)
             case _:
                 pass
 
@@ -89,12 +98,40 @@ class Board:
                     self.stand(self.plan.call(command), standing)
                 case Later(moment):
                     self.later = moment
+        texts = {it.group: it.text for it in orders if isinstance(it, First)}
+        for asked in made.firsts:
+            asked.answer.set_result(texts.get(asked.group.number))
+        errors = {it.command: it.text for it in orders if isinstance(it, ErrorOf)}
+        for call in made.asked:
+            self.fail_for_good(call, Wrong(errors.get(call.number, NO_TEXT)))
+
+    @contextmanager
+    def gate(self) -> Iterator[threading.Lock]:
+        """A lock that can be taken once after each round."""
+        gate = threading.Lock()
+        self.gates.append(gate)
+        try:
+            yield gate
+        finally:
+            self.gates.remove(gate)
+
+    def open_gates(self) -> None:
+        """Lets those look who wait for the end of calls."""
+        for gate in list(self.gates):
+            with suppress(RuntimeError):
+                gate.release()
 
     def begin_all(self, orders: list[Order]) -> None:
         """Writes which tries begin, and only then calls their functions."""
-        bound = [self.bind(it) for it in orders if isinstance(it, Begin | Rebound)]
-        self.results.flush()
-        for call in filter(None, bound):
+        bound = [it for order in orders if isinstance(order, Begin | Rebound)
+                 if (it := self.bind(order))]
+        try:
+            self.results.flush()
+        except OSError:
+            for call in bound:  # (their functions aren't called)
+                call.state = Waits()
+            raise
+        for call in bound:
             assert isinstance(call.state, Runs)
             call.runner.begin(call, call.state.one)
 
@@ -130,15 +167,45 @@ class Board:
             case "ok":
                 self.settle(call, Settled())
                 call.future.set_result(outcome.value if isinstance(outcome, Ok) else None)
+            case "failed" if isinstance(outcome, Wrong):
+                self.fail_for_good(call, outcome, seen)
             case "failed":
-                self.settle(call, Settled(failed=True))
-                call.future.set_exception(raised(outcome, seen))
+                call.state = Waits()
+                self.questions.append(AskError(call))
             case "canceled" | "given-up":
-                self.fail(call, Canceled(self.results.reason(call.name)))
+                reason = self.results.reason(call.name)
+                self.fail(call, Canceled(reason or call.reason or "canceled"))
             case _ if self.is_cut(call):
                 self.fail(call, self.cut_of(call))
             case _:
                 call.state = Waits()
+
+    def fail_for_good(self, call: Call, outcome: Wrong, seen: BaseException | None = None) -> None:
+        """The last try of a call has failed, and it has no retry left."""
+        if not isinstance(call.state, Settled):
+            self.settle(call, Settled(failed=True))
+            call.future.set_exception(raised(outcome, seen))
+
+    def error_with(self, group: GroupPlan, text: str) -> BaseException:
+        """The error of a group that has this text in the store. If the texts of several are cut off
+        to this one, it is the one that stands first in the results."""
+        calls = {it.name: it for it in self.plan.calls if it and it.group is group}
+        for name, outcome in self.results.failures(group.name):
+            if error_text(outcome.text) == text:
+                call = calls.get(name)
+                error = call.future.exception() if call and has_failed(call) else None
+                return error or raised(outcome)
+        return raised(Wrong(text))
+
+    def lost(self) -> list[Wish]:
+        """The ends of functions that can't go on any more."""
+        found: list[Wish] = []
+        for call in self.plan.calls:
+            if call and isinstance(call.state, Runs) and call.runner.is_lost():
+                why = Interrupted("its event loop is closed")
+                call.state.one.stop(why)
+                found.append(End(call, wrong(why), why))
+        return found
 
     def stop(self, call: Call | None, why: Error) -> None:
         """The function of a call has to stop, if it runs."""
@@ -164,6 +231,7 @@ class Board:
             self.stop(call, why)
             if isinstance(call.state, Waits):
                 self.fail(call, why)
+        self.open_gates()
 
     def end(self, why: Error) -> None:
         """The run has ended. Functions that run go on until they ask."""
@@ -174,6 +242,12 @@ class Board:
             self.stop(call, why)
             if not isinstance(call.state, Runs):
                 self.fail(call, why)
+
+    def forget(self, call: Call) -> None:
+        """Nobody will add this call, if it isn't in the plan."""
+        with self.lock:
+            if call.number < 0:
+                self.fail(call, Interrupted("its call was interrupted"))
 
     def fail(self, call: Call, why: Error) -> None:
         """A call ends without an end of its function."""

@@ -12,6 +12,7 @@ from .outcomes import Outcome
 
 
 HUGE = 4_294_967_295
+WAYS = ("cancel", "stop", "go-on")
 
 
 class Runner(Protocol):
@@ -22,6 +23,12 @@ class Runner(Protocol):
 
     def stop(self) -> None:
         """The function has to stop. `Try.stop` was called before."""
+
+    def is_lost(self) -> bool:
+        """Whether the function hasn't ended, and never will."""
+
+    def is_here(self) -> bool:
+        """Whether the function can't go on before the caller of this does."""
 
 
 @dataclass(frozen=True)
@@ -34,8 +41,9 @@ class Retries:
     longest: int = 86_400
 
     def __post_init__(self) -> None:
-        if not all(0 <= it <= HUGE for it in (self.count, self.wait, self.factor, self.longest)):
-            raise ValueError(f"retries are numbers from 0 to {HUGE}")
+        its = (self.count, self.wait, self.factor, self.longest)
+        if not all(type(it) is int and 0 <= it <= HUGE for it in its):
+            raise ValueError(f"retries are whole numbers from 0 to {HUGE}")
 
 
 @dataclass(eq=False)
@@ -51,8 +59,10 @@ class GroupPlan:
     is_cut: bool = False
 
     def __post_init__(self) -> None:
-        if self.limit is not None and not 0 < self.limit <= HUGE:
-            raise ValueError(f"a limit is 1 to {HUGE}")
+        if self.limit is not None and not (type(self.limit) is int and 0 < self.limit <= HUGE):
+            raise ValueError(f"a limit is a whole number from 1 to {HUGE}")
+        if self.way not in WAYS:
+            raise ValueError(f"on_error is one of {', '.join(WAYS)}")
 
 
 @dataclass(frozen=True)
@@ -97,7 +107,13 @@ class Call:
     future: Future[Any] = field(default_factory=running_future)
     number: int = -1
     state: Waits | Runs | Ended | Settled = field(default_factory=Waits)
+    reason: str | None = None  # for which it was canceled in this run
 
     @property
     def name(self) -> tuple[str, str]:
         return self.group.name, self.key
+
+
+def has_failed(call: Call) -> bool:
+    """Whether its function has failed for good."""
+    return isinstance(call.state, Settled) and call.state.failed

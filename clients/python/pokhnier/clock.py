@@ -7,6 +7,10 @@ import time
 from dataclasses import dataclass
 
 
+# The latest moment of a store.
+LAST = 253_000_000_000
+
+
 @dataclass(frozen=True)
 class Until:
     """A deadline, and the words by which a later run finds it again."""
@@ -23,7 +27,12 @@ def until_of(timeout: float | None, deadline: float | None) -> Until | None:
     if timeout is not None and deadline is not None:
         raise ValueError("give a timeout or a deadline, not both")
     if timeout is not None:
-        return Until(math.ceil(time.time() + timeout), f"within {timeout:g} s")
+        return Until(moment_of(time.time() + timeout), f"within {timeout:g} s")
     if deadline is not None:
-        return Until(math.ceil(deadline), f"at {math.ceil(deadline)}")
+        return Until(moment_of(deadline), f"at {moment_of(deadline)}")
     return None
+
+
+def moment_of(seconds: float) -> int:
+    """The moment with which a deadline comes."""
+    return LAST if seconds > LAST else max(0, math.ceil(seconds))

@@ -2,6 +2,7 @@
 
 from __future__ import annotations
 
+import contextlib
 import os
 import subprocess
 
@@ -10,17 +11,17 @@ from .orders import Order, order_of
 from .program import program
 
 MOST = 1 << 16
-FAULTY = 3
+WRONG_WORDS, FAULTY = 2, 3
 
 
 class Drive:
     """The program, from the start of its run to its end."""
 
     def __init__(self, store: str) -> None:
-        self.store = store
+        self.store, self.path = store, program()
         # (A session of its own, so that Ctrl-C at a terminal doesn't end it.)
         self.process = subprocess.Popen(
-            [program(), "drive", store], stdin=subprocess.PIPE, stdout=subprocess.PIPE,
+            [self.path, "drive", store], stdin=subprocess.PIPE, stdout=subprocess.PIPE,
             stderr=subprocess.PIPE, bufsize=0, start_new_session=True)
         self.rest = bytearray()
         self.has_answered = False
@@ -64,6 +65,8 @@ class Drive:
         said, status = self.end()
         if "in use by another program" in said:
             return InUse(f"{self.store}: in use by another program")
+        if status == WRONG_WORDS:
+            return Refused(f"{self.path} is no `night` that has `drive`: {said}")
         if status == FAULTY and not self.has_answered:
             return Refused(said.replace("\n", " "))
         return Lost(f"night drive ended with status {status}: {said or 'it said nothing'}")
@@ -73,9 +76,16 @@ class Drive:
         assert self.process.stdin and self.process.stdout and self.process.stderr
         if self.process.stderr.closed:
             return "", self.process.wait()
-        self.process.stdin.close()
+        with contextlib.suppress(OSError):
+            self.process.stdin.close()
         said = self.process.stderr.read().decode(errors="replace").strip()
         self.process.stderr.close()
         status = self.process.wait()
         self.process.stdout.close()
         return said, status
+
+    def leave(self) -> None:
+        """Closes the files of this process, which was forked, and waits for nothing."""
+        for file in (self.process.stdin, self.process.stdout, self.process.stderr):
+            if file:
+                file.close()

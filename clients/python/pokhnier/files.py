@@ -57,9 +57,14 @@ class Lines:
         with contextlib.suppress(FileNotFoundError):
             os.remove(beside)
         fresh = Lines(beside)
-        fresh.append(lines)
-        fresh.sync()
-        os.rename(beside, self.path)
+        try:
+            fresh.append(lines)
+            fresh.sync()
+            os.rename(beside, self.path)
+        except OSError:
+            fresh.close()
+            os.remove(beside)
+            raise
         sync_folder(self.path)
         os.close(self.file)
         self.file = fresh.file
@@ -75,4 +80,6 @@ class Lines:
         os.fdatasync(self.file)
 
     def close(self) -> None:
-        os.close(self.file)
+        if self.file >= 0:
+            os.close(self.file)
+        self.file = -1

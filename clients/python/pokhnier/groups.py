@@ -4,20 +4,19 @@ from __future__ import annotations
 
 import asyncio
 from collections.abc import Callable, Coroutine
-from concurrent.futures import wait
 from functools import partial
 from types import TracebackType
 from typing import Any, ParamSpec, TypeVar
 
-from .calls import Call, GroupPlan, Runner
+from .calls import Call, GroupPlan, Runner, Settled
 from .coroutines import CoroutineRunner, ended
-from .ends import end_of
+from .ends import cut_of, end_of, may_have_failed
 from .errors import Interrupted, Refused
 from .names import key_name
 from .pump import Pump
 from .tasks import Task
 from .threads import ThreadRunner
-from .wishes import AddCall, CancelGroup
+from .wishes import AddCall, AskFirst, CancelGroup
 
 P = ParamSpec("P")
 T = TypeVar("T")
@@ -52,10 +51,14 @@ class Group:
 
     def _add(self, key: str, runner: Runner) -> Task[T]:
         name = key_name(key)
-        if name in self._calls:
-            raise Refused(f"{self.name}: this run has called {key} before")
-        call = self._calls[name] = Call(self._plan, name, runner)
-        self._pump.add(AddCall(call))
+        call = Call(self._plan, name, runner)
+        try:
+            if self._calls.setdefault(name, call) is not call:
+                raise Refused(f"{self.name}: this run has called {key} before")
+            self._pump.add(AddCall(call))
+        except KeyboardInterrupt:
+            self._pump.board.forget(call)
+            raise
         return Task(self._pump, call)
 
     def cancel(self, why: str = "canceled") -> None:
@@ -63,16 +66,29 @@ class Group:
         more. That is durable once this returns."""
         wish = CancelGroup(self._plan, why)
         self._pump.add(wish)
-        wish.durable.result()
+        wish.answer.result()
 
     def wait(self) -> None:
         """Waits until all tasks have ended, as the end of a `with` statement does, and raises the
         first error."""
         self.__exit__(None, None, None)
 
-    def _end(self, seen: BaseException | None = None) -> None:
-        """Raises the first error, unless it is this one, which is raised already."""
-        error = end_of(self._plan, list(self._calls.values()), self._pump.board.results)
+    def _asked(self) -> AskFirst | None:
+        """Asks the program for the first error, if a function may have failed."""
+        calls = list(self._calls.values())
+        if cut_of(calls) or not may_have_failed(self._plan, calls, self._pump.board.results):
+            return None
+        self._pump.add(wish := AskFirst(self._plan))
+        return wish
+
+    def _end(self, first: str | None, seen: BaseException | None) -> None:
+        """Raises the error of the group, unless it is this one, which is raised already. That this
+        run is over comes first, and then the first error of a function."""
+        calls, board = list(self._calls.values()), self._pump.board
+        error = cut_of(calls)
+        if not error and first is not None:
+            error = board.error_with(self._plan, first)
+        error = error or end_of(self._plan, calls, board.results)
         if error and error is not seen:
             raise error
 
@@ -83,13 +99,30 @@ class Group:
 
     def _cut(self) -> None:
         """This run has no use for the group any more. Its functions are waited for."""
+        if self._pump.left:
+            return
         self._pump.cut_group(self._plan, Interrupted("its block has ended early"))
         self.join()
 
     def join(self) -> None:
-        """Waits until all tasks have ended, and raises no error."""
-        while left := [it.future for it in list(self._calls.values()) if not it.future.done()]:
-            wait(left)
+        """Waits until all tasks have ended, and raises no error of theirs."""
+        if self._pump.left:
+            raise self._pump.left
+        left = self._open()
+        if any(it.runner.is_here() for it in left):
+            raise Refused(f"{self.name}: its functions run in this event loop, which can't wait"
+                          " here for them; use `async with`")
+        with self._pump.board.gate() as gate:
+            while left:
+                while left and isinstance(left[-1].state, Settled):
+                    left.pop()
+                if left:
+                    gate.acquire(timeout=1)
+                left = left or self._open()
+
+    def _open(self) -> list[Call]:
+        """The calls that haven't ended."""
+        return [it for it in list(self._calls.values()) if not isinstance(it.state, Settled)]
 
     def __enter__(self) -> Group:
         return self
@@ -101,10 +134,12 @@ class Group:
             return
         try:
             self.join()
+            asked = self._asked()
+            first = asked.answer.result() if asked else None
         except BaseException:
             self._cut()
             raise
-        self._end(error)
+        self._end(first, error)
 
     async def __aenter__(self) -> Group:
         return self
@@ -116,10 +151,12 @@ class Group:
             return
         try:
             await self._all()
+            asked = self._asked()
+            first = await asyncio.wrap_future(asked.answer) if asked else None
         except asyncio.CancelledError:
             await self._all_cut()
             raise
-        self._end(error)
+        self._end(first, error)
 
     async def _all(self) -> None:
         while left := [it.future for it in list(self._calls.values()) if not it.future.done()]:

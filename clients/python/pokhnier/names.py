@@ -26,7 +26,15 @@ def key_name(text: str) -> str:
 def hashed(text: str, kept: int, digits: int) -> str:
     """What is readable of a text, and some digits of its hash."""
     readable = re.sub(r"[^a-z0-9_]+", "-", text.translate(UPPER)).strip("-")[:kept].rstrip("-")
-    return f"{readable}_{hashlib.sha256(text.encode()).hexdigest()[:digits]}"
+    return f"{readable}_{hashlib.sha256(bytes_of(text)).hexdigest()[:digits]}"
+
+
+def bytes_of(text: str) -> bytes:
+    """The text in UTF-8. The name of a file that isn't in UTF-8 has its own bytes."""
+    try:
+        return text.encode("utf-8", "surrogateescape")
+    except UnicodeEncodeError:
+        return text.encode("utf-8", "surrogatepass")
 
 
 def text_of(text: str) -> str:

@@ -38,6 +38,20 @@ class Stands:
 
 
 @dataclass(frozen=True)
+class ErrorOf:
+    """The error with which the last try of a command has failed."""
+    command: int
+    text: str
+
+
+@dataclass(frozen=True)
+class First:
+    """The first error of a group."""
+    group: int
+    text: str
+
+
+@dataclass(frozen=True)
 class Later:
     """The moment at which to ask again."""
     moment: int
@@ -64,7 +78,8 @@ class Planned:
     """The plan is accepted."""
 
 
-Order = Begin | Rebound | Stop | Stands | Later | Night | Durable | Over | Planned
+Order = (Begin | Rebound | Stop | Stands | ErrorOf | First | Later | Night | Durable | Over
+         | Planned)
 
 
 def order_of(line: str) -> Order:
@@ -78,6 +93,10 @@ def order_of(line: str) -> Order:
             return Stop(int(task), " ".join(why))
         case ["stands", command, standing, *_]:
             return Stands(int(command), standing)
+        case ["error", command, *text]:
+            return ErrorOf(int(command), " ".join(text))
+        case ["first", group, *text]:
+            return First(int(group), " ".join(text))
         case ["later", moment]:
             return Later(int(moment))
         case ["night", number]:

@@ -8,7 +8,7 @@ import json
 from dataclasses import dataclass
 from typing import Any
 
-from .errors import Canceled, Failed, Refused
+from .errors import Canceled, Failed
 
 
 @dataclass(frozen=True)
@@ -42,6 +42,7 @@ class Stopped:
 
 
 Outcome = Ok | Wrong | Stopped
+NO_TEXT = "nothing says how it failed"
 
 
 def outcome_of(members: dict[str, Any]) -> Outcome | None:
@@ -57,25 +58,43 @@ def outcome_of(members: dict[str, Any]) -> Outcome | None:
             return None
 
 
+# What follows runs code of others, such as a `__str__` that raises. Whatever it raises, there is an
+# outcome: somebody waits for it.
+
 def good(value: object) -> Outcome:
-    """The outcome of a function that returned a value: what a reader of its JSON text returns."""
+    """The outcome of a function that returned a value."""
     try:
-        return Ok(json.loads(json.dumps(value, allow_nan=False)))
-    except (TypeError, ValueError) as error:
-        return wrong(TypeError(f"the result is no JSON: {error}"))
+        return Ok(json_of(value))
+    except BaseException as error:
+        return wrong(error)
+
+
+def json_of(value: object) -> Any:
+    """What a reader of the JSON text of a value returns."""
+    try:
+        return json.loads(json.dumps(value, allow_nan=False))
+    except Exception as error:
+        raise TypeError(f"the result is no JSON: {said(error)}") from error
 
 
 def wrong(error: BaseException) -> Wrong:
     """The outcome of a function that raised an error."""
-    kind = f"{type(error).__module__}:{type(error).__qualname__}"
-    text = str(error) or type(error).__name__
+    kind, text = f"{type(error).__module__}:{type(error).__qualname__}", said(error)
     try:
         args = tuple(json.loads(json.dumps(error.args, allow_nan=False)))
-    except (TypeError, ValueError):
+        again = made_again(kind, args)
+        is_same = type(again) is type(error) and str(again) == str(error) and args == error.args
+    except BaseException:
         return Wrong(text)
-    again = made_again(kind, args)
-    is_same = type(again) is type(error) and str(again) == str(error) and args == error.args
     return Wrong(text, kind, args) if is_same else Wrong(text)
+
+
+def said(error: BaseException) -> str:
+    """The text of an error."""
+    try:
+        return str(error) or type(error).__name__
+    except BaseException:
+        return type(error).__name__
 
 
 def made_again(kind: str, args: tuple[Any, ...]) -> Exception | None:
@@ -85,10 +104,9 @@ def made_again(kind: str, args: tuple[Any, ...]) -> Exception | None:
         found: Any = builtins if module == "builtins" else importlib.import_module(module)
         for part in name.split("."):
             found = getattr(found, part)
-        made = found(*args)
-    except Exception:
+        return found(*args) if issubclass(found, Exception) else None
+    except BaseException:
         return None
-    return made if isinstance(made, Exception) else None
 
 
 def raised(outcome: Outcome | None, seen: BaseException | None = None) -> BaseException:
@@ -104,4 +122,4 @@ def raised(outcome: Outcome | None, seen: BaseException | None = None) -> BaseEx
         case Stopped(text):
             return Canceled(text)
         case _:
-            return Refused("the file of results doesn't say how it ended")
+            return Failed(NO_TEXT)

@@ -4,16 +4,17 @@ from __future__ import annotations
 
 from .calls import HUGE, Call, GroupPlan
 from .clock import Until
-from .errors import Refused
 from .names import text_of
 
-POOLS = 64
+# A pool of the size that the largest limit has. A command may not take more of a pool than its line
+# says, whatever size it has by then.
+POOL = f"pool {HUGE}"
 STAY, STAY_KEY = "_", "stay"
 
 
 class Plan:
     """The first group has a command that never begins, so that the night isn't over before
-    `finish`. Its pool is the first one. The other pools are for groups with a limit."""
+    `finish`. Its pool is the first one. Each group with a limit brings another one."""
 
     def __init__(self) -> None:
         self.groups: list[GroupPlan | None] = [None]
@@ -22,8 +23,7 @@ class Plan:
 
     def first_part(self, until: Until | None, is_fresh: bool) -> list[str]:
         """The plan, as the first part of the input has it."""
-        lines = [f"pool {HUGE}"] * (POOLS + 1)
-        lines += [f"group 0 go-on {STAY}", f"command 0 0 0 0 1 0 {STAY_KEY}", "take 0 1"]
+        lines = [POOL, f"group 0 go-on {STAY}", f"command 0 0 0 0 1 0 {STAY_KEY}", "take 0 1"]
         lines += [f"all {until.moment} {text_of(until.words)}"] if until else []
         return [*lines, *(["next"] if is_fresh else [])]
 
@@ -37,10 +37,8 @@ class Plan:
         if group.until:
             lines.append(f"until {group.until.moment} {text_of(group.until.words)}")
         if group.limit is not None:
-            if self.pools > POOLS:
-                raise Refused(f"a run has at most {POOLS} groups with a limit")
             group.pool, self.pools = self.pools, self.pools + 1
-            lines.append(f"size {group.pool} {group.limit}")
+            lines += [POOL, f"size {group.pool} {group.limit}"]
         return lines
 
     def add_call(self, call: Call) -> list[str]:

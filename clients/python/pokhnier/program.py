@@ -7,7 +7,7 @@ import os
 import shutil
 import subprocess
 
-from .errors import Error, Refused
+from .errors import Error, Lost, Refused
 
 
 def program() -> str:
@@ -35,6 +35,8 @@ def make_store(path: str) -> None:
         done = subprocess.run([program(), "format", "--new", beside], stdin=subprocess.DEVNULL,
                               capture_output=True, text=True, errors="replace", check=False,
                               start_new_session=True)
+        if done.returncode < 0:
+            raise Lost(f"{path}: night format was killed by signal {-done.returncode}")
         if done.returncode:
             raise Refused(f"{path}: no store can be made: {done.stderr.strip()}")
         with contextlib.suppress(FileExistsError):

@@ -25,6 +25,7 @@ class Results:
     """The lines of one night. Other nights are over, and their lines are dropped."""
     file: Lines
     night: int
+    # (The thread of the store adds to it. So the others look at a copy.)
     kept: dict[tuple[str, str], Kept] = field(default_factory=dict)
     count: int = 0
     fresh: list[str] = field(default_factory=list)
@@ -76,21 +77,23 @@ class Results:
         kept = self.kept.get(name)
         return kept.outcome if kept else None
 
-    def place(self, name: tuple[str, str]) -> int:
-        """Where the line of this end stands among all."""
-        return self.kept[name].line if name in self.kept else 0
+    def failures(self, group: str) -> list[tuple[tuple[str, str], Wrong]]:
+        """The tasks of a group whose last end was an error, in the order of the lines."""
+        found = [(it.line, name, it.outcome) for name, it in self.kept.copy().items()
+                 if name[0] == group and isinstance(it.outcome, Wrong)]
+        return [(name, outcome) for _, name, outcome in sorted(found, key=lambda it: it[0])]
 
-    def reason(self, name: tuple[str, str]) -> str:
+    def reason(self, name: tuple[str, str]) -> str | None:
         """Why a task was canceled: the reason of its last try, or the first one of its group."""
         if isinstance(outcome := self.outcome(name), Stopped):
             return outcome.text
-        found = [(it.line, it.outcome.text) for (group, _), it in self.kept.items()
+        found = [(it.line, it.outcome.text) for (group, _), it in self.kept.copy().items()
                  if group == name[0] and isinstance(it.outcome, Stopped)]
-        return min(found)[1] if found else "canceled"
+        return min(found)[1] if found else None
 
     def unended(self) -> Iterator[tuple[str, str]]:
         """The tasks that have begun, and of which the file has no good end of the last try."""
-        for name, it in self.kept.items():
+        for name, it in self.kept.copy().items():
             if it.ended < it.last or isinstance(it.outcome, Wrong):
                 yield name
 

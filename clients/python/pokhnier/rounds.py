@@ -15,6 +15,8 @@ from .results import Results
 from .wishes import (
     AddCall,
     AddGroup,
+    AskError,
+    AskFirst,
     CancelCall,
     CancelGroup,
     CutGroup,
@@ -30,14 +32,18 @@ class Round:
     plan: Plan
     results: Results
     lines: list[str] = field(default_factory=list)
+    wishes: list[Wish] = field(default_factory=list)
     fresh: set[int] = field(default_factory=set)
     good: list[Call] = field(default_factory=list)
     failed: set[GroupPlan] = field(default_factory=set)
     canceled: list[Future[None]] = field(default_factory=list)
     finishes: list[Future[bool]] = field(default_factory=list)
+    firsts: list[AskFirst] = field(default_factory=list)
+    asked: list[Call] = field(default_factory=list)
     asks: bool = False
 
     def add(self, wish: Wish) -> None:
+        self.wishes.append(wish)
         match wish:
             case AddGroup(group):
                 self.lines += self.plan.add_group(group)
@@ -46,16 +52,23 @@ class Round:
                 self.fresh.add(call.number)
             case End():
                 self.end(wish)
-            case CancelCall(call, why, durable):
-                self.cancel(f"cancel {call.number} {text_of(why)}", durable)
-            case CancelGroup(group, why, durable):
+            case CancelCall(call, why, answer):
+                call.reason = call.reason or why
+                self.cancel(f"cancel {call.number} {text_of(why)}", answer)
+            case CancelGroup(group, why, answer):
                 self.results.add((group.name, ""), 0, Stopped(why))
-                self.cancel(f"done {group.number} {text_of(why)}", durable)
+                self.cancel(f"done {group.number} {text_of(why)}", answer)
             case CutGroup(group):
                 self.lines += [f"size {group.pool} 0"] if group.pool is not None else []
-            case Finish(over):
+            case AskFirst(group):
+                self.lines.append(f"first {group.number}")
+                self.firsts.append(wish)
+            case AskError(call):
+                self.lines.append(f"ask {call.number}")
+                self.asked.append(call)
+            case Finish(answer):
                 self.lines.append("done 0 finished")
-                self.finishes.append(over)
+                self.finishes.append(answer)
 
     def end(self, wish: End) -> None:
         """The results have the end before the round is written."""
@@ -88,14 +101,19 @@ class Round:
             case _:
                 return False
 
-    def cancel(self, line: str, durable: Future[None]) -> None:
+    def cancel(self, line: str, answer: Future[None]) -> None:
         self.lines.append(line)
-        self.canceled.append(durable)
+        self.canceled.append(answer)
         self.asks = True
 
     def whole(self) -> list[str]:
         """All lines of the round."""
         return [*self.lines, f"now {now()}", *(["standings"] if self.asks else [])]
+
+    def unanswered(self) -> list[Wish]:
+        """Those for whose answer somebody waits."""
+        return [it for it in self.wishes
+                if isinstance(it, CancelCall | CancelGroup | AskFirst | Finish)]
 
     def settle(self) -> None:
         """The round is durable."""
@@ -103,5 +121,5 @@ class Round:
             assert isinstance(call.state, Ended) and isinstance(call.state.outcome, Ok)
             value, call.state = call.state.outcome.value, Settled()
             call.future.set_result(value)
-        for durable in self.canceled:
-            durable.set_result(None)
+        for answer in self.canceled:
+            answer.set_result(None)

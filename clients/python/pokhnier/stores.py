@@ -3,6 +3,7 @@
 from __future__ import annotations
 
 import os
+import threading
 import time
 from types import TracebackType
 from typing import Any, Literal, TypeVar
@@ -17,6 +18,7 @@ from .errors import Abandoned, Error, InUse, Interrupted, Refused
 from .groups import Group
 from .names import group_name
 from .orders import Night, Over
+from .outcomes import json_of
 from .plan import Plan
 from .program import make_store
 from .pump import Pump
@@ -26,6 +28,7 @@ from .wishes import AddGroup, Finish
 
 T = TypeVar("T")
 VALUES = "_values"
+FORKED = "the store belongs to the process that this one was forked from"
 
 
 def open(path: str | os.PathLike[str], *, timeout: float | None = None,  # noqa: A001
@@ -36,7 +39,8 @@ def open(path: str | os.PathLike[str], *, timeout: float | None = None,  # noqa:
     All groups of the night are canceled `timeout` seconds after its first run has begun, or at the
     moment `deadline`, in seconds since 1970. `InUse` is raised if another run has the store for
     `patience` seconds."""
-    return Store(os.fspath(path), until_of(timeout, deadline), fresh, patience)
+    # (The files next to a store are found whatever link leads to it.)
+    return Store(os.path.realpath(os.fspath(path)), until_of(timeout, deadline), fresh, patience)
 
 
 class Store:
@@ -47,21 +51,24 @@ class Store:
         lock = files.lock(f"{path}.client", patience)
         if lock is None:
             raise InUse(f"{path}: another run of a client has it open")
+        drive: Drive | None = None
         try:
             make_store(path)
             plan, drive, night = opened(path, until, is_fresh, ends)
-            results = Results(files.Lines(f"{path}.results"), night)
-            results.load()
+            results = loaded(f"{path}.results", night)
         except BaseException:
+            if drive:
+                drive.end()
             os.close(lock)
             raise
         self.path, self.night = path, night
         self._lock, self._drive, self._results = lock, drive, results
         self._groups: dict[str, Group] = {}
         self._values: dict[str, Task[Any]] = {}
-        self._is_closed = False
+        self._making, self._closing, self._is_closed = threading.Lock(), threading.Lock(), False
         self._pump = Pump(drive, Board(plan, results, until is not None))
         self._pump.thread.start()
+        OPEN.add(self)
 
     def group(self, name: str, *, limit: int | None = None, retries: int | Retries = 0,
               on_error: Literal["cancel", "stop", "go-on"] = "cancel",
@@ -72,39 +79,46 @@ class Store:
         `on_error` says what happens to the others: with `cancel` those that run have to stop, and
         none begins; with `stop` none begins; with `go-on` nothing happens. The group is canceled
         `timeout` seconds after a run of the night first had it, or at the moment `deadline`."""
-        spelled = group_name(name)
-        if spelled in self._groups:
-            raise Refused(f"this run has a group {name} already")
-        return self._group(GroupPlan(spelled, on_error, limit,
-                                     retries if isinstance(retries, Retries) else Retries(retries),
-                                     until_of(timeout, deadline)))
+        plan = GroupPlan(group_name(name), on_error, limit,
+                         retries if isinstance(retries, Retries) else Retries(retries),
+                         until_of(timeout, deadline))
+        with self._making:
+            if plan.name in self._groups:
+                raise Refused(f"this run has a group {name} already")
+            return self._group(plan)
 
     def _group(self, plan: GroupPlan) -> Group:
+        """Makes a group. The lock of those who make one is held."""
         group = self._groups[plan.name] = Group(self._pump, plan)
         self._pump.add(AddGroup(plan))
         return group
 
     def value(self, name: str, value: T) -> T:
         """Returns the value that the first run of the night gave for this name."""
-        if name not in self._values:
-            plan = GroupPlan(VALUES, "go-on", None, Retries(), None)
-            values = self._groups.get(VALUES) or self._group(plan)
-            self._values[name] = values.run(name, lambda: value)
-        found: T = self._values[name].result()
+        with self._making:
+            task = self._values.get(name)
+            if task is None:
+                given = json_of(value)  # (A task that fails would have no value in this night.)
+                plan = GroupPlan(VALUES, "go-on", None, Retries(), None)
+                values = self._groups.get(VALUES) or self._group(plan)
+                task = self._values[name] = values.run(name, lambda: given)
+        found: T = task.result()
         return found
 
     def finish(self) -> None:
         """Waits for all tasks, ends the night, and closes the store. The next run begins another
         night. If a task of the night is left to do, the store is closed all the same, and
         `Interrupted` or `Abandoned` is raised. Then the next run goes on with the night."""
+        if self._pump.left:
+            raise self._pump.left
         try:
-            for group in self._groups.values():
+            for group in list(self._groups.values()):
                 group.join()
             if left := self._left():
                 raise left
             wish = Finish()
             self._pump.add(wish)
-            if not wish.over.result():
+            if not wish.answer.result():
                 raise Interrupted("the night isn't over")
         finally:
             self.close()
@@ -123,12 +137,25 @@ class Store:
         with the night."""
         if self._is_closed:
             return
-        self._pump.interrupt(Interrupted("this run has ended"))
-        for group in self._groups.values():
-            group.join()
-        self._is_closed = True
-        self._pump.end()
-        self._drive.end()
+        with self._closing:
+            if self._is_closed:
+                return
+            self._pump.interrupt(Interrupted("this run has ended"))
+            for group in list(self._groups.values()):
+                group.join()
+            self._pump.end()
+            self._drive.end()
+            self._results.close()
+            OPEN.discard(self)
+            self._is_closed = True
+            os.close(self._lock)
+
+    def _leave(self) -> None:
+        """Gives up the store in a process that was forked. Otherwise the files would stay open, and
+        the store in use, as long as that process runs."""
+        self._making, self._closing, self._is_closed = threading.Lock(), threading.Lock(), True
+        self._pump.leave(Refused(FORKED))
+        self._drive.leave()
         self._results.close()
         os.close(self._lock)
 
@@ -169,3 +196,27 @@ def opened(path: str, until: Until | None, is_fresh: bool, ends: float) -> tuple
         # (The last run was killed while it finished the night.)
         drive.end()
         is_fresh = False
+
+
+def loaded(path: str, night: int) -> Results:
+    """Opens the results of a night."""
+    results = Results(files.Lines(path), night)
+    try:
+        results.load()
+    except BaseException:
+        results.close()
+        raise
+    return results
+
+
+# The open stores of this process.
+OPEN: set[Store] = set()
+
+
+def leave_all() -> None:
+    for store in list(OPEN):
+        store._leave()
+    OPEN.clear()
+
+
+os.register_at_fork(after_in_child=leave_all)

@@ -7,7 +7,7 @@ from collections.abc import Callable, Generator
 from concurrent.futures import Future
 from typing import Any, Generic, TypeVar
 
-from .calls import Call
+from .calls import Call, Settled
 from .pump import Pump
 from .wishes import CancelCall
 
@@ -34,11 +34,18 @@ class Task(Generic[T]):
 
     def result(self, timeout: float | None = None) -> T:
         """Waits for the end of the task, and returns the result, or raises the error."""
+        self._check()
         return self._future.result(timeout)
 
     def exception(self, timeout: float | None = None) -> BaseException | None:
         """Waits for the end of the task, and returns the error, if it has one."""
+        self._check()
         return self._future.exception(timeout)
+
+    def _check(self) -> None:
+        """In a process that was forked, nobody ends a task."""
+        if self._pump.left and not isinstance(self._call.state, Settled):
+            raise self._pump.left
 
     def done(self) -> bool:
         """Whether the task has ended, durably."""
@@ -54,7 +61,7 @@ class Task(Generic[T]):
         cancel. Otherwise the cancel is durable once this returns."""
         wish = CancelCall(self._call, why)
         self._pump.add(wish)
-        wish.durable.result()
+        wish.answer.result()
 
     def __await__(self) -> Generator[Any, None, T]:
         return asyncio.wrap_future(self._future).__await__()

@@ -9,6 +9,7 @@ from typing import Any
 
 from .calls import Call
 from .current import Try, enter
+from .errors import Interrupted
 from .outcomes import Outcome, Stopped, good, wrong
 
 Report = Callable[[Call, Outcome, BaseException | None], None]
@@ -27,9 +28,13 @@ class ThreadRunner:
         self.context = contextvars.copy_context()
 
     def begin(self, call: Call, one: Try) -> None:
-        run = self.context.copy().run
-        threading.Thread(target=run, args=(self.work, call, one), daemon=True,
-                         name=f"{call.group.name}/{call.key}").start()
+        thread = threading.Thread(target=self.context.copy().run, args=(self.work, call, one),
+                                  daemon=True, name=f"{call.group.name}/{call.key}")
+        try:
+            thread.start()
+        except RuntimeError as error:
+            one.stop(Interrupted(f"no thread can be started: {error}"))
+            self.report(call, wrong(error), error)
 
     def work(self, call: Call, one: Try) -> None:
         enter(one)
@@ -42,3 +47,9 @@ class ThreadRunner:
 
     def stop(self) -> None:
         """The function asks `current()` whether it has to stop."""
+
+    def is_lost(self) -> bool:
+        return False
+
+    def is_here(self) -> bool:
+        return False

@@ -5,7 +5,7 @@ from __future__ import annotations
 from concurrent.futures import Future
 from dataclasses import dataclass, field
 
-from .calls import Call, GroupPlan
+from .calls import Call, GroupPlan, running_future
 from .outcomes import Outcome
 
 
@@ -31,14 +31,14 @@ class End:
 class CancelCall:
     call: Call
     why: str
-    durable: Future[None] = field(default_factory=Future)
+    answer: Future[None] = field(default_factory=running_future)
 
 
 @dataclass(frozen=True)
 class CancelGroup:
     group: GroupPlan
     why: str
-    durable: Future[None] = field(default_factory=Future)
+    answer: Future[None] = field(default_factory=running_future)
 
 
 @dataclass(frozen=True)
@@ -48,9 +48,23 @@ class CutGroup:
 
 
 @dataclass(frozen=True)
+class AskFirst:
+    """The text of the first error of a group, if it has one."""
+    group: GroupPlan
+    answer: Future[str | None] = field(default_factory=running_future)
+
+
+@dataclass(frozen=True)
+class AskError:
+    """The text of the error with which the last try of a call has failed, if it has."""
+    call: Call
+
+
+@dataclass(frozen=True)
 class Finish:
-    """The night ends, if nothing is left to do. The result says whether it has."""
-    over: Future[bool] = field(default_factory=Future)
+    """The night ends, if nothing is left to do. The answer says whether it has."""
+    answer: Future[bool] = field(default_factory=running_future)
 
 
-Wish = AddGroup | AddCall | End | CancelCall | CancelGroup | CutGroup | Finish
+Wish = (AddGroup | AddCall | End | CancelCall | CancelGroup | CutGroup | AskFirst | AskError
+        | Finish)
