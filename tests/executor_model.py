@@ -1,5 +1,6 @@
 """Stands in for `night drive` in trials of executors: the lines of docs/formats/drive.md that
-examples/executor.py writes and reads, over a file that has a line for each event.
+examples/executor.py writes and reads, and the questions about errors, over a file that has a line
+for each event.
 
     executor_model.py format STORE
     executor_model.py drive STORE [WRONG]
@@ -43,6 +44,7 @@ class Try:
     key: str
     how: str = "running"
     moment: int = 0
+    why: str = ""
 
 
 class Store:
@@ -54,6 +56,7 @@ class Store:
         self.tries: list[Try] = []
         self.night, self.over = 1, False
         self.fresh: list[str] = []
+        self.firsts: dict[str, str] = {}  # the first error of each group, and what else ended there
         for line in self.file.read().split("\n")[:-1]:
             self.take(line)
 
@@ -62,8 +65,11 @@ class Store:
             case ["begin", night, group, key]:
                 self.tries.append(Try(int(night), group, key))
                 self.night, self.over = int(night), False
-            case ["end", task, how, moment]:
-                self.tries[int(task)].how, self.tries[int(task)].moment = how, int(moment)
+            case ["end", task, how, moment, *why]:
+                it = self.tries[int(task)]
+                it.how, it.moment, it.why = how, int(moment), " ".join(why)
+                if how != "ok":
+                    self.firsts.setdefault(it.group, it.why or how)
             case ["over"]:
                 self.over = True
 
@@ -114,7 +120,10 @@ class Drive:
                 raise ValueError(words)
 
     def group(self, command: Command) -> str:
-        name = self.groups[command.group]
+        return self.group_named(command.group)
+
+    def group_named(self, number: int) -> str:
+        name = self.groups[number]
         return name if self.night == 1 else f"{name}--{self.night}"
 
     def tries(self, command: Command) -> list[Try]:
@@ -143,14 +152,33 @@ class Drive:
         match words:
             case ["ended", task, "ok"]:
                 self.store.add(f"end {task} ok {self.now}")
-            case ["ended", task, "error", *_]:
-                self.store.add(f"end {task} failed {self.now}")
+            case ["ended", task, "error", *why]:
+                self.store.add(f"end {task} failed {self.now} {' '.join(why)}")
             case ["now", moment]:
                 self.now = max(self.now, int(moment))
-            case ["standings"]:
+            case ["standings"] | ["ask" | "first", _]:
                 pass
             case _:
                 raise ValueError(words)
+
+    def errors(self, lines: list[str]) -> Iterator[str]:
+        """The answers to questions about errors."""
+        for line in lines:
+            match line.split(" "):
+                case ["ask", number]:
+                    tries = self.tries(self.commands[int(number)])
+                    if tries and tries[-1].how == "failed":
+                        yield f"error {number} {tries[-1].why}"
+        for line in lines:
+            match line.split(" "):
+                case ["first", number]:
+                    name = self.group_named(int(number))
+                    last = {it.key: it for it in self.store.tries if it.group == name}
+                    failed = [it.why for it in self.store.tries
+                              if it.how == "failed" and last.get(it.key) is it]
+                    first = self.store.firsts.get(name, "")
+                    if failed:
+                        yield f"first {number} {first if first in failed else failed[0]}"
 
     def begins(self) -> Iterator[str]:
         """Begins what may begin: a line for each."""
@@ -174,6 +202,7 @@ class Drive:
         waits = [int(it.split(" ")[1]) for it in stands if it.startswith("waiting ")]
         answer += [f"later {min(waits)}"] if waits else []
         answer += [f"stands {number} {it}" for number, it in enumerate(stands)]
+        answer += self.errors(lines)
         answer.append("durable")
         if all(it in FINAL for it in stands):
             self.store.add("over")
