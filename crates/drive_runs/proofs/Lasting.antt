@@ -1,5 +1,5 @@
 -- What a run leaves of a store after some openings, and what a crash leaves after that.
-use Rattle.std.specs.Prelude.{◌≡◌, ℕ, zero, suc, List, Some, Ok}
+use Rattle.std.specs.Prelude.{◌≡◌, ℕ, zero, suc, List, Option, Some, Ok}
 use Rattle.std.proofs.Common.{refl, sym, ap, subst, ◌∙◌}
 use Rattle.run_model.specs.Allowed.{run}
 use Rattle.run_model.specs.State.{State}
@@ -14,16 +14,17 @@ use Rattle.book_model.proofs.Rows.{row_carries, row_steps}
 use Rattle.book_model.proofs.Stepping.{steps_play}
 use Rattle.drive_runs.specs.Laws.{Reaches}
 use Rattle.drive_runs.specs.Moving.{Moves}
-use Rattle.drive_runs.specs.Runs.{Answers, Sittings}
+use Rattle.drive_runs.specs.Runs.{Answers, Place, Sittings}
 use Rattle.drive_runs.proofs.Moving.{moves_none, moves_then}
 
-module _ {D : Type 0} (state : D → DiskState) (disk : (d : D) → IsDisk (state d)) where
-  answers_move : (n : ℕ) (a : BookView D) (text : List ℕ) (b : BookView D)
-      → Answers state n a text b → Moves state a b
-  answers_move zero a text b (none, same) =
+module _ {D : Type 0} (state : D → DiskState) (disk : (d : D) → IsDisk (state d))
+    (input : Option (List ℕ)) where
+  answers_move : (n : ℕ) (at to : Place) (a b : BookView D) → Answers state input n at a to b
+      → Moves state a b
+  answers_move zero at to a b (stays, same) =
       subst (λ (c : BookView D). Moves state a c) (sym same) (moves_none state a)
-  answers_move (suc n) a text b (between, before, lines, first, is, moves, parts) =
-      moves_then state a between b (answers_move n a before between first) moves
+  answers_move (suc n) at to a b (middle, between, first, turn) =
+      moves_then state a between b (answers_move n at middle a between first) turn.moves
 
   -- A book that was opened over a disk that stores a state, after some steps.
   record Went (q : State) (b c : BookView D) : Type 0 where
@@ -46,19 +47,20 @@ module _ {D : Type 0} (state : D → DiskState) (disk : (d : D) → IsDisk (stat
         start = on.start ∙ sym (ap (λ m. m.session.start) holds.book);
       }
 
-  pub sittings_store : (n : ℕ) (given left : D) (p : State) (text : List ℕ)
-      → LiesWith state given p → Sittings state n given text left
+  pub sittings_store : (n : ℕ) (given left : D) (at to : Place) (p : State)
+      → LiesWith state given p → Sittings state input n given at left to
       → Reaches n p (λ q. LiesWith state left q)
-  sittings_store zero given left p text lies (none, same) =
+  sittings_store zero given left at to p lies (same, stays) =
       (p, refl, subst (λ (d : D). LiesWith state d p) (sym same) lies)
-  sittings_store (suc n) given left p text lies
-      (middle, before, after, first, last, stores, parts) =
-      let earlier = sittings_store n given middle p before lies first in
+  sittings_store (suc n) given left at to p lies (middle, between, first, last) =
+      let earlier = sittings_store n given middle at between p lies first in
       let q = earlier.0 in
-      let b = last.before in
-      let c = last.after in
-      let is = went middle q b c earlier.2 last.opened
-      (answers_move last.count b after c last.answers) in (
+      let sitting = last.sitting in
+      let b = sitting.before in
+      let c = last.settled in
+      let is = went middle q b c earlier.2 sitting.opened
+      (moves_then state b last.last c
+      (answers_move sitting.count between last.place b last.last sitting.answers) last.moves) in (
         c.session.state,
         (
           q,
@@ -66,14 +68,14 @@ module _ {D : Type 0} (state : D → DiskState) (disk : (d : D) → IsDisk (stat
           earlier.1,
           subst (λ (r : State). run r c.session.history ≡ Some c.session.state) is.start is.reached,
         ),
-        subst (λ (d : D). LiesWith state d c.session.state) (sym last.disk) (stores is.safe),
+        subst (λ (d : D). LiesWith state d c.session.state) (sym last.disk) (last.stores is.safe),
       )
 
-  pub opening_finds : (n : ℕ) (given middle next : D) (p : State) (text : List ℕ)
-      → LiesWith state given p → Sittings state n given text middle
+  pub opening_finds : (n : ℕ) (given middle next : D) (at to : Place) (p : State)
+      → LiesWith state given p → Sittings state input n given at middle to
       → CutsOpening state middle next → Reaches n p (λ q. StoresOpened q (state next).now)
-  opening_finds n given middle next p text lies sittings cut =
-      let earlier = sittings_store n given middle p text lies sittings in
+  opening_finds n given middle next at to p lies sittings cut =
+      let earlier = sittings_store n given middle at to p lies sittings in
       let q = earlier.0 in
       let is = earlier.2 in (
         q,
@@ -82,17 +84,18 @@ module _ {D : Type 0} (state : D → DiskState) (disk : (d : D) → IsDisk (stat
             cut.finds.content,
       )
 
-  pub crash_finds : (n k : ℕ) (given middle next : D) (p : State) (text said : List ℕ)
-      (b m c : BookView D) → LiesWith state given p → Sittings state n given text middle
-      → Opens state middle (Ok b) → Answers state k b said m → Moves state m c
+  pub crash_finds : (n k : ℕ) (given middle next : D) (at between to : Place) (p : State)
+      (b m c : BookView D) → LiesWith state given p
+      → Sittings state input n given at middle between → Opens state middle (Ok b)
+      → Answers state input k between b to m → Moves state m c
       → Finds state ((state c.journal.disk).since (state m.journal.disk).clock) next
       → Reaches n p (λ q. (m.session.start ≡ restarted q)
       × StoresPrefix (restarted q) c.session.history (acked m) (state next).now)
-  crash_finds n k given middle next p text said b m c lies sittings opened answers
+  crash_finds n k given middle next at between to p b m c lies sittings opened answers
       (steps, replies, row) finds =
-      let earlier = sittings_store n given middle p text lies sittings in
+      let earlier = sittings_store n given middle at between p lies sittings in
       let q = earlier.0 in
-      let is = went middle q b m earlier.2 opened (answers_move k b said m answers) in
+      let is = went middle q b m earlier.2 opened (answers_move k between to b m answers) in
       let on = row_carries state m c steps replies disk is.on.images row in (
         q,
         earlier.1,

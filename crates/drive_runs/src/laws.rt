@@ -1,6 +1,6 @@
 //! Laws of what a run reports, and of what it leaves of a store.
 
-ghost use Rattle.std.specs.Prelude.{◌≡◌, ℕ, List, Ok, Some, true};
+ghost use Rattle.std.specs.Prelude.{◌≡◌, ℕ, List, Ok, Option, Some, true};
 ghost use Rattle.run_model.specs.declared.answers.Reply.{Reply};
 ghost use Rattle.book_model.specs.Books.{BookView, IsReached, acked};
 ghost use Rattle.book_model.specs.Openings.{Opens};
@@ -19,7 +19,7 @@ ghost use Rattle.drive_runs.specs.declared.living.Living.{Living};
 ghost use Rattle.drive_runs.specs.Laws.{IsOver, IsPlayedWhole, Reaches};
 ghost use Rattle.drive_runs.specs.Moving.{Moves};
 ghost use Rattle.drive_runs.specs.Rounds.{AreStandings, is_over};
-ghost use Rattle.drive_runs.specs.Runs.{Answers, Sittings};
+ghost use Rattle.drive_runs.specs.Runs.{Answers, Place, Sittings};
 
 use run_disk::RunDisk;
 
@@ -45,16 +45,18 @@ pub fn a_night_is_over_when_all_is_final()
 /// a crash comes, the next opening finds a prefix of what was recorded. The prefix contains all
 /// that was acknowledged when the last answer was made, so all that an answer reports as durable.
 pub fn a_run_loses_nothing_acknowledged<D: RunDisk>()
-    ensures openings { (n : ℕ) (given left : D) (p : State) (text : List ℕ)
-        → LiesWith D.state given p → Sittings D.state n given text left
+    ensures openings { (input : Option (List ℕ)) (n : ℕ) (given left : D) (at to : Place)
+        (p : State) → LiesWith D.state given p → Sittings D.state input n given at left to
         → Reaches n p (λ q. LiesWith D.state left q) }
-    ensures in_opening { (n : ℕ) (given middle next : D) (p : State) (text : List ℕ)
-        → LiesWith D.state given p → Sittings D.state n given text middle
+    ensures in_opening { (input : Option (List ℕ)) (n : ℕ) (given middle next : D) (at to : Place)
+        (p : State) → LiesWith D.state given p → Sittings D.state input n given at middle to
         → CutsOpening D.state middle next
         → Reaches n p (λ q. StoresOpened q (D.state next).now) }
-    ensures after_answers { (n k : ℕ) (given middle next : D) (p : State) (text last : List ℕ)
-        (b m c : BookView D) → LiesWith D.state given p → Sittings D.state n given text middle
-        → Opens D.state middle (Ok b) → Answers D.state k b last m → Moves D.state m c
+    ensures after_answers { (input : Option (List ℕ)) (n k : ℕ) (given middle next : D)
+        (at between to : Place) (p : State) (b m c : BookView D)
+        → LiesWith D.state given p → Sittings D.state input n given at middle between
+        → Opens D.state middle (Ok b) → Answers D.state input k between b to m
+        → Moves D.state m c
         → Finds D.state ((D.state c.journal.disk).since (D.state m.journal.disk).clock) next
         → Reaches n p (λ q. (m.session.start ≡ restarted q)
         × StoresPrefix (restarted q) c.session.history (acked m) (D.state next).now) }

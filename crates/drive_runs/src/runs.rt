@@ -3,10 +3,11 @@
 //! The store is opened before anything is read, and opened again in the same run if a round needs
 //! it: if the end of a try isn't known, or if the log of the session is full.
 
-ghost use Rattle.std.specs.Prelude.{IfOk};
+ghost use Rattle.std.specs.Prelude.{ℕ, List, Option};
+ghost use Rattle.plan_lines.specs.Reading.{held};
 ghost use Rattle.drive_runs.specs.Moving.{Moves};
-ghost use Rattle.drive_runs.specs.Runs.{GivesAnswer, IsLeft, LeavesDriven, StoresAll};
-ghost use Rattle.drive_runs.specs.Runs.{WritesAnswers};
+ghost use Rattle.drive_runs.specs.Runs.{AnswersFirst, IsAt, LeavesDriven, Place, Settles, Sits};
+ghost use Rattle.drive_runs.specs.Runs.{doing_at};
 
 use crate::answers::{one_line, write_answer};
 use crate::drive_ends::DriveEnd;
@@ -53,8 +54,8 @@ pub fn drive<D: RunDisk, R: Read, W: Write>(
     input: &mut R,
     output: &mut W,
 ) -> (Result<DriveEnd, RunFault>, D)
-    ensures { LeavesDriven D.state disk result.1 (W.contents output.old)
-        (W.contents output.new) result.0 }
+    ensures { LeavesDriven D.state disk result.1 (R.remaining input.old) (R.remaining input.new)
+        (W.contents output.old) (W.contents output.new) result.0 }
 {
     let mut disk = disk;
     let mut reader = LineReader::new();
@@ -92,7 +93,7 @@ fn begin<D: RunDisk, A: Allocator, W: Write>(
     start: Start,
     output: &mut W,
 ) -> Result<Next, RunFault>
-    ensures given { GivesAnswer D.state book.old book.new (W.contents output.old)
+    ensures first { AnswersFirst D.state start book.old book.new (W.contents output.old)
         (W.contents output.new) result }
     ensures moves { Moves D.state book.old book.new }
 {
@@ -115,9 +116,10 @@ fn sit<D: RunDisk, A: Allocator, R: Read, W: Write>(
     input: &mut R,
     output: &mut W,
 ) -> Result<Sat, RunFault>
-    ensures answers { WritesAnswers D.state book.old book.new (W.contents output.old)
-        (W.contents output.new) result }
-    ensures left { IfOk result (λ sat. IsLeft D.state sat book.new) }
+    ensures { (at : Place) (r0 w0 : Option (List ℕ)) → IsAt at (doing_at start) number.old
+        (held reader.old) r0 (R.remaining input.old) w0 (W.contents output.old)
+        → Sits D.state at book.old book.new number.new (held reader.new)
+        r0 (R.remaining input.new) w0 (W.contents output.new) result }
 {
     let mut next = begin(alloc, book, start, output)?;
     for line in *number..u64::MAX {
@@ -148,10 +150,9 @@ fn settle<D: RunDisk, A: Allocator, W: Write>(
     book: &mut Book<D, A>,
     output: &mut W,
 ) -> Result<(), RunFault>
-    ensures given { GivesAnswer D.state book.old book.new (W.contents output.old)
+    ensures settles { Settles D.state book.old book.new (W.contents output.old)
         (W.contents output.new) result }
     ensures moves { Moves D.state book.old book.new }
-    ensures stores { IfOk result (λ _. StoresAll D.state book.new) }
 {
     match book.flush() {
         Ok(_) => Ok(()),

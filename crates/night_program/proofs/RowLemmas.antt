@@ -244,11 +244,11 @@ module _ {D : Type 0} (state : D → DiskState) (disk : (d : D) → IsDisk (stat
   run_led given next p (Driving openings events reported) lies cuts = by cuts.cut
     where
       by : ((reported ≡ 0) × CutsOpening state cuts.middle next)
-          ⊎ CutsAnswers state cuts.middle events reported next
+          ⊎ CutsAnswers state cuts.input cuts.middle cuts.to events reported next
           → IsLed p (Driving openings events reported) next
       by (inl (none, cut)) =
-          let found = opening_finds state disk openings given cuts.middle next p cuts.text lies
-          cuts.sittings cut in
+          let found = opening_finds state disk cuts.input openings given cuts.middle next cuts.at
+          cuts.to p lies cuts.sittings cut in
           let led = opened_led found.0 events (state next).now found.2 in
           found_by p (Driving openings events reported) _ next cut.finds led.state (
             found.0,
@@ -258,9 +258,9 @@ module _ {D : Type 0} (state : D → DiskState) (disk : (d : D) → IsDisk (stat
           led.stores
       by (inr cut) =
           let m = cut.middle in
-          let found = crash_finds state disk openings cut.count given cuts.middle next p cuts.text
-          cut.text cut.before m cut.after lies cuts.sittings cut.opened cut.answers cut.goes_on
-          cut.finds in
+          let found = crash_finds state disk cuts.input openings cut.count given cuts.middle next
+          cuts.at cuts.to cut.to p cut.before m cut.after lies cuts.sittings cut.opened cut.answers
+          cut.goes_on cut.finds in
           let q = found.0 in
           let left = found.2.1 in
           let least : reported ≤ (restarted q).count + acked m =

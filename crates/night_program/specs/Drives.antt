@@ -27,16 +27,17 @@ AnswersDrive Of (Ok (Bad line)) answer =
 AnswersDrive Of (Err why) answer = FailsBy Of why answer
 
 module _ {F D : Type 0} (state : D → DiskState) (seen : FilesView F D) where
-  -- The file of this name was opened, and a night was driven over the store in it; and the file is
-  -- the disk that the drive left. Its answers were printed, and nothing else.
+  -- The file of this name was opened, and a night was driven over the store in it by the lines of
+  -- the input; and the file is the disk that the drive left. Its answers were printed, and nothing
+  -- else.
   pub record Drives (store : List ℕ) (answer : Result Done Failure) (f0 f1 : F)
-      (w0 w1 : Option (List ℕ)) : Type 0 where
+      (r0 r1 w0 w1 : Option (List ℕ)) : Type 0 where
     pub given : D
     pub left : D
     pub held : HoldsAlone seen seen.opens store given left f0 f1
     pub settled : IsSettled (state given)
     pub done : Result DriveEnd RunFault
-    pub leaves : LeavesDriven state given left w0 w1 done
+    pub leaves : LeavesDriven state given left r0 r1 w0 w1 done
     pub answers : AnswersDrive (Names (seen.notes given) store) done answer
 
   -- If the file couldn't be opened, nothing was read or printed.
@@ -44,4 +45,4 @@ module _ {F D : Type 0} (state : D → DiskState) (seen : FilesView F D) where
       → (r0 r1 w0 w1 : Option (List ℕ)) → Type 0
   DoesDrive store answer f0 f1 r0 r1 w0 w1 =
       (HasNoFile (seen.refuses ToOpen f0 store) store answer × (f1 ≡ f0) × (r1 ≡ r0) × (w1 ≡ w0))
-      ⊎ Drives store answer f0 f1 w0 w1
+      ⊎ Drives store answer f0 f1 r0 r1 w0 w1

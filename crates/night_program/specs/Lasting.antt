@@ -22,7 +22,7 @@ use Rattle.book_model.specs.declared.migrations.MigrateFault.{MigrateFault}
 use Rattle.console_lines.specs.declared.faults.RunFault.{RunFault}
 use Rattle.drive_runs.specs.Laws.{Reaches}
 use Rattle.drive_runs.specs.Moving.{Moves}
-use Rattle.drive_runs.specs.Runs.{Answers, Sittings}
+use Rattle.drive_runs.specs.Runs.{Answers, Place, Sittings}
 use Rattle.run_crew.specs.Crews.{CrewEnds, StoresNight}
 use Rattle.night_program.specs.Crews.{AreOpenShifts}
 use Rattle.store_words.specs.declared.renewals.Kept.{Kept}
@@ -105,31 +105,33 @@ module _ {D : Type 0} (state : D → DiskState) where
         ⊎ ((reported ≡ flushed_by given workers answer left w0 w1 ends)
         × FindsLeft state left left next)
 
-  -- A night was driven over the store on a disk. A crash or the end came after these answers over
-  -- its last opening.
-  pub record CutsAnswers (given : D) (events : List Event) (reported : ℕ) (next : D)
-      : Type 0 where
+  -- A night was driven over the store on a disk, from this place on. A crash or the end came after
+  -- these answers over its last opening.
+  pub record CutsAnswers (input : Option (List ℕ)) (given : D) (at : Place) (events : List Event)
+      (reported : ℕ) (next : D) : Type 0 where
     pub before : BookView D
     pub opened : Opens state given (Ok before)
     pub count : ℕ
-    pub text : List ℕ
+    pub to : Place
     pub middle : BookView D
-    pub answers : Answers state count before text middle
+    pub answers : Answers state input count at before to middle
     pub after : BookView D
     pub goes_on : Moves state middle after
     pub history : after.session.history ≡ events
     pub acked : reported ≡ middle.durable
     pub finds : FindsLeft state middle.journal.disk after.journal.disk next
 
-  -- A night was driven over the store on a disk, which was opened this many times. A crash or the
-  -- end came in the opening after these, or over it.
+  -- A night was driven by some input over the store on a disk, which was opened this many times. A
+  -- crash or the end came in the opening after these, or over it.
   pub record CutsDrive (given : D) (openings : ℕ) (events : List Event) (reported : ℕ) (next : D)
       : Type 0 where
+    pub input : Option (List ℕ)
+    pub at : Place
     pub middle : D
-    pub text : List ℕ
-    pub sittings : Sittings state openings given text middle
+    pub to : Place
+    pub sittings : Sittings state input openings given at middle to
     pub cut : ((reported ≡ 0) × CutsOpening state middle next)
-        ⊎ CutsAnswers middle events reported next
+        ⊎ CutsAnswers input middle to events reported next
 
   -- The program made this run over the store on the disk, and the next opening finds the other one.
   abbrev pub RunLeaves : (given : D) → Run → (next : D) → Type 0

@@ -1,88 +1,85 @@
-use Rattle.std.specs.Prelude.{suc, zero, ◌++◌}
-use Rattle.console_lines.proofs.Written.{appends_then}
-use Rattle.drive_lines.specs.Orders.{order_lines}
-use Rattle.drive_runs.proofs.Driving.{answer_more, at_fault, one_answer, prefix_then, takes}
-use Rattle.drive_runs.proofs.Driving.{whole_prefix}
+use Rattle.std.proofs.Common.{refl, sym}
+use Rattle.drive_runs.proofs.Driving.{fails_here, fails_to_read, fails_to_settle, first, goes_as}
+use Rattle.drive_runs.proofs.Driving.{sits_failed, takes}
 use Rattle.drive_runs.proofs.runs.sit.Goals as goal
 
-pub returns-in_err-next-clause-answers : goal.returns-in_err-next-clause-answers
-returns-in_err-next-clause-answers g c =
-    let e = c.in_err-next.ensures in (
-      suc zero,
-      order_lines e.given.0,
-      one_answer g.D.RunDisk.state _ _ e.given.0 e.given.1 e.moves,
-      at_fault _ _ _ c.from_residual.result c.from_residual.ensures.0 e.given.2,
-    )
+pub returns-in_err-next : goal.returns-in_err-next
+returns-in_err-next g c at r0 w0 here =
+    let e = c.in_err-next.ensures in
+    sits_failed g.D.RunDisk.state at _ _ _ _ _ _ _ _ c.from_residual.result
+    c.from_residual.ensures.0
+    (first g.D.RunDisk.state at _ _ _ _ _ _ _ _ _ _ _ here e.first e.moves)
 
 pub loop-line-init : goal.loop-line-init
-loop-line-init g c =
-    let e = c.in_ok-next.ensures in (
-      suc zero,
-      order_lines e.given.0,
-      one_answer g.D.RunDisk.state _ _ e.given.0 e.given.1 e.moves,
-      e.given.2,
-    )
+loop-line-init g c = (
+  refl,
+  λ at r0 w0 here.
+      first g.D.RunDisk.state at _ _ _ _ _ _ _ _ _ _ _ here c.in_ok-next.ensures.first
+      c.in_ok-next.ensures.moves,
+)
 
-pub returns-in_err-found-in-Part-clause-answers : goal.returns-in_err-found-in-Part-clause-answers
-returns-in_err-found-in-Part-clause-answers g c =
-    let before = c.loop-line.invariant in (
-      before.0,
-      before.1,
-      before.2,
-      at_fault _ _ _ c.from_residual-in_err-found-in-Part.result
-          c.from_residual-in_err-found-in-Part.ensures.0 (whole_prefix _ _ _ before.3),
-    )
+pub returns-in_err-found-in-Part : goal.returns-in_err-found-in-Part
+returns-in_err-found-in-Part g c at r0 w0 here =
+    let read = c.in_err-found-in-Part.ensures in
+    sits_failed g.D.RunDisk.state at _ _ _ _ _ _ _ _
+    c.from_residual-in_err-found-in-Part.result
+    c.from_residual-in_err-found-in-Part.ensures.0
+    (fails_to_read g.D.RunDisk.state at _ _ _ _ _ _ _ _ _ _ _ _ c.in-Part.is
+    (c.loop-line.invariant.1 at r0 w0 here) read.1)
 
-pub returns-in_err-next-in-Part-clause-answers : goal.returns-in_err-next-in-Part-clause-answers
-returns-in_err-next-in-Part-clause-answers g c =
-    let before = c.loop-line.invariant in
+pub returns-in_err-next-in-Part : goal.returns-in_err-next-in-Part
+returns-in_err-next-in-Part g c at r0 w0 here =
+    let so_far = goes_as g.D.RunDisk.state at _ _ _ _ _ _ _ _ _ _ _ _ c.in-Part.is refl refl
+    (c.loop-line.invariant.1 at r0 w0 here) in
     let e = c.in_err-next-in-Part.ensures in
-    let taken = takes g.D.RunDisk.state _ _ _ _ _ _ _ _ e.taken in (
-      suc before.0,
-      before.1 ++ order_lines taken.0,
-      answer_more g.D.RunDisk.state _ _ _ before.0 before.1 taken.0 before.2 taken.1 e.moves,
-      at_fault _ _ _ c.from_residual-in_err-next-in-Part.result
-          c.from_residual-in_err-next-in-Part.ensures.0
-          (prefix_then _ _ _ before.1 (order_lines taken.0) before.3 taken.2),
-    )
-
-pub returns-in-Ok-clause-answers : goal.returns-in-Ok-clause-answers
-returns-in-Ok-clause-answers g c =
-    let before = c.loop-line.invariant in
-    let e = c.in-Ok.ensures in (
-      suc before.0,
-      before.1 ++ order_lines e.given.0,
-      answer_more g.D.RunDisk.state _ _ _ before.0 before.1 e.given.0 before.2 e.given.1 e.moves,
-      appends_then _ _ _ before.1 (order_lines e.given.0) before.3 e.given.2,
-    )
-
-pub returns-in-Err-clause-answers : goal.returns-in-Err-clause-answers
-returns-in-Err-clause-answers g c =
-    let before = c.loop-line.invariant in
-    let e = c.in-Err.ensures in (
-      suc before.0,
-      before.1 ++ order_lines e.given.0,
-      answer_more g.D.RunDisk.state _ _ _ before.0 before.1 e.given.0 before.2 e.given.1 e.moves,
-      prefix_then _ _ _ before.1 (order_lines e.given.0) before.3 e.given.2,
-    )
-
-pub returns-in-Fault-clause-answers : goal.returns-in-Fault-clause-answers
-returns-in-Fault-clause-answers g c =
-    let before = c.loop-line.invariant in
-    (before.0, before.1, before.2, whole_prefix _ _ before.1 before.3)
+    sits_failed g.D.RunDisk.state at _ _ _ _ _ _ _ _
+    c.from_residual-in_err-next-in-Part.result
+    c.from_residual-in_err-next-in-Part.ensures.0
+    (takes g.D.RunDisk.state at _ _ _ _ _ _ _ _ _ _ _ _ _ _ _ so_far
+    c.in_ok-found-in-Part.ensures e.taken e.alone e.moves)
 
 pub loop-line-preserved : goal.loop-line-preserved
-loop-line-preserved g c =
-    let before = c.loop-line.invariant in
-    let e = c.in_ok-next-in-Part.ensures in
-    let taken = takes g.D.RunDisk.state _ _ _ _ _ _ _ _ e.taken in (
-      suc before.0,
-      before.1 ++ order_lines taken.0,
-      answer_more g.D.RunDisk.state _ _ _ before.0 before.1 taken.0 before.2 taken.1 e.moves,
-      appends_then _ _ _ before.1 (order_lines taken.0) before.3 taken.2,
+loop-line-preserved g c = (
+  refl,
+  λ at r0 w0 here.
+      let so_far = goes_as g.D.RunDisk.state at _ _ _ _ _ _ _ _ _ _ _ _ c.in-Part.is refl refl
+      (c.loop-line.invariant.1 at r0 w0 here) in
+      let e = c.in_ok-next-in-Part.ensures in
+      takes g.D.RunDisk.state at _ _ _ _ _ _ _ _ _ _ _ _ _ _ _ so_far
+      c.in_ok-found-in-Part.ensures e.taken e.alone e.moves,
+)
+
+pub returns-in-Ok : goal.returns-in-Ok
+returns-in-Ok g c at r0 w0 here =
+    let e = c.in-Ok.ensures in (
+      _,
+      goes_as g.D.RunDisk.state at _ _ _ _ _ _ _ _ _ _ _ _ c.in-Opening.is
+          (sym c.loop-line.invariant.0) e.settles.1 (c.loop-line.invariant.1 at r0 w0 here),
+      (e.moves, e.settles.0),
     )
 
-pub returns-clause-answers : goal.returns-clause-answers
-returns-clause-answers g c =
-    let before = c.loop-line.invariant in
-    (before.0, before.1, before.2, whole_prefix _ _ before.1 before.3)
+pub returns-in-Err : goal.returns-in-Err
+returns-in-Err g c at r0 w0 here =
+    let e = c.in-Err.ensures in
+    fails_to_settle g.D.RunDisk.state at _ _ _ _ _ _ _ _ _ _ _ _ _ c.in-Opening.is
+    (c.loop-line.invariant.1 at r0 w0 here) e.settles e.moves
+
+pub returns-in-End : goal.returns-in-End
+returns-in-End g c at r0 w0 here = (
+  _,
+  goes_as g.D.RunDisk.state at _ _ _ _ _ _ _ _ _ _ _ _ c.in-End.is
+      (sym c.loop-line.invariant.0) refl (c.loop-line.invariant.1 at r0 w0 here),
+  refl,
+)
+
+pub returns-in-Fault : goal.returns-in-Fault
+returns-in-Fault g c at r0 w0 here =
+    let so_far = c.loop-line.invariant.1 at r0 w0 here in
+    fails_here g.D.RunDisk.state at _ _ _ _ _ _ _ _ _ _ so_far
+    (so_far.bytes, so_far.here.read)
+
+pub returns : goal.returns
+returns g c at r0 w0 here =
+    let so_far = c.loop-line.invariant.1 at r0 w0 here in
+    fails_here g.D.RunDisk.state at _ _ _ _ _ _ _ _ _ _ so_far
+    (so_far.bytes, so_far.here.read)
