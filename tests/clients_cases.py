@@ -19,10 +19,14 @@ from collections.abc import Callable, Iterator
 
 sys.dont_write_bytecode = True
 HERE = os.path.dirname(os.path.realpath(__file__))
-sys.path[:0] = [f"{HERE}/../clients/python"]
+sys.path[:0] = [f"{HERE}/../clients/python", HERE]
 import pokhnier  # noqa: E402
+from clients_waits import heed_breaks, until, until_begun  # noqa: E402
+from pokhnier.calls import Call  # noqa: E402
 from pokhnier.names import group_name, key_name, text_of  # noqa: E402
+from pokhnier.outcomes import Outcome  # noqa: E402
 from pokhnier.program import program  # noqa: E402
+from pokhnier.threads import ThreadRunner  # noqa: E402
 
 
 class Break(Exception):
@@ -141,19 +145,20 @@ def failures(path: str) -> None:
                 pokhnier.current().sleep(60)
             failed.wait(60)
 
-        def bad(called: list[str] = called, began: threading.Event = began,
-                failed: threading.Event = failed) -> None:
+        def bad(called: list[str] = called, began: threading.Event = began) -> None:
             called.append("b")
             began.wait(60)
-            failed.set()
             raise ValueError("b")
 
         def run(store: pokhnier.Store, way: str = way, good: Callable[[], None] = good,
-                bad: Callable[[], None] = bad, called: list[str] = called) -> None:
+                bad: Callable[[], None] = bad, called: list[str] = called,
+                failed: threading.Event = failed) -> None:
             with store.group(f"g-{way}", limit=2, on_error=way) as group:  # type: ignore[arg-type]
-                group.run("a", good)
-                group.run("b", bad)
-                group.run("c", called.append, "c")
+                # (All are in one round: a later run may begin "a" before it knows of "b".)
+                with store._pump.work:
+                    group.run("a", good)
+                    group.run("b", bad).add_done_callback(lambda _: failed.set())
+                    group.run("c", called.append, "c")
         for _ in range(2):
             error = night(path, run)
             is_same((type(error), str(error)), (ValueError, "b"))
@@ -162,24 +167,21 @@ def failures(path: str) -> None:
 
 def first_errors(path: str) -> None:
     """The first error is that of the function that failed first, in each run."""
-    turn = [threading.Event() for _ in range(3)]
+    goes = [threading.Event() for _ in range(3)]
 
     def fail(number: int) -> None:
-        turn[number].wait(60)
-        if number:
-            turn[number - 1].set()
-            time.sleep(0.5)
+        goes[number].wait(60)
         raise ValueError(f"{number}")
 
     def run(store: pokhnier.Store) -> None:
         with store.group("g", on_error="go-on") as group:
             tasks = [group.run(f"k{number}", fail, number) for number in range(3)]
-            turn[1].set()
-            tasks[0].exception()
-            turn[2].set()
+            for number in (1, 0, 2):
+                goes[number].set()
+                tasks[number].exception()
     for _ in range(2):
         error = night(path, run)
-        is_same((type(error), str(error)), (ValueError, "0"))
+        is_same((type(error), str(error)), (ValueError, "1"))
 
 
 def two_failures(path: str) -> None:
@@ -187,19 +189,25 @@ def two_failures(path: str) -> None:
     first one has canceled the group."""
     def run(store: pokhnier.Store) -> None:
         with store.group("g") as group:
-            began, goes = threading.Semaphore(0), threading.Event()
+            goes, ends = threading.Event(), list[tuple[Call, Outcome, BaseException | None]]()
 
             def fail(text: str) -> None:
-                began.release()
                 goes.wait(60)
                 raise ValueError(text)
+
+            def keep(call: Call, outcome: Outcome, seen: BaseException | None) -> None:
+                ends.append((call, outcome, seen))
             tasks = [group.run(key, fail, key) for key in "ab"]
-            for _ in tasks:
-                began.acquire(timeout=60)
-            # (No round is made before both have ended.)
+            for it in tasks:
+                until_begun(it)
+                assert isinstance(it._call.runner, ThreadRunner)
+                it._call.runner.report = keep
+            goes.set()
+            until("two ends", lambda: len(ends) == 2)
+            # (Both are in one round, since the thread of the store waits for the lock.)
             with store._pump.work:
-                goes.set()
-                time.sleep(0.5)
+                for end in ends:
+                    store._pump.report(*end)
             kinds = [type(it.exception()) for it in tasks]
             is_same(sorted(it.__name__ for it in kinds), ["Canceled", "ValueError"])
     error = night(path, run)
@@ -249,11 +257,13 @@ def retries(path: str) -> None:
 def limits(path: str) -> None:
     """At most this many functions run at a time, and this many do."""
     lock, now, most = threading.Lock(), [0], [0]
+    meets = threading.Barrier(3, timeout=60)
 
     def count() -> None:
         with lock:
             now[0] += 1
             most[0] = max(most[0], now[0])
+        meets.wait()
         time.sleep(0.05)
         with lock:
             now[0] -= 1
@@ -265,14 +275,16 @@ def limits(path: str) -> None:
 
 def timeouts(path: str) -> None:
     """A timeout counts from the first run, and stops functions of later ones."""
-    stopped = []
+    stopped, called = [], threading.Event()
 
     def sleep() -> None:
+        called.set()
         try:
             pokhnier.current().sleep(60)
         except pokhnier.Error as error:
             stopped.append(type(error))
             raise
+
     def moment() -> int:
         """The deadline that the store has for the group."""
         shown = subprocess.run([program(), "inspect", "--json", path], capture_output=True,
@@ -282,20 +294,21 @@ def timeouts(path: str) -> None:
     began = time.time()
 
     def run(store: pokhnier.Store) -> None:
-        with store.group("g", timeout=6) as group:
+        with store.group("g", timeout=8) as group:
             group.run("a", sleep)
             if not stopped:
-                time.sleep(2)
+                called.wait(60)
+                time.sleep(2)  # (A timeout that counted from the next run would be another moment.)
                 raise Break
     is_same(night(path, run), None)
     is_same(stopped, [pokhnier.Interrupted])
     kept = moment()
-    holds(kept >= began + 6, kept)
+    holds(kept >= began + 8, kept)
     is_same(type(night(path, run)), pokhnier.Canceled)
     is_same(moment(), kept)
     # (On a busy machine the deadline may pass before the second call.)
-    holds(stopped[1:] == [pokhnier.Canceled] or time.time() > began + 7, stopped)
-    holds(time.time() >= began + 6, time.time() - began)
+    holds(stopped[1:] == [pokhnier.Canceled] or time.time() > began + 9, stopped)
+    holds(time.time() >= began + 8, time.time() - began)
 
 
 def cancels(path: str) -> None:
@@ -381,9 +394,10 @@ def in_use(path: str) -> None:
 
 def lost(path: str) -> None:
     """The death of the program ends the run. The store is in use until its functions have ended."""
-    stopped, goes = [], threading.Event()
+    stopped, called, goes = [], threading.Event(), threading.Event()
 
     def sleep() -> None:
+        called.set()
         try:
             pokhnier.current().sleep(60)
         except pokhnier.Error as error:
@@ -397,7 +411,7 @@ def lost(path: str) -> None:
     store = pokhnier.open(path)
     group = store.group("g", limit=1)
     task, later = group.run("a", sleep), group.run("b", int)
-    time.sleep(0.5)
+    called.wait(60)
     store._drive.process.kill()
     # (The program's end is seen by the next round.)
     group.run("c", int)
@@ -492,8 +506,11 @@ def values(path: str) -> None:
 def coroutines(path: str) -> None:
     """Coroutine functions: results, a first error that cancels others, and a cut."""
     ended: list[str] = []
+    called = asyncio.Event()
 
     async def sleep(key: str, seconds: float) -> str:
+        if key == "e":
+            called.set()
         try:
             await asyncio.sleep(seconds)
         except asyncio.CancelledError:
@@ -514,15 +531,19 @@ def coroutines(path: str) -> None:
             is_same(await tasks[0], "a")
         try:
             async with store.group("h") as group:
-                group.start("d", sleep, "d", 60)
-                group.start("f", fail)
+                # (Both are in one round: a later run may begin "d" before it knows of "f".)
+                with store._pump.work:
+                    group.start("d", sleep, "d", 60)
+                    group.start("f", fail)
         except ValueError:
             ended.append("f")
         return [await it for it in tasks]
 
     async def cut(store: pokhnier.Store) -> None:
-        async with asyncio.timeout(0.5), store.group("i") as group:
+        async with asyncio.timeout(None) as limit, store.group("i") as group:
             group.start("e", sleep, "e", 60)
+            await called.wait()
+            limit.reschedule(asyncio.get_running_loop().time())
     with contextlib.suppress(TimeoutError), pokhnier.open(path) as store:
         is_same(asyncio.run(run(store)), ["a", "b", "c"])
         asyncio.run(cut(store))
@@ -615,6 +636,7 @@ def faults(of: tuple[Case, ...], cases: list[str]) -> Iterator[str]:
 
 
 def main(of: tuple[Case, ...], *cases: str) -> int:
+    heed_breaks()
     bad = []
     for it in faults(of, list(cases)):
         print(f"FAILED {it}", flush=True)

@@ -26,10 +26,11 @@ HERE = os.path.dirname(os.path.realpath(__file__))
 sys.path[:0] = [f"{HERE}/../clients/python", HERE]
 import pokhnier  # noqa: E402
 from clients_cases import holds, is_same, main, night, raising  # noqa: E402
+from clients_waits import stop, until, until_at_rest, until_begun  # noqa: E402
 from pokhnier.names import bytes_of, key_name  # noqa: E402
 from pokhnier.program import program  # noqa: E402
 
-SECONDS = 30
+SECONDS = 60
 
 
 class Mute(Exception):
@@ -120,21 +121,19 @@ def full_disks(path: str) -> None:
 
 def killed_answers(path: str) -> None:
     """The program dies while somebody waits for an answer that has no task."""
-    def first_error(_: pokhnier.Store, group: pokhnier.Group) -> None:
-        group.run("b", raising, ValueError("b")).exception()
-        group.wait()
-
-    def cancel(_: pokhnier.Store, group: pokhnier.Group) -> None:
-        group.run("b", pokhnier.current).cancel()
     waits: dict[str, Callable[[pokhnier.Store, pokhnier.Group], object]] = {
-        "a cancel of a group": lambda _, group: group.cancel(), "a cancel of a task": cancel,
-        "the end of a night": lambda store, _: store.finish(), "a first error": first_error}
+        "a cancel of a group": lambda _, group: group.cancel(),
+        "a cancel of a task": lambda _, group: group.run("c", pokhnier.current).cancel(),
+        "the end of a night": lambda store, _: store.finish(),
+        "a first error": lambda _, group: group.wait()}
     for number, (what, wait) in enumerate(waits.items()):
         store = pokhnier.open(f"{path}{number}")
         group = store.group("g", on_error="go-on")
         group.run("a", int).result()
-        store._drive.process.send_signal(signal.SIGSTOP)
-        killer = threading.Timer(0.3, store._drive.process.kill)
+        group.run("b", raising, ValueError("b")).exception()
+        until_at_rest(store)
+        stop(store._drive.process)
+        killer = threading.Thread(target=kill_asked, args=(store,))
         killer.start()
 
         def waiting(store: pokhnier.Store = store, group: pokhnier.Group = group,
@@ -143,6 +142,15 @@ def killed_answers(path: str) -> None:
         error = within(what, waiting)
         holds(isinstance(error, pokhnier.Lost), f"{what}: {error!r}")
         is_same(within(what, store.close), None)
+        killer.join()
+
+
+def kill_asked(store: pokhnier.Store) -> None:
+    """Kills the program once it is asked for something."""
+    try:
+        until("a round", lambda: store._pump.made)
+    finally:
+        store._drive.process.kill()
 
 
 def no_threads(path: str) -> None:
@@ -222,8 +230,7 @@ def closed_loops(path: str) -> None:
         group = store.group("g")
         group.start("a", sleep)
         await began.wait()
-        group.start("b", sleep)
-        time.sleep(0.5)  # (The second one is to begin by now.)
+        until_begun(group.start("b", sleep))
     loop.run_until_complete(start())
     loop.close()
     is_same(within("a close", store.close), None)
@@ -244,7 +251,7 @@ def early_cancels(path: str) -> None:
     async def run(store: pokhnier.Store, is_canceled: bool) -> None:
         group = store.group("g")
         task = group.start("a", asyncio.sleep, 60)
-        time.sleep(0.5)  # (It is to begin by now, and this loop hasn't begun it.)
+        until_begun(task)  # (It begins, and this loop, which waits here, hasn't begun it.)
         if is_canceled:
             group.cancel("by hand")
             is_same(str(await asyncio.wait_for(ended(task), SECONDS)), "by hand")
@@ -516,7 +523,7 @@ def storms(path: str) -> None:
             "group = store.group('g', on_error='go-on', limit=4)\n"
             "ends = time.time() + 4\n"
             "signal.setitimer(signal.ITIMER_REAL, 0.0003, 0.0002)\n"
-            "while time.time() < ends and n < 3000:\n"
+            "while (time.time() < ends or n <= 100) and n < 3000:\n"
             "    try:\n"
             "        n += 1\n"
             "        armed = True\n"
@@ -525,7 +532,6 @@ def storms(path: str) -> None:
             "    except KeyboardInterrupt:\n"
             "        pass\n"
             "signal.setitimer(signal.ITIMER_REAL, 0)\n"
-            "print(n > 100, flush=True)\n"
             "store.close()\n"
             "print('closed', flush=True)\n")
     for number in range(3):
@@ -537,7 +543,7 @@ def storms(path: str) -> None:
         except subprocess.TimeoutExpired:
             client.kill()
             raise AssertionError(f"it hangs: {client.communicate()}") from None
-        is_same((said, why), ("True\nclosed\n", ""))
+        is_same((said, why), ("closed\n", ""))
 
 
 def storms_of_waits(path: str) -> None:
@@ -555,7 +561,7 @@ def storms_of_waits(path: str) -> None:
             raise KeyboardInterrupt
     was, ends = signal.signal(signal.SIGALRM, ring), time.monotonic() + 3
     signal.setitimer(signal.ITIMER_REAL, 0.0004, 0.0003)
-    while time.monotonic() < ends:
+    while time.monotonic() < ends or count <= 100 and time.monotonic() < ends + SECONDS:
         try:
             is_armed[0] = True
             group.join()

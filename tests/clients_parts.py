@@ -20,7 +20,7 @@ from __future__ import annotations
 import os
 import sys
 import tempfile
-import time
+import threading
 
 sys.dont_write_bytecode = True
 HERE = os.path.dirname(os.path.realpath(__file__))
@@ -101,14 +101,18 @@ def rebound(folder: str) -> str:
 
 def named(folder: str) -> str:
     """Which error a group raises of which the program names the first one."""
+    failed = threading.Event()
+
     def fail(key: str) -> None:
-        time.sleep(0.2 if key == "b" else 0)
+        if key == "b":
+            failed.wait(30)
         raise ValueError(f"{key} is bad")
     store = pokhnier.open(f"{folder}/named")
     group = store.group("g", on_error="go-on")
     try:
         with store._pump.work:
             tasks = [group.run(key, fail, key) for key in "abc"]
+            tasks[0].add_done_callback(lambda _: failed.set())
         errors = [it.exception(30) for it in tasks]
         try:
             group.wait()

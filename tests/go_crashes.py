@@ -13,7 +13,7 @@ from collections import Counter
 from dataclasses import dataclass, field
 
 VICTIMS = ("client", "night", "both")
-TASKS, SECONDS, MOST_RUNS = 200, 120, 60
+TASKS, SECONDS, MOST_RUNS, MOST_TEXT = 200, 120, 60, 6000
 FAILING = {f"{group}{number}" for group in ("all", "first") for number in range(12)}
 
 
@@ -78,9 +78,19 @@ class Night:
         try:
             return program.wait(self.seconds)
         except subprocess.TimeoutExpired:
-            self.bad.append(f"a run doesn't end; {victim or 'nobody'} was killed")
-            program.kill()
-            return program.wait()
+            self.bad.append(f"a run doesn't end; {victim or 'nobody'} was killed; "
+                            f"{self.goroutines(program)}")
+            return program.returncode
+
+    def goroutines(self, program: subprocess.Popen[bytes]) -> str:
+        """Ends a program that hangs. Returns what its goroutines do."""
+        program.send_signal(signal.SIGQUIT)
+        with contextlib.suppress(subprocess.TimeoutExpired):
+            program.wait(20)
+        program.kill()
+        program.wait()
+        with open(f"{self.folder}/printed", encoding="utf-8", errors="replace") as printed:
+            return printed.read().rpartition("SIGQUIT")[2][:MOST_TEXT]
 
     def strike(self, victim: str, program: subprocess.Popen[bytes]) -> None:
         nights = children(program.pid) if victim != "client" else []

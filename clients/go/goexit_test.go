@@ -42,7 +42,7 @@ func TestGoexit(t *testing.T) {
 					run == "this run" && !errors.Is(err, ErrGoexit) {
 					t.Errorf("%s: %s: %v", run, what, err)
 				}
-			case <-time.After(20 * time.Second):
+			case <-time.After(longest):
 				t.Fatalf("%s: %s: it hangs", run, what)
 			}
 		}

@@ -5,6 +5,7 @@ import (
 	"errors"
 	"path/filepath"
 	"sync/atomic"
+	"syscall"
 	"testing"
 	"time"
 )
@@ -47,19 +48,74 @@ func (s *Store) crash() {
 	s.lock.Close()
 }
 
+// The waits of these tests are for something that happens, and not for some time: the machine may be
+// slow, and its processors busy.
+const longest = time.Minute
+
+// until waits until something is so.
+func until(t *testing.T, what string, isSo func() bool) {
+	t.Helper()
+	for end := time.Now().Add(longest); !isSo(); time.Sleep(time.Millisecond) {
+		if time.Now().After(end) {
+			t.Fatalf("it never comes: %s", what)
+		}
+	}
+}
+
+// until waits until something is so in a store.
+func (s *Store) until(t *testing.T, what string, isSo func() bool) {
+	t.Helper()
+	until(t, what, func() bool {
+		s.mu.Lock()
+		defer s.mu.Unlock()
+		return isSo()
+	})
+}
+
 // awaitOK waits until the good end of a task is durable.
 func (s *Store) awaitOK(t *testing.T, group, key string) {
 	t.Helper()
-	for end := time.Now().Add(time.Minute); time.Now().Before(end); time.Sleep(time.Millisecond) {
-		s.mu.Lock()
+	s.until(t, "the end of "+key, func() bool {
 		row := s.past.tasks[taskKey{group, key}]
-		isOK := row != nil && row.phase == phaseOK
-		s.mu.Unlock()
-		if isOK {
-			return
+		return row != nil && row.phase == phaseOK
+	})
+}
+
+// awaitRound waits until all that was asked for is in a round.
+func (s *Store) awaitRound(t *testing.T) {
+	t.Helper()
+	s.until(t, "a round", func() bool { return s.todo.isEmpty() })
+}
+
+// awaitReport waits until the end of a function is in a round.
+func (s *Store) awaitReport(t *testing.T, key string) {
+	t.Helper()
+	s.until(t, "the report of "+key, func() bool {
+		for c := range s.open {
+			if c.key == key {
+				return c.phase == hasEnded && s.todo.isEmpty()
+			}
 		}
+		return false
+	})
+}
+
+// pauseNight stops the program before its next answer, and returns what lets it go on. The program
+// has several threads. The signal stops one of them, which stops the others once a processor runs
+// it, and until then they go on.
+func (s *Store) pauseNight(t *testing.T) func() {
+	t.Helper()
+	s.mu.Lock()
+	process := s.session.command.Process
+	s.mu.Unlock()
+	process.Signal(syscall.SIGSTOP)
+	const isPid = 1
+	_, _, why := syscall.Syscall6(syscall.SYS_WAITID, isPid, uintptr(process.Pid), 0,
+		syscall.WSTOPPED|syscall.WNOWAIT, 0, 0)
+	if why != 0 {
+		t.Errorf("the program doesn't stop: %v", why)
 	}
-	t.Fatalf("%s %s doesn't end", group, key)
+	return func() { process.Signal(syscall.SIGCONT) }
 }
 
 func returns(err error) func(context.Context) error {

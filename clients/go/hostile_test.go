@@ -27,27 +27,8 @@ func within(t *testing.T, what string, f func()) {
 	}()
 	select {
 	case <-done:
-	case <-time.After(20 * time.Second):
+	case <-time.After(longest):
 		t.Fatalf("%s: it hangs", what)
-	}
-}
-
-// pauseNight stops the program before its next answer, and returns what lets it go on.
-func (s *Store) pauseNight() func() {
-	s.mu.Lock()
-	process := s.session.command.Process
-	s.mu.Unlock()
-	process.Signal(syscall.SIGSTOP)
-	time.Sleep(50 * time.Millisecond)
-	return func() { process.Signal(syscall.SIGCONT) }
-}
-
-// awaitRound waits until all that was asked for is in a round.
-func (s *Store) awaitRound() {
-	for isEmpty := false; !isEmpty; time.Sleep(10 * time.Millisecond) {
-		s.mu.Lock()
-		isEmpty = s.todo.isEmpty()
-		s.mu.Unlock()
 	}
 }
 
@@ -94,13 +75,11 @@ func TestARetryDoesntOutliveItsRun(t *testing.T) {
 	g.SetLimit(1)
 	goesOn := make(chan func(), 1)
 	g.Go("a", func(context.Context) error {
-		goesOn <- s.pauseNight()
+		goesOn <- s.pauseNight(t)
 		return errDisk
 	})
 	resume := <-goesOn
-	s.awaitRound()
-	time.Sleep(50 * time.Millisecond)
-	s.awaitRound()
+	s.awaitReport(t, "a")
 	stop()
 	<-s.Root().Done()
 	resume()
@@ -227,7 +206,6 @@ func openFiles() int {
 func TestNothingIsLeftOpen(t *testing.T) {
 	path := fresh(t)
 	open(t, path).Close()
-	time.Sleep(50 * time.Millisecond)
 	files, goroutines := openFiles(), runtime.NumGoroutine()
 	for i := 0; i < 10; i++ {
 		s := open(t, path)
@@ -250,13 +228,11 @@ func TestNothingIsLeftOpen(t *testing.T) {
 			t.Error("it opens")
 		}
 	}
-	time.Sleep(100 * time.Millisecond)
-	if now := openFiles(); now > files+1 {
-		t.Errorf("%d files are open, and not %d", now, files)
-	}
-	if now := runtime.NumGoroutine(); now > goroutines+1 {
-		t.Errorf("%d goroutines run, and not %d", now, goroutines)
-	}
+	// (What has ended may take a moment until it is gone.)
+	until(t, "the end of all files", func() bool { return openFiles() <= files+1 })
+	until(t, "the end of all goroutines", func() bool {
+		return runtime.NumGoroutine() <= goroutines+1
+	})
 	if left, _ := filepath.Glob(path + ".*new*"); left != nil {
 		t.Error(left)
 	}
@@ -292,7 +268,7 @@ func TestTheLimitZero(t *testing.T) {
 		t.Error("a task of a group with the limit 0")
 	}
 	g.Go("b", mustNotRun(t))
-	s.awaitRound()
+	s.awaitRound(t)
 	time.Sleep(100 * time.Millisecond)
 	s.Close()
 	if err := g.Wait(); !errors.Is(err, ErrInterrupted) {
@@ -308,7 +284,7 @@ func TestManyTasks(t *testing.T) {
 	for i := 0; i < 8000; i++ {
 		g.Go(fmt.Sprint(i), mustNotRun(t))
 	}
-	s.awaitRound()
+	s.awaitRound(t)
 	s.Close()
 	if err := g.Wait(); !errors.Is(err, ErrInterrupted) || errors.Is(err, ErrFull) {
 		t.Error(err)
@@ -472,11 +448,12 @@ func TestATaskBelowACancel(t *testing.T) {
 	defer s.Close()
 	c := Scope(s.Root(), "c")
 	g := s.Group(c, "g")
-	resume := s.pauseNight()
+	resume := s.pauseNight(t)
 	canceled := make(chan error)
 	go func() { canceled <- c.Cancel(errDisk) }()
-	time.Sleep(100 * time.Millisecond)
-	s.awaitRound()
+	s.until(t, "the round of the cancel", func() bool {
+		return s.rooms["c"] != nil && s.todo.isEmpty()
+	})
 	g.Go("a", mustNotRun(t))
 	resume()
 	if err := <-canceled; err != nil {

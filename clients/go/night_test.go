@@ -7,7 +7,6 @@ import (
 	"os"
 	"strings"
 	"sync/atomic"
-	"syscall"
 	"testing"
 	"time"
 )
@@ -76,11 +75,13 @@ func TestNightHangs(t *testing.T) {
 	s := open(t, fresh(t))
 	defer s.Close()
 	g, _ := WithContext(s.Root(), "g")
-	s.session.command.Process.Signal(syscall.SIGSTOP)
+	hangs := s.session
+	s.pauseNight(t)
 	g.Go("a", returns(nil))
 	if err := g.Wait(); err != nil {
 		t.Error(err)
 	}
+	s.until(t, "another program", func() bool { return s.session != hangs })
 }
 
 func TestNightCantBeKept(t *testing.T) {
