@@ -1,34 +1,44 @@
 -- What a run does to a store, and what it writes: its openings, and its answers over each.
 use Rattle.std.specs.Prelude.{◌≡◌, ◌⊎◌, ◌++◌, ℕ, zero, suc, List, [], Option, Result, Ok, Err}
 use Rattle.run_model.specs.declared.faults.Fault.{Fault}
+use Rattle.run_model.specs.declared.faults.Trouble.TheVariants as trouble
 use Rattle.run_disk.specs.Disk.{DiskState}
-use Rattle.book_model.specs.Books.{BookView, IsSafe}
+use Rattle.book_model.specs.Books.{BookView, Flushes, IsSafe}
 use Rattle.book_model.specs.Openings.{Opens}
 use Rattle.book_model.specs.Standing.{LiesWith}
 use Rattle.drive_lines.specs.declared.inputs.NextLine.{NextLine}
 use Rattle.drive_lines.specs.declared.orders.Order.{Order}
 use Rattle.drive_lines.specs.Orders.{order_lines}
-use Rattle.drive_parts.specs.declared.heard.Heard.{Heard}
 use Rattle.drive_runs.specs.declared.answers.Answer.{Answer}
+use Rattle.drive_runs.specs.declared.openings.Hindrance.TheVariants as hindrance
 use Rattle.drive_runs.specs.declared.parts.Part.{Part}
-use Rattle.drive_runs.specs.declared.round_parts.RoundKind.TheVariants as kind
+use Rattle.drive_runs.specs.declared.round_parts.Rest.{Rest}
 use Rattle.drive_runs.specs.declared.runs.Sat.{Sat}
 use Rattle.drive_runs.specs.declared.runs.Sat.TheVariants as sat
-use Rattle.drive_runs.specs.Answers.{IsHindered, MayAnswer, Writes}
+use Rattle.drive_runs.specs.declared.sittings.Sitting.{Sitting}
+use Rattle.drive_runs.specs.Answers.{Hinders, Resumes, Writes}
 use Rattle.drive_runs.specs.Moving.{Moves}
 use Rattle.drive_runs.specs.Parts.{AnswersLine}
 
 -- ---- an answer
 
--- This may be answered: to a line of the input; or to a round for which the store was opened again,
--- and of which this was heard; or that something hinders the night.
+-- What was recorded couldn't be made durable, because of this fault, and that hinders the night.
+abbrev pub FailsToSave : {D : Type 0} → (D → DiskState) → (old : BookView D) → Answer
+    → (new : BookView D) → Type 0
+FailsToSave state old it new =
+    (fault : Fault) × Flushes state old (Err (trouble.Faulty fault)) new
+    × Hinders (hindrance.Fault fault) it
+
+-- This may be answered: to a line of the input; or to a round that was put off and for which the
+-- store was opened again; or that what was recorded of a round that is put off can't be made
+-- durable.
 abbrev pub MayBeAnswered : {D : Type 0} → (D → DiskState) → (old : BookView D) → Answer
     → (new : BookView D) → Type 0
 MayBeAnswered state old it new =
     ((part : Part) × (found : NextLine) × (number : ℕ)
     × AnswersLine state part found number old it new)
-    ⊎ ((heard : Heard) × MayAnswer state kind.Again heard old it new)
-    ⊎ IsHindered it
+    ⊎ ((sitting : Sitting) × (rest : Rest) × Resumes state sitting rest old it new)
+    ⊎ FailsToSave state old it new
 
 -- These lines may be written: there are none, or they are those of an answer.
 abbrev pub IsAnswer : {D : Type 0} → (D → DiskState) → (old : BookView D) → List Order

@@ -9,7 +9,7 @@ returns-in-Part-clause-given g c = ([], inl refl, appends_nothing _)
 pub returns-in-Ok-clause-given : goal.returns-in-Ok-clause-given
 returns-in-Ok-clause-given g c =
     gives g.D.RunDisk.state c.in-Ok.answer _ _ _ _ _
-    (inr (inl (c.in-Recorded.rest.heard, c.in-Ok.ensures.answered))) c.give.ensures
+    (inr (inl (c.in-Recorded.sitting, c.in-Recorded.rest, c.in-Ok.ensures.answered))) c.give.ensures
 
 pub returns-in-Err-clause-given : goal.returns-in-Err-clause-given
 returns-in-Err-clause-given g c = ([], inl refl, ([], ([], refl), appends_nothing _))

@@ -1,10 +1,12 @@
-use Rattle.std.proofs.Common.{List, inr, refl, subst}
+use Rattle.std.specs.Prelude.{Err, Result}
+use Rattle.std.proofs.Common.{List, inr, refl, subst, ℕ}
 use Rattle.std.specs.Io.KnownBytes.{Appends}
+use Rattle.run_model.specs.declared.faults.Trouble.{Trouble}
+use Rattle.book_model.specs.Books.{Flushes}
 use Rattle.console_lines.specs.Faults.{stopped}
 use Rattle.plan_lines.specs.Writing.{WritesPrefix}
 use Rattle.drive_lines.specs.declared.orders.Order.{Order}
 use Rattle.drive_lines.specs.Orders.{order_lines}
-use Rattle.drive_runs.specs.declared.openings.Hindrance.TheVariants as hindrance
 use Rattle.drive_runs.specs.declared.parts.Next.TheVariants as next
 use Rattle.drive_runs.proofs.Driving.{whole_prefix}
 use Rattle.drive_runs.proofs.runs.settle.Goals as goal
@@ -18,7 +20,11 @@ returns-in-Ok-written-clause-given g c =
         record { lines = lines; next = next.Fault (stopped fault) },
         refl,
         inr (inr (
-          hindrance.Fault fault,
+          fault,
+          subst (λ (t : Trouble). Flushes g.D.RunDisk.state c.args.book.now (Err t)
+              c.flush.new.self) c.in-Err-Faulty.field-0-is
+              (subst (λ (r : Result ℕ Trouble). Flushes g.D.RunDisk.state c.args.book.now r
+              c.flush.new.self) c.in-Err-Faulty.is c.flush.ensures.flushes),
           record { lines = c.in-Ok-one_line.ensures; goes_on = refl },
         )),
       ),
@@ -37,7 +43,11 @@ returns-in-Err-written-clause-given g c =
         record { lines = lines; next = next.Fault (stopped fault) },
         refl,
         inr (inr (
-          hindrance.Fault fault,
+          fault,
+          subst (λ (t : Trouble). Flushes g.D.RunDisk.state c.args.book.now (Err t)
+              c.flush.new.self) c.in-Err-Faulty.field-0-is
+              (subst (λ (r : Result ℕ Trouble). Flushes g.D.RunDisk.state c.args.book.now r
+              c.flush.new.self) c.in-Err-Faulty.is c.flush.ensures.flushes),
           record { lines = c.in-Ok-one_line.ensures; goes_on = refl },
         )),
       ),
