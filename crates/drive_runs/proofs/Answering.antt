@@ -1,123 +1,85 @@
 -- How a round is answered.
-use Rattle.std.specs.Prelude.{◌⊎◌, ℕ, Bool, List}
-use Rattle.std.proofs.Common.{inl, inr, subst}
+use Rattle.std.specs.Prelude.{◌≡◌, ℕ, List, Option, Some}
+use Rattle.std.specs.Global.{Vec}
+use Rattle.std.proofs.Common.{inr, refl, subst, sym}
 use Rattle.run_disk.specs.Disk.{DiskState}
 use Rattle.book_model.specs.Books.{BookView}
 use Rattle.drive_lines.specs.declared.orders.Order.{Order}
-use Rattle.drive_lines.specs.declared.reports.Report.{Report}
 use Rattle.drive_parts.specs.declared.heard.Heard.{Heard}
-use Rattle.drive_parts.specs.declared.plans.NightPlan.{NightPlan}
-use Rattle.drive_parts.specs.declared.rounds.HeardDraft.{HeardDraft}
-use Rattle.drive_parts.specs.declared.rounds.Round.{Round}
-use Rattle.drive_parts.specs.Heard.{AreHeard}
-use Rattle.drive_parts.specs.Rounds.{IsHeard, IsRoundOf}
 use Rattle.drive_runs.specs.declared.answers.Answer.{Answer}
 use Rattle.drive_runs.specs.declared.openings.Hindrance.{Hindrance}
+use Rattle.drive_runs.specs.declared.rebounds.Bound.{Bound}
+use Rattle.drive_runs.specs.declared.rebounds.Bound.TheVariants as bound
+use Rattle.drive_runs.specs.declared.records.Recorded.{Recorded}
 use Rattle.drive_runs.specs.declared.round_parts.Rest.{Rest}
 use Rattle.drive_runs.specs.declared.round_parts.RoundKind.{RoundKind}
-use Rattle.drive_runs.specs.declared.rounds.Orders.{Orders}
+use Rattle.drive_runs.specs.declared.rounds.Course.{Course}
 use Rattle.drive_runs.specs.declared.sittings.Sitting.{Sitting}
-use Rattle.drive_runs.specs.Answers.{AnswersRound, AreRebounds, ClosesRound, Hinders, IsHindered}
-use Rattle.drive_runs.specs.Answers.{IsRest, MayAnswer, MayEndRound, PutsBack, PutsOff}
-use Rattle.drive_runs.specs.Asks.{Questions, questions_of}
-use Rattle.drive_runs.specs.Moving.{Moves}
-use Rattle.drive_runs.specs.Parts.{AnswersDraft}
-use Rattle.drive_runs.specs.Records.{IsRecorded}
-use Rattle.drive_runs.specs.Rounds.{HasBegun}
-use Rattle.drive_runs.proofs.Moving.{moves_then}
+use Rattle.drive_runs.specs.Answers.{AnswersCourse, AnswersRecorded, BindsFirst, EndsRound, Hinders}
+use Rattle.drive_runs.specs.Answers.{IsRest, PlaysRound, PlaysUnless}
+use Rattle.drive_runs.specs.Asks.{questions_of}
+use Rattle.drive_runs.specs.Records.{Records}
+use Rattle.drive_runs.specs.Rounds.{GoesOn}
 
--- What is answered after some steps is answered after more steps before them.
-pub answers_later : {D : Type 0} (state : D → DiskState) (how : RoundKind) (heard : Heard)
-    (a b c : BookView D) (it : Answer) → Moves state a b → MayAnswer state how heard b it c
-    → MayAnswer state how heard a it c
-answers_later state how heard a b c it moves (inl hindered) = inl hindered
-answers_later state how heard a b c it moves (inr (inl off)) = inr (inl off)
-answers_later state how heard a b c it moves (inr (inr round)) =
-    inr (inr record {
-      ready = round.ready;
-      sitting = round.sitting;
-      rebounds = round.rebounds;
-      now = round.now;
-      recorded = round.recorded;
-      before = round.before;
-      readies = moves_then state a b round.ready moves round.readies;
-      rebinds = round.rebinds;
-      records = round.records;
-      goes_on = round.goes_on;
-    })
+-- Something hinders the night before a round is played.
+pub hinders_before : {D : Type 0} (state : D → DiskState) (found : Option Hindrance)
+    (what : Hindrance) (how : RoundKind) (s : Sitting) (heard : Heard) (now : ℕ) (b : BookView D)
+    (it : Answer) → found ≡ Some what → Hinders what it
+    → PlaysUnless state found how s heard now b it b
+hinders_before state found what how s heard now b it is says =
+    subst (λ (o : Option Hindrance). PlaysUnless state o how s heard now b it b) (sym is)
+    (says, refl)
 
--- A round was recorded, and what is left of it is answered.
-pub answers_recorded : {D : Type 0} (state : D → DiskState) (how : RoundKind)
-    (a b c d : BookView D) (sitting before : Sitting) (heard : Heard) (rest : Rest) (now : ℕ)
-    (rebounds : List Order) (it : Answer) → Moves state a b → AreRebounds rebounds
-    → IsRecorded state sitting heard now b before c → IsRest heard rest
-    → MayEndRound state how rest before c rebounds it d → MayAnswer state how heard a it d
-answers_recorded state how a b c d sitting before heard rest now rebounds it moves bound records
-    left (inl hindered) =
-    inl hindered
-answers_recorded state how a b c d sitting before heard rest now rebounds it moves bound records
-    left (inr (inl back)) =
-    inr (inl (back.0, rest, left, back.1))
-answers_recorded state how a b c d sitting before heard rest now rebounds it moves bound records
-    left (inr (inr ends)) =
-    inr (inr record {
-      ready = b;
-      sitting = sitting;
-      rebounds = rebounds;
-      now = now;
-      recorded = c;
-      before = before;
-      readies = moves;
-      rebinds = bound;
-      records = records;
-      goes_on = record {
-        orders = ends.orders;
-        after = ends.after;
-        to = ends.to;
-        begun = subst (λ (asked : Questions). HasBegun state before asked c ends.orders ends.after
-            ends.to) left.asked ends.begun;
-        closed = ends.closed;
-      };
-    })
+-- The tries that live got no tasks.
+pub plays_unbound : {D : Type 0} (state : D → DiskState) (how : RoundKind) (s t : Sitting)
+    (heard : Heard) (now : ℕ) (a b : BookView D) (tries : Bound) (what : Hindrance) (it : Answer)
+    → BindsFirst state how s a tries t b → tries ≡ bound.Hindered what → Hinders what it
+    → PlaysRound state how s heard now a it b
+plays_unbound state how s t heard now a b tries what it binds is says = (
+  bound.Hindered what,
+  t,
+  b,
+  subst (λ (all : Bound). BindsFirst state how s a all t b) is binds,
+  (says, refl),
+)
 
--- The orders of a round are given.
-pub ends_round : {D : Type 0} (state : D → DiskState) (how : RoundKind) (rest : Rest)
-    (before after : Sitting) (old to new : BookView D) (rebounds : List Order) (orders : Orders)
-    (it : Answer) → HasBegun state before (questions_of rest.heard) old orders after to
-    → ClosesRound state after to rebounds orders it new
-    → MayEndRound state how rest before old rebounds it new
-ends_round state how rest before after old to new rebounds orders it begun (inl hindered) =
-    inl hindered
-ends_round state how rest before after old to new rebounds orders it begun (inr closed) =
-    inr (inr record {
-      orders = orders;
-      after = after;
-      to = to;
-      begun = begun;
-      closed = closed;
-    })
+-- The tries that live have tasks, and this has become of the round.
+pub plays_recorded : {D : Type 0} (state : D → DiskState) (how : RoundKind) (s t before : Sitting)
+    (heard : Heard) (now : ℕ) (a b c d : BookView D) (tries : Bound) (lines : Vec Order)
+    (found recorded : Recorded) (rest : Rest) (it : Answer)
+    → BindsFirst state how s a tries t b → tries ≡ bound.Orders lines
+    → Records state t heard now b found before c → found ≡ recorded → IsRest heard now rest
+    → AnswersRecorded state how before rest c lines.items recorded it d
+    → PlaysRound state how s heard now a it d
+plays_recorded state how s t before heard now a b c d tries lines found recorded rest it binds is
+    records became left answers = (
+      bound.Orders lines,
+      t,
+      b,
+      subst (λ (all : Bound). BindsFirst state how s a all t b) is binds,
+      record {
+        recorded = recorded;
+        before = before;
+        between = c;
+        records = subst (λ (r : Recorded). Records state t heard now b r before c) became records;
+        rest = rest;
+        left = left;
+        answers = answers;
+      },
+    )
 
--- The store has to be opened again for the rest of a round.
-pub puts_off : {D : Type 0} (state : D → DiskState) (how : RoundKind) (heard : Heard)
-    (a b : BookView D) (sitting : Sitting) (rest : Rest) (it : Answer) → IsRest heard rest
-    → PutsBack how sitting rest it → MayAnswer state how heard a it b
-puts_off state how heard a b sitting rest it left back = inr (inl (sitting, rest, left, back))
-
--- What was heard in a round is what its lines report.
-pub answers_draft : {D : Type 0} (state : D → DiskState) (how : RoundKind) (a b c : BookView D)
-    (draft : HeardDraft) (round : Round) (it : Answer)
-    → ((plan : NightPlan) (tasks : List ℕ) (reports : List Report)
-    → IsHeard plan tasks reports draft → IsRoundOf plan reports round)
-    → Moves state a b → MayAnswer state how round.heard b it c
-    → AnswersDraft state how draft a it c
-answers_draft state how a b c draft round it are moves answers = λ plan tasks reports is.
-    by_answer ((are plan tasks reports is).heard)
-    (answers_later state how round.heard a b c it moves answers)
-  where
-    by_answer : {reports : List Report} → AreHeard reports round.heard
-        → MayAnswer state how round.heard a it c
-        → IsHindered it ⊎ ((heard : Heard) × AreHeard reports heard
-        × (PutsOff how heard it ⊎ AnswersRound state heard a it c))
-    by_answer is (inl hindered) = inl hindered
-    by_answer is (inr (inl off)) = inr (round.heard, is, inl off)
-    by_answer is (inr (inr answered)) = inr (round.heard, is, inr answered)
+-- The round has gone on so.
+pub goes_as : {D : Type 0} (state : D → DiskState) (how : RoundKind) (before after : Sitting)
+    (rest : Rest) (old to new : BookView D) (lines : List Order) (found course : Course)
+    (it : Answer) → GoesOn state before (questions_of rest.heard) old found after to
+    → found ≡ course → AnswersCourse state how after rest to lines course it new
+    → EndsRound state how before rest old lines it new
+goes_as state how before after rest old to new lines found course it goes is answers =
+    inr (
+      course,
+      after,
+      to,
+      subst (λ (it : Course). GoesOn state before (questions_of rest.heard) old it after to) is
+          goes,
+      answers,
+    )

@@ -36,12 +36,11 @@ use Rattle.drive_runs.specs.declared.parts.Next.TheVariants as next
 use Rattle.drive_runs.specs.declared.parts.Part.{Part}
 use Rattle.drive_runs.specs.declared.parts.Part.TheVariants as part
 use Rattle.drive_runs.specs.declared.round_parts.Rest.{Rest}
-use Rattle.drive_runs.specs.declared.round_parts.RoundKind.TheVariants as kind
 use Rattle.drive_runs.specs.declared.runs.Sat.{Sat}
 use Rattle.drive_runs.specs.declared.runs.Start.{Start}
 use Rattle.drive_runs.specs.declared.runs.Start.TheVariants as start
 use Rattle.drive_runs.specs.declared.sittings.Sitting.{Sitting}
-use Rattle.drive_runs.specs.Answers.{MayAnswer, end_line}
+use Rattle.drive_runs.specs.Answers.{Resumes, end_line}
 use Rattle.drive_runs.specs.Moving.{Moves}
 use Rattle.drive_runs.specs.Parts.{AnswersLine, Gives, LeavesAlone, TakesLine}
 use Rattle.drive_runs.specs.Runs.{Answers, AnswersFirst, AreHeld, Doing, Fails, Goes, IsAnswered}
@@ -451,7 +450,7 @@ module _ {D : Type 0} (state : D → DiskState) where
   first at (start.Recorded sitting rest) old new number kept r0 r w0 w1 w2 result here given moves =
       by_result result given
     where
-      turned : (answer : Answer) → MayAnswer state kind.Again rest.heard old answer new
+      turned : (answer : Answer) → Resumes state sitting rest old answer new
           → Answers state r0 (suc zero) at old (after_turn at [] answer) new
       turned answer may = (
         at,

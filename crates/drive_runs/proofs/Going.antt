@@ -1,5 +1,5 @@
 -- A round goes on: if its row is reported, each task was started by it, and all is acknowledged.
-use Rattle.std.specs.Prelude.{◌≡◌, ◌++◌, ℕ, Bool, List, [], ◌∷◌, Option, Some, None, map}
+use Rattle.std.specs.Prelude.{◌≡◌, ◌++◌, ℕ, List, [], ◌∷◌, Option, Some, None, map}
 use Rattle.std.specs.Option.{option_map}
 use Rattle.std.proofs.Common.{ap, append-nil, inl, refl, subst, sym, ◌∙◌}
 use Rattle.std.proofs.lemmas.List.{map-append}
@@ -26,8 +26,8 @@ use Rattle.drive_runs.specs.declared.sittings.Sitting.{Sitting}
 use Rattle.drive_runs.specs.Asks.{Questions, error_lines}
 use Rattle.drive_runs.specs.Begins.{Begins}
 use Rattle.drive_runs.specs.Living.{tries_of, with_begun}
-use Rattle.drive_runs.specs.Rounds.{AreBegins, AreOrders, AreStandings, AreStarted, GoesOn}
-use Rattle.drive_runs.specs.Rounds.{HasBegun, LivesOn, asked_lines, unbegun}
+use Rattle.drive_runs.specs.Rounds.{AddsTries, AreBegins, AreOrders, AreStandings, AreStarted}
+use Rattle.drive_runs.specs.Rounds.{GoesOn, HasBegun, LivesOn, asked_lines, unbegun}
 use Rattle.drive_runs.specs.Stops.{AreDue, stop_line}
 use Rattle.drive_runs.proofs.Faultless.{played_whole}
 use Rattle.drive_runs.proofs.Starting.{all_started}
@@ -89,15 +89,15 @@ row_started state old new s made begun reached b is =
 pub goes_unbegun : {D : Type 0} (state : D → DiskState) (before after : Sitting) (asked : Questions)
     (old new : BookView D) (made : Beginning)
     → Begins state before.kept.ends before.plan before.names before.kept.sizes.items old made new
-    → made.binding.begun ≡ None → (how : Course) → how ≡ unbegun made.binding.fault
-    → GoesOn state before asked old how after new
-goes_unbegun {D} state before after asked old new made begins none how is =
+    → made.binding.begun ≡ None → AddsTries before [] after → (how : Course)
+    → how ≡ unbegun made.binding.fault → GoesOn state before asked old how after new
+goes_unbegun {D} state before after asked old new made begins none left how is =
     subst (λ (course : Course). GoesOn state before asked old course after new) (sym is)
     (by_fault made.binding.fault refl)
   where
     by_fault : (fault : Option Fault) → made.binding.fault ≡ fault
         → GoesOn state before asked old (unbegun fault) after new
-    by_fault None is = (made, begins, inl (none, is))
+    by_fault None is = (made, begins, inl record { none = none; sound = is; left = left })
     by_fault (Some fault) is = (made, begins, none, is)
 
 module _ {D : Type 0} (state : D → DiskState) (old new : BookView D) (before middle after : Sitting)

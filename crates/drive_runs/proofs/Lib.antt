@@ -13,3 +13,5 @@ pub mod Stopping
 pub mod Setting
 pub mod Reading
 pub mod Apart
+pub mod Rebounding
+pub mod Seating

@@ -1,9 +1,8 @@
 -- Lines are added to an answer.
-use Rattle.std.specs.Prelude.{◌≡◌, ◌<◌, ◌+◌, ◌&&◌, ℕ, Bool, true, List, [], ◌∷◌}
+use Rattle.std.specs.Prelude.{◌≡◌, ◌<◌, ◌+◌, ℕ, List, [], ◌∷◌}
 use Rattle.std.specs.Prelude.{◌++◌, Option, Some, length, map, take}
 use Rattle.std.proofs.Common.{ap, append_assoc, get_or, refl, sym, ◌∙◌}
 use Rattle.std.proofs.lemmas.List.{map-append, map_more}
-use Rattle.std.proofs.lemmas.List.Folds.{list_all-append}
 use Rattle.run_model.specs.State.{State}
 use Rattle.night_plan.specs.declared.standings.Standing.{Standing}
 use Rattle.plan_lines.specs.declared.answers.AnswerLine.{AnswerLine}
@@ -13,7 +12,7 @@ use Rattle.plan_lines.proofs.Standing.{appended}
 use Rattle.drive_lines.specs.declared.orders.Order.{Order}
 use Rattle.drive_lines.specs.declared.orders.Order.TheVariants as order
 use Rattle.drive_steps.specs.declared.reported.Begun.{Begun}
-use Rattle.drive_runs.specs.Answers.{AreRebounds, end_line, is_rebound}
+use Rattle.drive_runs.specs.Answers.{end_line}
 use Rattle.drive_runs.specs.Rounds.{AreBegins, begin_line}
 
 -- A line that begins the next command.
@@ -51,14 +50,6 @@ ordered begins stops later asked errors x y z all one two three four =
     (three ∙ ap (λ (l : List Order). l ++ asked)
     (two ∙ ap (λ (l : List Order). l ++ later) one)) in
     whole ∙ simp append_assoc
-
--- A line by which a try is bound to a new task.
-pub rebound_more : (lines : List Order) (line : Order) → AreRebounds lines
-    → is_rebound line ≡ true → AreRebounds (lines ++ line ∷ [])
-rebound_more lines line all one =
-    list_all-append is_rebound lines (line ∷ [])
-    ∙ ap (λ (b : Bool). b && (is_rebound line && true)) all
-    ∙ ap (λ (b : Bool). b && true) one
 
 -- The lines of an answer, and those with which it ends.
 pub closed : (before lines over x y z all : List Order) → x ≡ before ++ lines

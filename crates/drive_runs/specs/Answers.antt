@@ -1,8 +1,7 @@
 -- What is answered, and how the run goes on after an answer.
 use Rattle.std.specs.Prelude.{◌≡◌, ◌⊎◌, ◌++◌, ◌∷◌, ℕ, Bool, true, false, List, [], Option, Some}
-use Rattle.std.specs.Prelude.{None, Result, MatchResult, map}
+use Rattle.std.specs.Prelude.{None, Result, MatchResult, map, max}
 use Rattle.std.specs.Io.KnownBytes.{Appends}
-use Rattle.std.specs.List.{list_all}
 use Rattle.run_disk.specs.Disk.{DiskState}
 use Rattle.book_model.specs.Books.{BookView}
 use Rattle.console_lines.specs.Faults.{stopped}
@@ -13,28 +12,37 @@ use Rattle.drive_lines.specs.declared.orders.Order.TheVariants as order
 use Rattle.drive_parts.specs.declared.heard.Heard.{Heard}
 use Rattle.drive_parts.specs.declared.plans.NightPlan.{NightPlan}
 use Rattle.drive_parts.specs.declared.rounds.HeardDraft.{HeardDraft}
+use Rattle.drive_parts.specs.declared.rounds.Round.{Round}
 use Rattle.drive_parts.specs.Rounds.{IsHeard}
+use Rattle.drive_steps.specs.Rooms.{are_housed}
 use Rattle.drive_runs.specs.declared.answers.Answer.{Answer}
 use Rattle.drive_runs.specs.declared.drive_ends.DriveEnd.TheVariants as drive_end
 use Rattle.drive_runs.specs.declared.living.Living.{Living}
-use Rattle.drive_runs.specs.declared.openings.Bound.{Bound}
-use Rattle.drive_runs.specs.declared.openings.Bound.TheVariants as bound
 use Rattle.drive_runs.specs.declared.openings.Hindrance.{Hindrance}
 use Rattle.drive_runs.specs.declared.openings.Hindrance.TheVariants as hindrance
 use Rattle.drive_runs.specs.declared.parts.Next.{Next}
 use Rattle.drive_runs.specs.declared.parts.Next.TheVariants as next
 use Rattle.drive_runs.specs.declared.parts.Part.TheVariants as part
+use Rattle.drive_runs.specs.declared.rebounds.Bound.{Bound}
+use Rattle.drive_runs.specs.declared.rebounds.Bound.TheVariants as bound
+use Rattle.drive_runs.specs.declared.records.Recorded.{Recorded}
+use Rattle.drive_runs.specs.declared.records.Recorded.TheVariants as recorded
 use Rattle.drive_runs.specs.declared.round_parts.Rest.{Rest}
 use Rattle.drive_runs.specs.declared.round_parts.RoundKind.{RoundKind}
 use Rattle.drive_runs.specs.declared.round_parts.RoundKind.TheVariants as kind
+use Rattle.drive_runs.specs.declared.rounds.Course.{Course}
+use Rattle.drive_runs.specs.declared.rounds.Course.TheVariants as course
 use Rattle.drive_runs.specs.declared.rounds.Orders.{Orders}
+use Rattle.drive_runs.specs.declared.sittings.Kept.{Kept}
 use Rattle.drive_runs.specs.declared.sittings.Sitting.{Sitting}
-use Rattle.drive_runs.specs.Asks.{Questions, questions_of}
+use Rattle.drive_runs.specs.Asks.{questions_of}
 use Rattle.drive_runs.specs.Closing.{Closes, IsMarked}
-use Rattle.drive_runs.specs.Moving.{Moves}
-use Rattle.drive_runs.specs.Records.{IsRecorded}
-use Rattle.drive_runs.specs.Rounds.{HasBegun}
-use Rattle.drive_runs.specs.Sittings.{HasPlan}
+use Rattle.drive_runs.specs.Grows.{Grows}
+use Rattle.drive_runs.specs.Opens.{Opens}
+use Rattle.drive_runs.specs.Rebounds.{BindsAll}
+use Rattle.drive_runs.specs.Records.{Records}
+use Rattle.drive_runs.specs.Rounds.{GoesOn}
+use Rattle.drive_runs.specs.Sittings.{HasPlan, IsSittingOf}
 
 -- ---- what is written
 
@@ -73,18 +81,7 @@ after_hindrance (hindrance.Fault why) = next.Fault (stopped why)
 abbrev pub Hinders : Hindrance → Answer → Type 0
 Hinders what it = Says (hindrance_line what) (after_hindrance what) it
 
-abbrev pub IsHindered : Answer → Type 0
-IsHindered it = (what : Hindrance) × Hinders what it
-
 -- ---- the answer to a round
-
--- By each of these lines a living try is bound to a new task.
-abbrev pub is_rebound : Order → Bool
-is_rebound (order.Rebound c n named) = true
-is_rebound _ = false
-
-abbrev pub AreRebounds : List Order → Type 0
-AreRebounds lines = list_all is_rebound lines ≡ true
 
 -- The lines with which the answer to a round ends: all is durable, and perhaps the night is over.
 abbrev pub over_lines : (over : Bool) → List Order
@@ -117,39 +114,30 @@ pub record IsClosed {D : Type 0} (state : D → DiskState) (after : Sitting) (ol
   pub all : it.lines.items ≡ lines ++ (orders.lines.items ++ closing orders.is_over)
   pub goes_to : GoesTo orders.is_over after it.next
 
--- After what was heard is recorded, the round goes on by its orders, and all events are
--- acknowledged then. The orders are answered after some other lines.
-pub record EndsRound {D : Type 0} (state : D → DiskState) (before : Sitting) (asked : Questions)
-    (old : BookView D) (lines : List Order) (it : Answer) (new : BookView D) : Type 0 where
-  pub orders : Orders
-  pub after : Sitting
-  pub to : BookView D
-  pub begun : HasBegun state before asked old orders after to
-  pub closed : IsClosed state after to lines orders it new
+-- The night is over, but its end couldn't be marked, and this hinders it.
+pub record IsUnclosed {D : Type 0} (state : D → DiskState) (after : Sitting) (old : BookView D)
+    (orders : Orders) (it : Answer) (new : BookView D) : Type 0 where
+  pub what : Hindrance
+  pub over : orders.is_over ≡ true
+  pub why : Closes state after.kept.night old (Some what) new
+  pub says : Hinders what it
 
--- This is the answer to a round in which this was heard: the book has made the groups that it
--- needs, and given tasks to the tries that lived without one; it has recorded what was heard; and
--- then the round went on.
-pub record AnswersRound {D : Type 0} (state : D → DiskState) (heard : Heard) (old : BookView D)
-    (it : Answer) (new : BookView D) : Type 0 where
-  pub ready : BookView D
-  pub sitting : Sitting
-  pub rebounds : List Order
-  pub now : ℕ
-  pub recorded : BookView D
-  pub before : Sitting
-  pub readies : Moves state old ready
-  pub rebinds : AreRebounds rebounds
-  pub records : IsRecorded state sitting heard now ready before recorded
-  pub goes_on : EndsRound state before (questions_of heard) recorded rebounds it new
+-- The orders of a round are answered, unless the night is over and its end can't be marked.
+abbrev pub ClosesRound : {D : Type 0} → (D → DiskState) → (after : Sitting) → (old : BookView D)
+    → List Order → Orders → Answer → (new : BookView D) → Type 0
+ClosesRound state after old lines orders it new =
+    IsUnclosed state after old orders it new ⊎ IsClosed state after old lines orders it new
 
--- The rest of a round is what was heard in it, without the ends.
-pub record IsRest (heard : Heard) (rest : Rest) : Type 0 where
+-- ---- a round that is put off
+
+-- The rest of a round is what was heard in it, without the ends, and its time.
+pub record IsRest (heard : Heard) (now : ℕ) (rest : Rest) : Type 0 where
   pub cancels : rest.heard.cancels ≡ heard.cancels
   pub done : rest.heard.done ≡ heard.done
   pub asked : questions_of rest.heard ≡ questions_of heard
   pub ends : rest.heard.ends.items ≡ []
   pub gone : rest.heard.gone.items ≡ []
+  pub time : rest.now ≡ now
 
 -- Nothing is answered yet, and the store is opened again for the rest of the round. If it was
 -- opened again for the round already, it is full.
@@ -157,16 +145,113 @@ abbrev pub PutsBack : RoundKind → Sitting → Rest → Answer → Type 0
 PutsBack kind.Again sitting rest it = Hinders hindrance.Full it
 PutsBack _ sitting rest it = IsSilent (next.Opening sitting rest) it
 
-abbrev pub PutsOff : RoundKind → Heard → Answer → Type 0
-PutsOff how heard it =
-    (sitting : Sitting) × (rest : Rest) × IsRest heard rest × PutsBack how sitting rest it
+-- ---- how a round is played
 
--- A round of this kind, in which this was heard, may be answered so: something hinders the night,
--- or the round is put off, or it is answered.
-abbrev pub MayAnswer : {D : Type 0} → (D → DiskState) → RoundKind → Heard → (old : BookView D)
-    → Answer → (new : BookView D) → Type 0
-MayAnswer state how heard old it new =
-    IsHindered it ⊎ PutsOff how heard it ⊎ AnswersRound state heard old it new
+-- What is answered to a round that has gone on so. A fault hinders the night. If a step was
+-- refused, the round is put off with what is remembered then. Otherwise the orders are answered
+-- after some other lines.
+abbrev pub AnswersCourse : {D : Type 0} → (D → DiskState) → RoundKind → (after : Sitting) → Rest
+    → (old : BookView D) → List Order → Course → Answer → (new : BookView D) → Type 0
+AnswersCourse state how after rest old lines (course.On orders) it new =
+    ClosesRound state after old lines orders it new
+AnswersCourse state how after rest old lines course.Refused it new =
+    PutsBack how after rest it × (new ≡ old)
+AnswersCourse state how after rest old lines (course.Faulty fault) it new =
+    Hinders (hindrance.Fault fault) it × (new ≡ old)
+
+-- After what was heard is recorded, commands begin, and the round is answered by how that went. If
+-- there is a group of the plan for which the store has none, nothing can begin, and the store is
+-- full.
+abbrev pub EndsRound : {D : Type 0} → (D → DiskState) → RoundKind → (before : Sitting) → Rest
+    → (old : BookView D) → List Order → Answer → (new : BookView D) → Type 0
+EndsRound state how before rest old lines it new =
+    ((are_housed old.session.state before.names ≡ false) × Hinders hindrance.Full it
+    × (new ≡ old))
+    ⊎ ((course : Course) × (after : Sitting) × (to : BookView _)
+    × GoesOn state before (questions_of rest.heard) old course after to
+    × AnswersCourse state how after rest to lines course it new)
+
+-- What is answered to a round of which this has become. Only if all of it is recorded, the round
+-- goes on. If the store has to be opened again, the round is put off with what is remembered then.
+abbrev pub AnswersRecorded : {D : Type 0} → (D → DiskState) → RoundKind → (before : Sitting) → Rest
+    → (old : BookView D) → List Order → Recorded → Answer → (new : BookView D) → Type 0
+AnswersRecorded state how before rest old lines recorded.Well it new =
+    EndsRound state how before rest old lines it new
+AnswersRecorded state how before rest old lines recorded.Reopen it new =
+    PutsBack how before rest it × (new ≡ old)
+AnswersRecorded state how before rest old lines recorded.Full it new =
+    Hinders hindrance.Full it × (new ≡ old)
+AnswersRecorded state how before rest old lines (recorded.Faulty fault) it new =
+    Hinders (hindrance.Fault fault) it × (new ≡ old)
+
+-- What was heard is recorded at this time, and the round is answered by what became of that. These
+-- other lines are answered first.
+pub record RecordsRound {D : Type 0} (state : D → DiskState) (how : RoundKind) (s : Sitting)
+    (heard : Heard) (now : ℕ) (old : BookView D) (lines : List Order) (it : Answer)
+    (new : BookView D) : Type 0 where
+  pub recorded : Recorded
+  pub before : Sitting
+  pub between : BookView D
+  pub records : Records state s heard now old recorded before between
+  pub rest : Rest
+  pub left : IsRest heard now rest
+  pub answers : AnswersRecorded state how before rest between lines recorded it new
+
+-- The tries that live get tasks, unless they have some of this session.
+abbrev pub BindsFirst : {D : Type 0} → (D → DiskState) → RoundKind → (s : Sitting)
+    → (old : BookView D) → Bound → (t : Sitting) → (new : BookView D) → Type 0
+BindsFirst state kind.First s old it t new = BindsAll state s old it t new
+BindsFirst state kind.Later s old (bound.Orders lines) t new =
+    (lines.items ≡ []) × (t ≡ s) × (new ≡ old)
+BindsFirst state kind.Later s old (bound.Hindered what) t new = ⊥
+BindsFirst state kind.Again s old it t new = BindsAll state s old it t new
+
+-- What is answered to a round once its tries have tasks. If they got none, that hinders the night.
+abbrev pub AnswersBound : {D : Type 0} → (D → DiskState) → RoundKind → (s : Sitting) → Heard
+    → (now : ℕ) → (old : BookView D) → Bound → Answer → (new : BookView D) → Type 0
+AnswersBound state how s heard now old (bound.Orders lines) it new =
+    RecordsRound state how s heard now old lines.items it new
+AnswersBound state how s heard now old (bound.Hindered what) it new =
+    Hinders what it × (new ≡ old)
+
+-- A round of this kind is played with this sitting, and answered.
+abbrev pub PlaysRound : {D : Type 0} → (D → DiskState) → RoundKind → (s : Sitting) → Heard
+    → (now : ℕ) → (old : BookView D) → Answer → (new : BookView D) → Type 0
+PlaysRound state how s heard now old it new =
+    (tries : Bound) × (t : Sitting) × (between : BookView _)
+    × BindsFirst state how s old tries t between
+    × AnswersBound state how t heard now between tries it new
+
+-- The same, unless this hinders the night already.
+abbrev pub PlaysUnless : {D : Type 0} → (D → DiskState) → Option Hindrance → RoundKind
+    → (s : Sitting) → Heard → (now : ℕ) → (old : BookView D) → Answer → (new : BookView D) → Type 0
+PlaysUnless state None how s heard now old it new = PlaysRound state how s heard now old it new
+PlaysUnless state (Some what) how s heard now old it new = Hinders what it × (new ≡ old)
+
+-- The store was opened again for a round that was put off with this sitting, and of which this is
+-- left. The night is opened, and the round is played.
+abbrev pub Resumes : {D : Type 0} → (D → DiskState) → Sitting → Rest → (old : BookView D) → Answer
+    → (new : BookView D) → Type 0
+Resumes state s rest old it new =
+    (found : Option Hindrance) × (between : BookView _) × Opens state s old found between
+    × PlaysUnless state found kind.Again s rest.heard rest.now between it new
+
+-- The time of a round is the one that was reported. But the clock of the store never goes back.
+abbrev pub time_of : (reported : Option ℕ) → (clock : ℕ) → ℕ
+time_of None clock = clock
+time_of (Some now) clock = max now clock
+
+-- A round is played after what was known before. The store gets what groups need by which the plan
+-- has grown, and then the round is played with the plan as it has grown.
+pub record PlaysGrown {D : Type 0} (state : D → DiskState) (how : RoundKind) (known : Kept)
+    (round : Round) (old : BookView D) (it : Answer) (new : BookView D) : Type 0 where
+  pub sitting : Sitting
+  pub is : IsSittingOf known round sitting
+  pub found : Option Hindrance
+  pub between : BookView D
+  pub grows : Grows state sitting old found between
+  pub plays : PlaysUnless state found how sitting round.heard
+      (time_of round.heard.time between.session.state.tree.clock) between it new
 
 -- ---- for private functions: no public contract cites what follows
 
@@ -176,22 +261,3 @@ abbrev pub EndsNight : {D : Type 0} → (D → DiskState) → (night : ℕ) → 
 EndsNight state night over old None new = MarksEnd state night over old new
 EndsNight state night over old (Some what) new =
     (over ≡ true) × Closes state night old (Some what) new
-
--- Only rebounds are written of living tries that were bound to new tasks.
-abbrev pub AreBound : Bound → Type 0
-AreBound (bound.Orders orders) = AreRebounds orders.items
-AreBound (bound.Hindered what) = Unit {0}
-
--- The orders of a round are given after some other lines, unless the end of the night can't be
--- marked.
-abbrev pub ClosesRound : {D : Type 0} → (D → DiskState) → (after : Sitting) → (old : BookView D)
-    → List Order → Orders → Answer → (new : BookView D) → Type 0
-ClosesRound state after old lines orders it new =
-    IsHindered it ⊎ IsClosed state after old lines orders it new
-
--- The answer to a round once what was heard is recorded.
-abbrev pub MayEndRound : {D : Type 0} → (D → DiskState) → RoundKind → Rest → (before : Sitting)
-    → (old : BookView D) → List Order → Answer → (new : BookView D) → Type 0
-MayEndRound state how rest before old lines it new =
-    IsHindered it ⊎ ((sitting : Sitting) × PutsBack how sitting rest it)
-    ⊎ EndsRound state before (questions_of rest.heard) old lines it new

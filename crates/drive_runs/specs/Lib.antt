@@ -10,7 +10,9 @@ pub mod Records
 pub mod Laws
 pub mod Closing
 pub mod Opens
+pub mod Grows
 pub mod Sittings
+pub mod Rebounds
 pub mod Nights
 pub mod Answers
 pub mod Parts

@@ -26,6 +26,10 @@ tries_of living =
 abbrev pub with_reason : Option (List ℕ) → Living → Living
 with_reason reason one = record one { stop = option_or one.stop reason }
 
+-- The try with another task.
+abbrev pub with_task : (task : ℕ) → Living → Living
+with_task task one = record one { task = task }
+
 -- The cancel of the command of a try that has to stop already.
 abbrev pub cancel_of : Living → Option CommandCancel
 cancel_of one = option_map (λ why. record { command = one.command; why = why }) one.stop

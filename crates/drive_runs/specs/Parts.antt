@@ -20,19 +20,19 @@ use Rattle.drive_lines.specs.declared.reports.Report.TheVariants as report
 use Rattle.drive_lines.specs.Orders.{order_lines}
 use Rattle.drive_nights.specs.Names.{is_short}
 use Rattle.drive_nights.specs.Nights.{night_of_store}
-use Rattle.drive_parts.specs.declared.heard.Heard.{Heard}
 use Rattle.drive_parts.specs.declared.lives.LivesDraft.{LivesDraft}
 use Rattle.drive_parts.specs.declared.plans.NightPlan.{NightPlan}
 use Rattle.drive_parts.specs.declared.plans.PlanDraft.{PlanDraft}
 use Rattle.drive_parts.specs.declared.plans.PlanRefusal.{PlanRefusal}
 use Rattle.drive_parts.specs.declared.plans.PlanRefusal.TheVariants as refusal
 use Rattle.drive_parts.specs.declared.rounds.HeardDraft.{HeardDraft}
-use Rattle.drive_parts.specs.Heard.{AreHeard}
+use Rattle.drive_parts.specs.declared.rounds.Round.{Round}
 use Rattle.drive_parts.specs.Lives.{AreTries}
 use Rattle.drive_parts.specs.Plans.{Adds, IsPlanned, IsPlanOf, Refuses}
-use Rattle.drive_parts.specs.Rounds.{Hears, IsHeard}
+use Rattle.drive_parts.specs.Rounds.{Hears, IsHeard, IsRoundOf}
 use Rattle.drive_runs.specs.declared.answers.Answer.{Answer}
 use Rattle.drive_runs.specs.declared.drive_ends.DriveEnd.TheVariants as drive_end
+use Rattle.drive_runs.specs.declared.openings.Hindrance.{Hindrance}
 use Rattle.drive_runs.specs.declared.parts.Next.{Next}
 use Rattle.drive_runs.specs.declared.parts.Next.TheVariants as next
 use Rattle.drive_runs.specs.declared.parts.Part.{Part}
@@ -40,10 +40,11 @@ use Rattle.drive_runs.specs.declared.parts.Part.TheVariants as part
 use Rattle.drive_runs.specs.declared.round_parts.RoundKind.{RoundKind}
 use Rattle.drive_runs.specs.declared.round_parts.RoundKind.TheVariants as kind
 use Rattle.drive_runs.specs.declared.sittings.Kept.{Kept}
-use Rattle.drive_runs.specs.Answers.{AnswersRound, IsHindered, IsSilent, PutsOff, Says}
-use Rattle.drive_runs.specs.Answers.{end_line}
+use Rattle.drive_runs.specs.declared.sittings.Sitting.{Sitting}
+use Rattle.drive_runs.specs.Answers.{Hinders, IsSilent, PlaysGrown, Says, end_line}
 use Rattle.drive_runs.specs.Nights.{is_other}
-use Rattle.drive_runs.specs.Sittings.{IsFresh, IsSamePlan}
+use Rattle.drive_runs.specs.Opens.{Opens}
+use Rattle.drive_runs.specs.Sittings.{IsFirstOf, IsSamePlan}
 
 -- ---- a line that isn't the end of a part
 
@@ -107,53 +108,68 @@ pub record RefusesNight (p : State) (plan : NightPlan) (it : Answer) : Type 0 wh
   pub says : Says line (next.End drive_end.Refused) it
 
 -- The night of the plan goes on or begins, and the first round of the run is read. The answer says
--- how many commands there are, and which night it is. Nothing else is known of the night yet.
-pub record OpensNight (p : State) (plan : NightPlan) (night : ℕ) (it : Answer) : Type 0 where
+-- how many commands there are, and which night it is. Of the night is known what this sitting
+-- knows.
+pub record OpensNight (plan : NightPlan) (night : ℕ) (s : Sitting) (it : Answer) : Type 0 where
   pub lines : it.lines.items ≡ order.Answer (answer.Plan (length plan.plan.commands.items))
       ∷ order.Night night ∷ end_line ∷ []
-  pub kept : Kept
-  pub fresh : IsFresh plan.plan night p.tree.clock kept
   pub rounds : NightPlan
   pub same : IsSamePlan plan rounds
   pub lives : LivesDraft
   pub none : AreTries [] lives
   pub heard : HeardDraft
   pub nothing : IsHeard rounds [] [] heard
-  pub goes_on : it.next ≡ next.Part (part.First kept lives heard)
+  pub goes_on : it.next ≡ next.Part (part.First s.kept lives heard)
 
--- The answer to a plan that was read.
-abbrev pub TakesPlan : State → NightPlan → Answer → Type 0
-TakesPlan p plan it =
-    IsHindered it ⊎ RefusesNight p plan it ⊎ OpensNight p plan (night_of_store p plan.next) it
+-- What is answered to a plan whose night was opened with this sitting, by what hinders the night.
+abbrev pub AnswersOpening : NightPlan → (night : ℕ) → Sitting → Option Hindrance → Answer → Type 0
+AnswersOpening plan night s None it = OpensNight plan night s it
+AnswersOpening plan night s (Some what) it = Hinders what it
 
--- The answer to the lines of a plan.
-abbrev pub AnswersPlan : State → PlanDraft → Answer → Type 0
-AnswersPlan p draft it =
-    RefusesPlan draft it
+-- The night of a plan was opened, of which nothing is known but the plan, and this is answered.
+abbrev pub OpensFirst : {D : Type 0} → (D → DiskState) → NightPlan → (night : ℕ)
+    → (old : BookView D) → Answer → (new : BookView D) → Type 0
+OpensFirst state plan night old it new =
+    (s : Sitting) × IsFirstOf plan night old.session.state.tree.clock s
+    × (found : Option Hindrance) × Opens state s old found new
+    × AnswersOpening plan night s found it
+
+-- The answer to a plan that was read. If the store can't have a night of it, the store stays as it
+-- is.
+abbrev pub TakesPlan : {D : Type 0} → (D → DiskState) → NightPlan → (old : BookView D) → Answer
+    → (new : BookView D) → Type 0
+TakesPlan state plan old it new =
+    (RefusesNight old.session.state plan it × (new ≡ old))
+    ⊎ OpensFirst state plan (night_of_store old.session.state plan.next) old it new
+
+-- The answer to the lines of a plan. If they are refused, the store stays as it is.
+abbrev pub AnswersPlan : {D : Type 0} → (D → DiskState) → PlanDraft → (old : BookView D) → Answer
+    → (new : BookView D) → Type 0
+AnswersPlan state draft old it new =
+    (RefusesPlan draft it × (new ≡ old))
     ⊎ ((plan : NightPlan) × ((reports : List Report) → IsPlanned reports draft
-    → IsPlanOf reports plan) × TakesPlan p plan it)
+    → IsPlanOf reports plan) × TakesPlan state plan old it new)
 
 -- ---- the end of a part
 
--- A round of this kind, of which this was read, is answered so. Whatever lines it was read of, what
--- the round records is exactly what these lines report.
-abbrev pub AnswersDraft : {D : Type 0} → (D → DiskState) → RoundKind → HeardDraft
+-- A round of this kind, of which this was read, is answered so. Whatever lines it was read of, the
+-- round is exactly what they come to: the plan as it has grown by them, and what they report.
+abbrev pub AnswersDraft : {D : Type 0} → (D → DiskState) → RoundKind → (known : Kept) → HeardDraft
     → (old : BookView D) → Answer → (new : BookView D) → Type 0
-AnswersDraft state how draft old it new =
-    (plan : NightPlan) (tasks : List ℕ) (reports : List Report) → IsHeard plan tasks reports draft
-    → IsHindered it
-    ⊎ ((heard : Heard) × AreHeard reports heard
-    × (PutsOff how heard it ⊎ AnswersRound state heard old it new))
+AnswersDraft state how known draft old it new =
+    (round : Round) × ((plan : NightPlan) (tasks : List ℕ) (reports : List Report)
+    → IsHeard plan tasks reports draft → IsRoundOf plan reports round)
+    × PlaysGrown state how known round old it new
 
 -- A part is answered so.
 abbrev pub AnswersPart : {D : Type 0} → (D → DiskState) → Part → (old : BookView D) → Answer
     → (new : BookView D) → Type 0
 AnswersPart state (part.Plan draft) old it new =
-    AnswersPlan old.session.state draft it
+    AnswersPlan state draft old it new
 AnswersPart state (part.First kept lives draft) old it new =
-    AnswersDraft state kind.First draft old it new
+    AnswersDraft state kind.First kept draft old it new
 AnswersPart state (part.Round kept draft) old it new =
-    AnswersDraft state kind.Later draft old it new
+    AnswersDraft state kind.Later kept draft old it new
 
 -- This is answered if this comes next in the input, in the line of this number.
 abbrev pub AnswersLine : {D : Type 0} → (D → DiskState) → Part → NextLine → (number : ℕ)
@@ -188,9 +204,3 @@ TakesLine state it found number old new w0 w1 result =
     ((answer : Answer) × AnswersLine state it found number old answer new
     × Gives answer w0 w1 result)
     ⊎ ((result ≡ Err run_fault.Memory) × (w1 ≡ w0))
-
--- ---- for private functions: no public contract cites what follows
-
--- The night of a plan was opened, or something hinders it.
-abbrev pub MayOpen : State → NightPlan → (night : ℕ) → Answer → Type 0
-MayOpen p plan night it = IsHindered it ⊎ OpensNight p plan night it

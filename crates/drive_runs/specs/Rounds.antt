@@ -20,6 +20,7 @@ use Rattle.drive_nights.specs.Deadlines.{IsNextMoment}
 use Rattle.drive_steps.specs.declared.reported.Begun.{Begun}
 use Rattle.drive_steps.specs.declared.stops.Stop.{Stop}
 use Rattle.drive_runs.specs.declared.begins.Beginning.{Beginning}
+use Rattle.drive_runs.specs.declared.bindings.Binding.{Binding}
 use Rattle.drive_runs.specs.declared.living.Living.{Living}
 use Rattle.drive_runs.specs.declared.rounds.Course.{Course}
 use Rattle.drive_runs.specs.declared.rounds.Course.TheVariants as course
@@ -29,7 +30,7 @@ use Rattle.drive_runs.specs.Asks.{Questions, error_lines}
 use Rattle.drive_runs.specs.Begins.{Begins}
 use Rattle.drive_runs.specs.Living.{tries_of, with_begun}
 use Rattle.drive_runs.specs.Moving.{IsSaved}
-use Rattle.drive_runs.specs.Sittings.{IsSameNight}
+use Rattle.drive_runs.specs.Sittings.{DiffersInTries, IsSameNight}
 use Rattle.drive_runs.specs.Stops.{AreDue, stop_line}
 use Rattle.drive_runs.specs.Tries.{try_name}
 
@@ -122,19 +123,35 @@ pub record HasBegun {D : Type 0} (state : D → DiskState) (before : Sitting) (a
 
 -- ---- how a round went on
 
--- Commands were chosen. But no step met a fault, and one was refused: so the log or the store had
--- no room for them. Or a task that was started isn't there, or a living try isn't one of a command
--- of the plan.
-abbrev pub WasRefused : {D : Type 0} → (D → DiskState) → (before : Sitting) → (old new : BookView D)
-    → Type 0
-WasRefused state before old new =
+-- These tries live now, too. Nothing else has changed.
+pub record AddsTries (before : Sitting) (begun : List Begun) (after : Sitting) : Type 0 where
+  pub others : DiffersInTries before after
+  pub living : after.kept.living.items ≡ with_begun before.kept.living.items begun
+
+-- No step met a fault, and one was refused: so the log or the store had no room for it.
+pub record HadNoRoom (made : Binding) (before after : Sitting) : Type 0 where
+  pub none : made.begun ≡ None
+  pub sound : made.fault ≡ None
+  pub left : AddsTries before [] after
+
+-- These commands have begun. But a task that was started isn't there, or a living try isn't one of
+-- a command of the plan.
+pub record IsAstray (p : State) (made : Binding) (before after : Sitting) : Type 0 where
+  pub begun : List Begun
+  pub reported : option_map (λ all. all.items) made.begun ≡ Some begun
+  pub left : AddsTries before begun after
+  pub lost : (list_any (λ (begin : Begun). is_none (try_name p begin.task)) begun ≡ true)
+      ⊎ (list_all (λ (one : Living). ltb one.command (length before.plan.commands.items))
+      after.kept.living.items ≡ false)
+
+-- Commands were chosen, but the round couldn't go on.
+abbrev pub WasRefused : {D : Type 0} → (D → DiskState) → (before : Sitting) → (old : BookView D)
+    → (after : Sitting) → (new : BookView D) → Type 0
+WasRefused state before old after new =
     (made : Beginning) × Begins state before.kept.ends before.plan before.names
     before.kept.sizes.items old made new
-    × (((made.binding.begun ≡ None) × (made.binding.fault ≡ None))
-    ⊎ ((begun : List Begun) × (option_map (λ all. all.items) made.binding.begun ≡ Some begun)
-    × ((list_any (λ (begin : Begun). is_none (try_name new.session.state begin.task)) begun ≡ true)
-    ⊎ (list_all (λ (one : Living). ltb one.command (length before.plan.commands.items))
-    (with_begun before.kept.living.items begun) ≡ false))))
+    × (HadNoRoom made.binding before after
+    ⊎ IsAstray new.session.state made.binding before after)
 
 -- How it went on if no command could begin: a step met this fault, or one was refused.
 abbrev pub unbegun : Option Fault → Course
@@ -147,7 +164,7 @@ abbrev pub GoesOn : {D : Type 0} → (D → DiskState) → (before : Sitting) �
     → (old : BookView D) → Course → (after : Sitting) → (new : BookView D) → Type 0
 GoesOn state before asked old (course.On orders) after new =
     HasBegun state before asked old orders after new
-GoesOn state before asked old course.Refused after new = WasRefused state before old new
+GoesOn state before asked old course.Refused after new = WasRefused state before old after new
 GoesOn state before asked old (course.Faulty fault) after new =
     (made : Beginning) × Begins state before.kept.ends before.plan before.names
     before.kept.sizes.items old made new

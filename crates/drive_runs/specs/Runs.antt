@@ -29,13 +29,12 @@ use Rattle.drive_runs.specs.declared.parts.Next.{Next}
 use Rattle.drive_runs.specs.declared.parts.Next.TheVariants as next
 use Rattle.drive_runs.specs.declared.parts.Part.TheVariants as part
 use Rattle.drive_runs.specs.declared.round_parts.Rest.{Rest}
-use Rattle.drive_runs.specs.declared.round_parts.RoundKind.TheVariants as kind
 use Rattle.drive_runs.specs.declared.runs.Sat.{Sat}
 use Rattle.drive_runs.specs.declared.runs.Sat.TheVariants as sat
 use Rattle.drive_runs.specs.declared.runs.Start.{Start}
 use Rattle.drive_runs.specs.declared.runs.Start.TheVariants as start
 use Rattle.drive_runs.specs.declared.sittings.Sitting.{Sitting}
-use Rattle.drive_runs.specs.Answers.{MayAnswer, Writes, end_line}
+use Rattle.drive_runs.specs.Answers.{Resumes, Writes, end_line}
 use Rattle.drive_runs.specs.Moving.{Moves}
 use Rattle.drive_runs.specs.Parts.{AnswersLine, Gives, LeavesAlone}
 
@@ -119,7 +118,7 @@ module _ {D : Type 0} (state : D → DiskState) (input : Option (List ℕ)) wher
   abbrev pub IsAnswered : Doing → (number : ℕ) → (taken bytes : List ℕ) → (old : BookView D)
       → Answer → (new : BookView D) → Type 0
   IsAnswered (inl (sitting, rest)) number taken bytes old it new =
-      (bytes ≡ []) × MayAnswer state kind.Again rest.heard old it new
+      (bytes ≡ []) × Resumes state sitting rest old it new
   IsAnswered (inr (next.Part part)) number taken bytes old it new =
       (found : NextLine) × IsNextLine input taken found bytes
       × AnswersLine state part found number old it new × LeavesAlone found old new
@@ -243,7 +242,7 @@ abbrev pub AnswersFirst : {D : Type 0} → (D → DiskState) → Start → (old 
 AnswersFirst state (start.Part it) old new w0 w1 result =
     (result ≡ Ok (next.Part it)) × (new ≡ old) × (w1 ≡ w0)
 AnswersFirst state (start.Recorded sitting rest) old new w0 w1 result =
-    ((it : Answer) × MayAnswer state kind.Again rest.heard old it new × Gives it w0 w1 result)
+    ((it : Answer) × Resumes state sitting rest old it new × Gives it w0 w1 result)
     ⊎ ((result ≡ Err run_fault.Memory) × (w1 ≡ w0))
 
 -- Nothing more can be made durable. If that is for a fault, a line says so, of which perhaps only a

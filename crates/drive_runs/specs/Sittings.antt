@@ -4,9 +4,11 @@ use Rattle.std.specs.Prelude.{reverse, slice_get, slice_index, unwrap_or}
 use Rattle.std.specs.Option.{option_map_or}
 use Rattle.night_plan.specs.declared.commands.Plan.{Plan}
 use Rattle.night_drive.specs.declared.ends.Ends.{Ends}
+use Rattle.drive_nights.specs.Nights.{night_text}
 use Rattle.drive_parts.specs.declared.heard.Heard.{Heard}
 use Rattle.drive_parts.specs.declared.heard.PoolSize.{PoolSize}
 use Rattle.drive_parts.specs.declared.plans.NightPlan.{NightPlan}
+use Rattle.drive_parts.specs.declared.rounds.Round.{Round}
 use Rattle.drive_runs.specs.declared.sittings.Kept.{Kept}
 use Rattle.drive_runs.specs.declared.sittings.Sitting.{Sitting}
 
@@ -37,6 +39,13 @@ pub record HasPlan (s : Sitting) (n : NightPlan) : Type 0 where
   pub all : n.all ≡ s.all
 
 -- ---- what else is known
+
+-- Two sittings are of the same night, and know the same of it but for the tries that live. (Their
+-- guesses may differ, too. These only save time.)
+pub record DiffersInTries (s t : Sitting) : Type 0 where
+  pub same : IsSameNight s t
+  pub sizes : t.kept.sizes ≡ s.kept.sizes
+  pub ends : t.kept.ends ≡ s.kept.ends
 
 -- Nothing is known of the night but its plan: no try lives, and the time now counts as the end of
 -- each try of which nothing else is known.
@@ -73,3 +82,18 @@ pub record HasSettings (old : Kept) (heard : Heard) (pools : List ℕ) (new : Ke
   pub living : new.living ≡ old.living
   pub sizes : AreSizes old.sizes.items heard.sizes.items pools new.sizes.items
   pub ends : EndedBy heard.hurry old.ends new.ends
+
+-- ---- a sitting
+
+-- With this sitting the night of a plan begins: nothing is known of it but the plan.
+pub record IsFirstOf (plan : NightPlan) (night now : ℕ) (s : Sitting) : Type 0 where
+  pub has_plan : HasPlan s plan
+  pub fresh : IsFresh plan.plan night now s.kept
+  pub named : s.names.night ≡ night_text night
+
+-- With this sitting a round is played: it has the plan as it has grown in the round, and what was
+-- known before with what the round sets.
+pub record IsSittingOf (known : Kept) (round : Round) (s : Sitting) : Type 0 where
+  pub has_plan : HasPlan s round.plan
+  pub settings : HasSettings known round.heard round.plan.plan.pools.items s.kept
+  pub named : s.names.night ≡ night_text s.kept.night

@@ -14,6 +14,7 @@ pub mod openings;
 pub mod parts;
 mod plan_parts;
 pub mod plays;
+pub mod rebounds;
 pub mod records;
 mod round_parts;
 pub mod rounds;

@@ -2,7 +2,8 @@
 
 ghost use Rattle.std.specs.Prelude.{◌≡◌, IfOk};
 ghost use Rattle.drive_runs.specs.Living.{after_ends, as_recorded, is_among, lives, outcome_of};
-ghost use Rattle.drive_runs.specs.Living.{once_asked, reason_of, with_begun, with_reason, without};
+ghost use Rattle.drive_runs.specs.Living.{once_asked, reason_of, with_begun, with_reason};
+ghost use Rattle.drive_runs.specs.Living.{with_task, without};
 
 use drive_steps::cancels::canceled_text;
 use drive_steps::heard::{Ended, has_ended};
@@ -48,6 +49,18 @@ impl Living {
                 Some(stop) => Some(stop),
                 None => reason,
             },
+            asked: self.asked,
+        }
+    }
+
+    /// The same try with another task.
+    pub fn with_task(&self, task: u16) -> Living
+        ensures { result ≡ with_task task self.now }
+    {
+        Living {
+            command: self.command,
+            task,
+            stop: copy_of(&self.stop),
             asked: self.asked,
         }
     }

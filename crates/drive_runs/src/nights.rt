@@ -1,8 +1,9 @@
 //! A night of a store: what it has from earlier sessions, the groups that it lacks, and its end.
 
-ghost use Rattle.std.specs.Prelude.{◌≡◌, IfOk, IfSome, true};
+ghost use Rattle.std.specs.Prelude.{◌≡◌, ◌<◌, IfOk, IfSome, length, true};
 ghost use Rattle.std.specs.List.{list_all};
 ghost use Rattle.drive_runs.specs.Closing.{Closes, hindrance_of, is_carried_out};
+ghost use Rattle.drive_runs.specs.Grows.{AddsGroup, Grows, is_missing};
 ghost use Rattle.drive_runs.specs.Moving.{Moves};
 ghost use Rattle.drive_runs.specs.Nights.{is_other};
 
@@ -23,7 +24,7 @@ use drive_steps::rooms::{are_housed, last_group};
 use night_drive::seen::last_try;
 use run_book::Book;
 use run_disk::RunDisk;
-use run_model::{Fault, Reply, Stage, Step, is_spelled};
+use run_model::{Fault, Name, Reply, Stage, Step, is_spelled};
 use run_session::State;
 use std::alloc::{AllocError, Allocator, Global};
 
@@ -80,32 +81,54 @@ pub fn living_of<A: Allocator>(
 
 /// Makes in the store what groups need by which the plan has grown. Returns what hinders the night,
 /// if anything does.
-#[tactic(auto, using(crate::proofs::Moving::moves_none, crate::proofs::Moving::moves_then))]
 pub fn missing_groups<D: RunDisk, A: Allocator>(
     alloc: Global,
     book: &mut Book<D, A>,
     sitting: &Sitting,
 ) -> Result<Option<Hindrance>, AllocError>
-    ensures { Moves D.state book.old book.new }
+    ensures grows { IfOk result (λ found. Grows D.state sitting.now book.old found book.new) }
+    ensures moves { Moves D.state book.old book.new }
 {
     for g in 0..sitting.names.groups.len() {
-        let group = &sitting.names.groups[g];
-        let night = sitting.kept.night;
-        let has_one = last_group(book.state(), &sitting.names.night, group).is_some();
-        if has_one || !is_short(group, night) {
-            continue;
-        }
-        let steps = growth_of(alloc, book.state(), night, group, &sitting.untils[g])?;
-        let replies = play(alloc, book, steps.as_slice())?;
-        if let Some(fault) = first_fault(replies.as_slice()) {
-            return Ok(Some(Hindrance::Fault(fault)));
-        }
-        if !are_taken(replies.as_slice()) {
-            return Ok(Some(Hindrance::Full));
+        if let Some(hindrance) = missing_group(alloc, book, sitting, g)? {
+            return Ok(Some(hindrance));
         }
     }
     let is_open = are_housed(book.state(), &sitting.names);
     Ok(hindered_by(None, is_open))
+}
+
+/// Makes in the store what this group of the plan needs, if it is missing. Returns what hinders the
+/// night, if anything does.
+#[tactic(auto, using(crate::proofs::Moving::moves_none))]
+fn missing_group<D: RunDisk, A: Allocator>(
+    alloc: Global,
+    book: &mut Book<D, A>,
+    sitting: &Sitting,
+    g: usize,
+) -> Result<Option<Hindrance>, AllocError>
+    requires { g < length sitting.now.names.groups.items }
+    ensures adds { IfOk result (λ found.
+        AddsGroup D.state sitting.now g book.old found book.new) }
+    ensures moves { Moves D.state book.old book.new }
+{
+    let group = &sitting.names.groups[g];
+    if !is_missing(book.state(), sitting, group) {
+        return Ok(None);
+    }
+    let night = sitting.kept.night;
+    let steps = growth_of(alloc, book.state(), night, group, &sitting.untils[g])?;
+    let replies = play(alloc, book, steps.as_slice())?;
+    let fault = first_fault(replies.as_slice());
+    Ok(hindered_by(fault, are_taken(replies.as_slice())))
+}
+
+/// Returns whether the night has no group of the store for this group of the plan, and could have
+/// one.
+fn is_missing<A: Allocator>(state: &State<A>, sitting: &Sitting, group: &Name) -> bool
+    ensures { result ≡ is_missing state.now sitting.now group.now }
+{
+    last_group(state, &sitting.names.night, group).is_none() && is_short(group, sitting.kept.night)
 }
 
 /// Marks a night as ended. Returns what hinders that, if anything does.

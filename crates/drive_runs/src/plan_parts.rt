@@ -5,7 +5,8 @@ ghost use Rattle.drive_lines.specs.declared.orders.Order.TheVariants as order;
 ghost use Rattle.plan_lines.specs.declared.answers.AnswerLine.TheVariants as answer;
 ghost use Rattle.drive_runs.specs.Answers.{end_line};
 ghost use Rattle.drive_runs.specs.Moving.{Moves};
-ghost use Rattle.drive_runs.specs.Parts.{AnswersPlan, IsLong, MayOpen, TakesPlan, refused_lines};
+ghost use Rattle.drive_runs.specs.Parts.{AnswersPlan, IsLong, OpensFirst, TakesPlan};
+ghost use Rattle.drive_runs.specs.Parts.{refused_lines};
 
 use crate::answers::{Answer, end_with, hindered, one_line};
 use crate::drive_ends::DriveEnd;
@@ -33,7 +34,8 @@ pub(crate) fn end_plan<D: RunDisk, A: Allocator>(
     book: &mut Book<D, A>,
     draft: PlanDraft,
 ) -> Result<Answer, AllocError>
-    ensures answered { IfOk result (AnswersPlan book.old.session.state draft) }
+    ensures answered { IfOk result (λ answer.
+        AnswersPlan D.state draft book.old answer book.new) }
     ensures moves { Moves D.state book.old book.new }
 {
     match draft.finish(alloc) {
@@ -80,7 +82,8 @@ fn begin_night<D: RunDisk, A: Allocator>(
     book: &mut Book<D, A>,
     plan: NightPlan,
 ) -> Result<Answer, AllocError>
-    ensures answered { IfOk result (TakesPlan book.old.session.state plan) }
+    ensures answered { IfOk result (λ answer.
+        TakesPlan D.state plan book.old answer book.new) }
     ensures moves { Moves D.state book.old book.new }
 {
     let refused = Next::End(DriveEnd::Refused);
@@ -114,7 +117,8 @@ fn open_first<D: RunDisk, A: Allocator>(
     plan: NightPlan,
     night: u64,
 ) -> Result<Answer, AllocError>
-    ensures opened { IfOk result (MayOpen book.old.session.state plan night) }
+    ensures opened { IfOk result (λ answer.
+        OpensFirst D.state plan night book.old answer book.new) }
     ensures moves { Moves D.state book.old book.new }
 {
     let count = plan.plan.commands.len();

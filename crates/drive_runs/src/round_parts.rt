@@ -2,10 +2,9 @@
 
 ghost use Rattle.std.specs.Prelude.{◌≡◌, ◌++◌, IfOk, OnOk, map};
 ghost use Rattle.drive_runs.specs.declared.living.Living.{Living as LivingOf};
-ghost use Rattle.drive_runs.specs.declared.round_parts.RoundKind.TheVariants as round_kind;
-ghost use Rattle.drive_runs.specs.Answers.{AreBound, AreRebounds, ClosesRound, EndsNight};
-ghost use Rattle.drive_runs.specs.Answers.{GoesTo, IsRest, MayAnswer, MayEndRound, PutsBack};
-ghost use Rattle.drive_runs.specs.Answers.{closing, over_lines};
+ghost use Rattle.drive_runs.specs.Answers.{BindsFirst, ClosesRound, EndsNight, EndsRound, GoesTo};
+ghost use Rattle.drive_runs.specs.Answers.{IsRest, PlaysRound, PutsBack, Resumes, closing};
+ghost use Rattle.drive_runs.specs.Answers.{over_lines, time_of};
 ghost use Rattle.drive_runs.specs.Parts.{AnswersDraft};
 ghost use Rattle.drive_runs.specs.Moving.{Moves};
 
@@ -13,8 +12,9 @@ use crate::answers::{Answer, fail, hindered, nothing};
 use crate::drive_ends::DriveEnd;
 use crate::living::Living;
 use crate::nights::{close_night, missing_groups};
-use crate::openings::{Bound, Hindrance, bind_all, open_night};
+use crate::openings::{Hindrance, open_night};
 use crate::parts::{Next, Part};
+use crate::rebounds::{Bound, bind_all};
 use crate::records::{Recorded, record};
 use crate::rounds::{Course, Orders, go_on};
 use crate::sittings::{Kept, Sitting};
@@ -41,7 +41,7 @@ pub struct Rest {
 impl Rest {
     /// The same, without the ends.
     fn without_ends(self, alloc: Global) -> Rest
-        ensures { IsRest self.heard result }
+        ensures { IsRest self.heard self.now result }
     {
         let Rest { mut heard, now } = self;
         heard.ends = Vec::new(alloc);
@@ -71,7 +71,7 @@ pub(crate) fn end_round<D: RunDisk, A: Allocator>(
     kind: RoundKind,
 ) -> Result<Answer, AllocError>
     ensures answered { IfOk result (λ answer.
-        AnswersDraft D.state kind heard book.old answer book.new) }
+        AnswersDraft D.state kind kept heard book.old answer book.new) }
     ensures moves { Moves D.state book.old book.new }
 {
     let Round { plan, heard } = heard.finish()?;
@@ -94,7 +94,7 @@ pub(crate) fn resume<D: RunDisk, A: Allocator>(
     rest: Rest,
 ) -> Result<Answer, AllocError>
     ensures answered { IfOk result (λ answer.
-        MayAnswer D.state round_kind.Again rest.heard book.old answer book.new) }
+        Resumes D.state sitting rest book.old answer book.new) }
     ensures moves { Moves D.state book.old book.new }
 {
     if let Some(hindrance) = open_night(alloc, book, &sitting)? {
@@ -114,7 +114,7 @@ fn play_round<D: RunDisk, A: Allocator>(
     kind: RoundKind,
 ) -> Result<Answer, AllocError>
     ensures answered { IfOk result (λ answer.
-        MayAnswer D.state kind rest.heard book.old answer book.new) }
+        PlaysRound D.state kind sitting rest.heard rest.now book.old answer book.new) }
     ensures moves { Moves D.state book.old book.new }
 {
     let mut sitting = sitting;
@@ -140,7 +140,8 @@ fn bind_first<D: RunDisk, A: Allocator>(
     sitting: &mut Sitting,
     kind: RoundKind,
 ) -> Result<Bound, AllocError>
-    ensures bound { IfOk result AreBound }
+    ensures binds { IfOk result (λ tries.
+        BindsFirst D.state kind sitting.old book.old tries sitting.new book.new) }
     ensures moves { Moves D.state book.old book.new }
 {
     match kind {
@@ -150,7 +151,9 @@ fn bind_first<D: RunDisk, A: Allocator>(
 }
 
 /// Returns the time of a round. The clock of the store never goes back.
-fn time_of(heard: Option<Moment>, clock: Moment) -> Moment {
+fn time_of(heard: Option<Moment>, clock: Moment) -> Moment
+    ensures { result ≡ time_of heard clock }
+{
     match heard {
         Some(now) => now.max(clock),
         None => clock,
@@ -185,7 +188,7 @@ fn answer<D: RunDisk, A: Allocator>(
     kind: RoundKind,
 ) -> Result<Answer, AllocError>
     ensures ended { IfOk result (λ answer.
-        MayEndRound D.state kind rest sitting book.old bound.items answer book.new) }
+        EndsRound D.state kind sitting rest book.old bound.items answer book.new) }
     ensures moves { Moves D.state book.old book.new }
 {
     let mut sitting = sitting;

@@ -1,6 +1,6 @@
-use Rattle.std.proofs.Common.{List, None, Option, Some, ap, arith, inl, inr, refl, subst, sym}
+use Rattle.std.proofs.Common.{List, Option, ap, arith, inl, inr, refl, subst, sym}
 use Rattle.std.proofs.Common.{◌≡◌, ◌∙◌, ℕ}
-use Rattle.std.proofs.Common.{Bool, true, false, ◌&&◌, ◌≤◌, ◌^◌, nat_lt}
+use Rattle.std.proofs.Common.{Bool, false, ◌&&◌, ◌≤◌, ◌^◌, nat_lt}
 use Rattle.std.proofs.Math.Bool.{and-false}
 use Rattle.std.proofs.lemmas.Bool.Decides.{nat_tests}
 use Rattle.std.specs.List.{list_all}

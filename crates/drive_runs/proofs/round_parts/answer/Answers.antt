@@ -1,21 +1,26 @@
-use Rattle.std.proofs.Common.{inl, inr, subst}
+use Rattle.std.proofs.Common.{ap, inl, refl, sym, ◌∙◌}
 use Rattle.std.proofs.lemmas.Result.{IfOk-weaker}
+use Rattle.run_model.specs.State.{State}
+use Rattle.drive_steps.specs.Rooms.{are_housed}
 use Rattle.drive_runs.specs.declared.answers.Answer.{Answer}
 use Rattle.drive_runs.specs.declared.openings.Hindrance.TheVariants as hindrance
-use Rattle.drive_runs.specs.declared.rounds.Course.{Course}
-use Rattle.drive_runs.specs.Answers.{ClosesRound, Hinders, MayEndRound, PutsBack}
-use Rattle.drive_runs.specs.Asks.{questions_of}
-use Rattle.drive_runs.specs.Rounds.{GoesOn}
-use Rattle.drive_runs.proofs.Answering.{ends_round}
+use Rattle.drive_runs.specs.declared.rounds.Course.TheVariants as course
+use Rattle.drive_runs.specs.Answers.{ClosesRound, EndsRound, Hinders, PutsBack}
+use Rattle.drive_runs.proofs.Answering.{goes_as}
 use Rattle.drive_runs.proofs.Moving.{moves_then}
 use Rattle.drive_runs.proofs.round_parts.answer.Goals as goal
 
 pub returns-then-not-are_housed-clause-ended : goal.returns-then-not-are_housed-clause-ended
 returns-then-not-are_housed-clause-ended g c =
     IfOk-weaker c.hindered.result (Hinders hindrance.Full)
-    (λ (answer : Answer). MayEndRound g.D.RunDisk.state c.args.kind c.args.rest c.args.sitting
+    (λ (answer : Answer). EndsRound g.D.RunDisk.state c.args.kind c.args.sitting c.args.rest
     c.args.book.now c.args.bound.items answer c.args.book.now)
-    (λ answer is. inl (hindrance.Full, is)) c.hindered.ensures
+    (λ answer is. inl (
+      ap (λ (p : State). are_housed p c.args.sitting.names) (sym c.state.ensures.state)
+          ∙ sym c.are_housed.ensures ∙ c.if-not-are_housed.true,
+      is,
+      refl,
+    )) c.hindered.ensures
 
 pub returns-in-On-clause-ended : goal.returns-in-On-clause-ended
 returns-in-On-clause-ended g c =
@@ -25,28 +30,32 @@ returns-in-On-clause-ended g c =
     IfOk-weaker c.give_orders.result
     (λ (answer : Answer). ClosesRound g.D.RunDisk.state after to c.args.bound.items orders answer
     c.give_orders.new.book)
-    (λ (answer : Answer). MayEndRound g.D.RunDisk.state c.args.kind c.args.rest c.args.sitting
+    (λ (answer : Answer). EndsRound g.D.RunDisk.state c.args.kind c.args.sitting c.args.rest
     c.args.book.now c.args.bound.items answer c.give_orders.new.book)
-    (λ answer closes. ends_round g.D.RunDisk.state c.args.kind c.args.rest c.args.sitting after
-    c.args.book.now to c.give_orders.new.book c.args.bound.items orders answer
-    (subst (λ (course : Course). GoesOn g.D.RunDisk.state c.args.sitting
-    (questions_of c.args.rest.heard) c.args.book.now course after to) c.in-On.is
-    c.in_ok-orders.ensures.goes_on) closes) c.give_orders.ensures.closed
+    (λ answer closes. goes_as g.D.RunDisk.state c.args.kind c.args.sitting after c.args.rest
+    c.args.book.now to c.give_orders.new.book c.args.bound.items _ (course.On orders) answer
+    c.in_ok-orders.ensures.goes_on c.in-On.is closes) c.give_orders.ensures.closed
 
 pub returns-in-Faulty-clause-ended : goal.returns-in-Faulty-clause-ended
 returns-in-Faulty-clause-ended g c =
+    let to = c.go_on.new.book in
     IfOk-weaker c.fail.result (Hinders (hindrance.Fault c.in-Faulty.fault))
-    (λ (answer : Answer). MayEndRound g.D.RunDisk.state c.args.kind c.args.rest c.args.sitting
-    c.args.book.now c.args.bound.items answer c.go_on.new.book)
-    (λ answer is. inl (hindrance.Fault c.in-Faulty.fault, is)) c.fail.ensures
+    (λ (answer : Answer). EndsRound g.D.RunDisk.state c.args.kind c.args.sitting c.args.rest
+    c.args.book.now c.args.bound.items answer to)
+    (λ answer is. goes_as g.D.RunDisk.state c.args.kind c.args.sitting c.go_on.new.sitting
+    c.args.rest c.args.book.now to to c.args.bound.items _ (course.Faulty c.in-Faulty.fault) answer
+    c.in_ok-orders.ensures.goes_on c.in-Faulty.is (is, refl)) c.fail.ensures
 
 pub returns-in-Refused-clause-ended : goal.returns-in-Refused-clause-ended
 returns-in-Refused-clause-ended g c =
     let after = c.go_on.new.sitting in
+    let to = c.go_on.new.book in
     IfOk-weaker c.open_again.result (PutsBack c.args.kind after c.args.rest)
-    (λ (answer : Answer). MayEndRound g.D.RunDisk.state c.args.kind c.args.rest c.args.sitting
-    c.args.book.now c.args.bound.items answer c.go_on.new.book)
-    (λ answer back. inr (inl (after, back))) c.open_again.ensures
+    (λ (answer : Answer). EndsRound g.D.RunDisk.state c.args.kind c.args.sitting c.args.rest
+    c.args.book.now c.args.bound.items answer to)
+    (λ answer back. goes_as g.D.RunDisk.state c.args.kind c.args.sitting after c.args.rest
+    c.args.book.now to to c.args.bound.items _ course.Refused answer
+    c.in_ok-orders.ensures.goes_on c.in-Refused.is (back, refl)) c.open_again.ensures
 
 pub returns-in-On-clause-moves : goal.returns-in-On-clause-moves
 returns-in-On-clause-moves g c =

@@ -1,18 +1,29 @@
-use Rattle.std.proofs.Common.{inl}
+use Rattle.std.specs.Prelude.{Option, None}
+use Rattle.std.proofs.Common.{subst}
 use Rattle.std.proofs.lemmas.Result.{IfOk-weaker}
 use Rattle.drive_runs.specs.declared.answers.Answer.{Answer}
+use Rattle.drive_runs.specs.declared.openings.Hindrance.{Hindrance}
 use Rattle.drive_runs.specs.declared.round_parts.RoundKind.TheVariants as kind
-use Rattle.drive_runs.specs.Answers.{Hinders, MayAnswer}
-use Rattle.drive_runs.proofs.Answering.{answers_later}
+use Rattle.drive_runs.specs.Answers.{Hinders, PlaysRound, Resumes}
+use Rattle.drive_runs.specs.Opens.{Opens}
+use Rattle.drive_runs.proofs.Answering.{hinders_before}
 use Rattle.drive_runs.proofs.Moving.{moves_then}
 use Rattle.drive_runs.proofs.round_parts.resume.Goals as goal
 
 pub returns-in-Some-clause-answered : goal.returns-in-Some-clause-answered
 returns-in-Some-clause-answered g c =
+    let rest = c.args.rest in
+    let middle = c.open_night.new.book in
     IfOk-weaker c.hindered.result (Hinders c.in-Some.hindrance)
-    (λ (answer : Answer). MayAnswer g.D.RunDisk.state kind.Again c.args.rest.heard
-    c.args.book.now answer c.open_night.new.book)
-    (λ answer is. inl (c.in-Some.hindrance, is)) c.hindered.ensures
+    (λ (answer : Answer). Resumes g.D.RunDisk.state c.args.sitting rest c.args.book.now answer
+    middle)
+    (λ answer is. (
+      _,
+      middle,
+      c.in_ok-hindrance.ensures.opens,
+      hinders_before g.D.RunDisk.state _ c.in-Some.hindrance kind.Again c.args.sitting rest.heard
+          rest.now middle answer c.in-Some.is is,
+    )) c.hindered.ensures
 
 pub returns-clause-moves : goal.returns-clause-moves
 returns-clause-moves g c =
@@ -20,12 +31,17 @@ returns-clause-moves g c =
 
 pub returns-clause-answered : goal.returns-clause-answered
 returns-clause-answered g c =
-    let heard = c.args.rest.heard in
+    let rest = c.args.rest in
+    let middle = c.open_night.new.book in
     IfOk-weaker c.play_round.result
-    (λ (answer : Answer). MayAnswer g.D.RunDisk.state kind.Again heard c.open_night.new.book
-    answer c.play_round.new.book)
-    (λ (answer : Answer). MayAnswer g.D.RunDisk.state kind.Again heard c.args.book.now answer
+    (λ (answer : Answer). PlaysRound g.D.RunDisk.state kind.Again c.args.sitting rest.heard rest.now
+    middle answer c.play_round.new.book)
+    (λ (answer : Answer). Resumes g.D.RunDisk.state c.args.sitting rest c.args.book.now answer
     c.play_round.new.book)
-    (λ answer is. answers_later g.D.RunDisk.state kind.Again heard c.args.book.now
-    c.open_night.new.book c.play_round.new.book answer c.open_night.ensures.moves is)
-    c.play_round.ensures.answered
+    (λ answer plays. (
+      None,
+      middle,
+      subst (λ (found : Option Hindrance). Opens g.D.RunDisk.state c.args.sitting c.args.book.now
+          found middle) c.in_default.is c.in_ok-hindrance.ensures.opens,
+      plays,
+    )) c.play_round.ensures.answered

@@ -1,8 +1,8 @@
-use Rattle.std.proofs.Common.{Bool, Global, List, MatchOption, Option, Vec, ap, false, inl, inr}
-use Rattle.std.proofs.Common.{length, ltb, refl, subst, sym, true, ◌∙◌, ◌≡◌, ℕ}
+use Rattle.std.proofs.Common.{Bool, Global, List, MatchOption, Option, Vec, ap, append-nil, false}
+use Rattle.std.proofs.Common.{inl, inr, length, refl, subst, sym, true, ◌∙◌, ◌≡◌, ℕ}
 use Rattle.std.specs.Prelude.{is_none}
 use Rattle.std.specs.Bool.{OnTrue}
-use Rattle.std.specs.List.{list_all, list_any}
+use Rattle.std.specs.List.{list_any}
 use Rattle.std.specs.Option.{option_map}
 use Rattle.run_model.specs.State.{State}
 use Rattle.drive_lines.specs.declared.orders.Order.{Order}
@@ -39,22 +39,40 @@ returns-in_default-clause-goes_on g c =
     c.begin.new.book
     made (subst (λ (sizes : List ℕ). Begins g.D.RunDisk.state before.kept.ends before.plan
     before.names sizes c.args.book.now made c.begin.new.book) c.as_slice.ensures.value
-    c.in_ok-choice.ensures.begins) c.in_default.is c.unbegun.result c.unbegun.ensures
+    c.in_ok-choice.ensures.begins) c.in_default.is (record {
+      others = record {
+        same = record { plan = refl; names = refl; untils = refl; all = refl; night = refl };
+        sizes = refl;
+        ends = refl;
+      };
+      living = sym (append-nil before.kept.living.items);
+    }) c.unbegun.result c.unbegun.ensures
 
 pub returns-in_default-2-clause-goes_on : goal.returns-in_default-2-clause-goes_on
 returns-in_default-2-clause-goes_on g c =
     let before = c.args.sitting.now in
     let made = c.in_ok-choice.field-0 in
     let new = c.begin.new.book in
-    let begun = c.in-Some.begun.items in (
+    let begun = c.in-Some.begun.items in
+    let grown = c.in_ok-add_begun.ensures ∙ ap (λ (l : List Begun).
+    with_begun before.kept.living.items l) c.as_slice-2.ensures.value in (
       made,
       subst (λ (sizes : List ℕ). Begins g.D.RunDisk.state before.kept.ends before.plan
           before.names sizes c.args.book.now made new) c.as_slice.ensures.value
           c.in_ok-choice.ensures.begins,
-      inr (
-        begun,
-        ap (λ (o : Option (Vec Begun Global)). option_map (λ all. all.items) o) c.in-Some.is,
-        inl (subst (λ (p : State). list_any (λ (begin : Begun).
+      inr record {
+        begun = begun;
+        reported =
+            ap (λ (o : Option (Vec Begun Global)). option_map (λ all. all.items) o) c.in-Some.is;
+        left = record {
+          others = record {
+            same = record { plan = refl; names = refl; untils = refl; all = refl; night = refl };
+            sizes = refl;
+            ends = refl;
+          };
+          living = grown;
+        };
+        lost = inl (subst (λ (p : State). list_any (λ (begin : Begun).
             is_none (try_name p begin.task)) begun ≡ true) c.state.ensures.state
             (subst (λ (all : List Begun). list_any (λ (begin : Begun).
             is_none (try_name c.state.result.now begin.task)) all ≡ true)
@@ -63,8 +81,8 @@ returns-in_default-2-clause-goes_on g c =
             (list_any (λ (begin : Begun). is_none (try_name c.state.result.now begin.task))
             c.as_slice-4.result.now ≡ true)
             (λ orders. AreBegins c.state.result.now c.as_slice-4.result.now orders.items))
-            c.in_default-2.is c.in_ok-orders.ensures))),
-      ),
+            c.in_default-2.is c.in_ok-orders.ensures)));
+      },
     )
 
 pub returns-then-not-are_of_plan-clause-goes_on : goal.returns-then-not-are_of_plan-clause-goes_on
@@ -79,13 +97,20 @@ returns-then-not-are_of_plan-clause-goes_on g c =
       subst (λ (sizes : List ℕ). Begins g.D.RunDisk.state before.kept.ends before.plan
           before.names sizes c.args.book.now made new) c.as_slice.ensures.value
           c.in_ok-choice.ensures.begins,
-      inr (
-        begun,
-        ap (λ (o : Option (Vec Begun Global)). option_map (λ all. all.items) o) c.in-Some.is,
-        inr (subst (λ (l : List Living). list_all (λ (one : Living).
-            ltb one.command (length before.plan.commands.items)) l ≡ false) grown
-            (sym c.are_of_plan.ensures ∙ c.if-not-are_of_plan.true)),
-      ),
+      inr record {
+        begun = begun;
+        reported =
+            ap (λ (o : Option (Vec Begun Global)). option_map (λ all. all.items) o) c.in-Some.is;
+        left = record {
+          others = record {
+            same = record { plan = refl; names = refl; untils = refl; all = refl; night = refl };
+            sizes = refl;
+            ends = refl;
+          };
+          living = grown;
+        };
+        lost = inr (sym c.are_of_plan.ensures ∙ c.if-not-are_of_plan.true);
+      },
     )
 
 pub returns-clause-goes_on : goal.returns-clause-goes_on

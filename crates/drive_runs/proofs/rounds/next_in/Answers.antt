@@ -1,4 +1,4 @@
-use Rattle.std.proofs.Common.{Bool, List, Option, None, refl, subst, sym, ℕ}
+use Rattle.std.proofs.Common.{Bool, List, None, refl, subst, sym, ℕ}
 use Rattle.drive_nights.specs.Deadlines.{IsNextMoment}
 use Rattle.drive_runs.specs.Rounds.{IsNext}
 use Rattle.drive_runs.proofs.rounds.next_in.Goals as goal
