@@ -21,7 +21,6 @@ use Rattle.plan_lines.specs.Reading.{ReadsLine, ReadsNoLine, held}
 use Rattle.plan_lines.specs.Writing.{WritesPrefix}
 use Rattle.drive_lines.specs.declared.inputs.NextLine.{NextLine}
 use Rattle.drive_lines.specs.declared.inputs.NextLine.TheVariants as found
-use Rattle.drive_lines.specs.declared.orders.Order.{Order}
 use Rattle.drive_lines.specs.declared.orders.Order.TheVariants as order
 use Rattle.drive_lines.specs.declared.reports.Report.{Report}
 use Rattle.drive_lines.specs.Inputs.{NextRead}
@@ -42,9 +41,9 @@ use Rattle.drive_runs.specs.declared.runs.Start.TheVariants as start
 use Rattle.drive_runs.specs.declared.sittings.Sitting.{Sitting}
 use Rattle.drive_runs.specs.Answers.{Resumes, end_line}
 use Rattle.drive_runs.specs.Moving.{Moves}
-use Rattle.drive_runs.specs.Parts.{AnswersLine, Gives, LeavesAlone, TakesLine}
+use Rattle.drive_runs.specs.Parts.{AnswersLine, LeavesAlone, TakesLine}
 use Rattle.drive_runs.specs.Runs.{Answers, AnswersFirst, AreHeld, Doing, Fails, Goes, IsAnswered}
-use Rattle.drive_runs.specs.Runs.{IsAt, IsEnded, IsNextLine, IsTurn, LeavesDriven, Place, Settles}
+use Rattle.drive_runs.specs.Runs.{IsAt, IsEnded, IsNextLine, IsTurn, LeavesDriven, Place}
 use Rattle.drive_runs.specs.Runs.{Sits, Sittings, StoresAll, Unsettles, beginning, doing_at, lines_once}
 use Rattle.drive_runs.proofs.Moving.{moves_none}
 

@@ -118,11 +118,6 @@ HasBecome state s heard now old how t new =
     (row : WasPlayed state s heard now old t new)
     × Becomes (length row.ends) row.taken row.replies row.gone how
 
--- All of it is recorded.
-abbrev pub IsRecorded : {D : Type 0} → (D → DiskState) → Sitting → Heard → (now : ℕ)
-    → (old : BookView D) → Sitting → (new : BookView D) → Type 0
-IsRecorded state s heard now old t new = HasBecome state s heard now old recorded.Well t new
-
 -- ---- what can't be recorded
 
 -- Each group of the plan has a group of the store, and what was heard names commands and groups of

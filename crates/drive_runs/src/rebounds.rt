@@ -1,8 +1,7 @@
 //! The tries that live when a store was opened again get new tasks, because the opening has
 //! interrupted those that they had.
 
-ghost use Rattle.std.specs.List.{filter_map, list_all};
-ghost use Rattle.std.specs.Option.{option_map};
+ghost use Rattle.std.specs.List.{list_all};
 ghost use Rattle.std.specs.Prelude.{◌≡◌, IfOk, ltb};
 ghost use Rattle.drive_runs.specs.Moving.{Moves};
 ghost use Rattle.drive_runs.specs.Rebounds.{BindsAll, can_bind, commands_of, rebound_line};

@@ -1,6 +1,5 @@
 use Rattle.std.specs.Prelude.{Err}
 use Rattle.std.proofs.Common.{List, inr, refl, subst, ◌∙◌}
-use Rattle.std.specs.Io.KnownBytes.{Appends}
 use Rattle.run_model.specs.declared.faults.Trouble.{Trouble}
 use Rattle.book_model.specs.Books.{Flushes}
 use Rattle.plan_lines.specs.Writing.{WritesPrefix}
