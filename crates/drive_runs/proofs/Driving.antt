@@ -44,7 +44,8 @@ use Rattle.drive_runs.specs.Moving.{Moves}
 use Rattle.drive_runs.specs.Parts.{AnswersLine, LeavesAlone, TakesLine}
 use Rattle.drive_runs.specs.Runs.{Answers, AnswersFirst, AreHeld, Doing, Fails, Goes, IsAnswered}
 use Rattle.drive_runs.specs.Runs.{IsAt, IsEnded, IsNextLine, IsTurn, LeavesDriven, Place}
-use Rattle.drive_runs.specs.Runs.{Sits, Sittings, StoresAll, Unsettles, beginning, doing_at, lines_once}
+use Rattle.drive_runs.specs.Runs.{Sits, Sittings, StoresAll, Unsettles, beginning, doing_at}
+use Rattle.drive_runs.specs.Runs.{lines_once}
 use Rattle.drive_runs.proofs.Moving.{moves_none}
 
 -- ---- what was written
