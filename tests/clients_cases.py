@@ -21,9 +21,10 @@ sys.dont_write_bytecode = True
 HERE = os.path.dirname(os.path.realpath(__file__))
 sys.path[:0] = [f"{HERE}/../clients/python", HERE]
 import pokhnier  # noqa: E402
-from clients_waits import heed_breaks, until, until_begun  # noqa: E402
+from clients_waits import heed_breaks, until, until_at_rest, until_begun  # noqa: E402
 from pokhnier.calls import Call  # noqa: E402
 from pokhnier.names import group_name, key_name, text_of  # noqa: E402
+from pokhnier.orders import Order  # noqa: E402
 from pokhnier.outcomes import Outcome  # noqa: E402
 from pokhnier.program import program  # noqa: E402
 from pokhnier.threads import ThreadRunner  # noqa: E402
@@ -309,6 +310,52 @@ def timeouts(path: str) -> None:
     # (On a busy machine the deadline may pass before the second call.)
     holds(stopped[1:] == [pokhnier.Canceled] or time.time() > began + 9, stopped)
     holds(time.time() >= began + 8, time.time() - began)
+
+
+def rare_rounds(path: str) -> None:
+    """While nothing happens, nothing is asked until a deadline comes."""
+    with pokhnier.open(path, timeout=3600) as store, store.group("g", timeout=3000) as group:
+        goes, parts = threading.Event(), list[list[str]]()
+        ask = store._drive.ask
+
+        def noting(part: list[str]) -> list[Order]:
+            parts.append(part)
+            return ask(part)
+        task = group.run("a", goes.wait, 60)
+        until_begun(task)
+        until_at_rest(store)
+        setattr(store._drive, "ask", noting)  # noqa: B010 (mypy would refuse an assignment)
+        time.sleep(2.5)
+        is_same(parts, [])
+        goes.set()
+        task.result()
+        is_same(len(parts), 1)
+
+
+def late_rounds(path: str) -> None:
+    """A round that reports something, and comes after a deadline, asks what that has canceled."""
+    with pokhnier.open(path) as store:
+        group = store.group("g", limit=1, timeout=8)
+        ends = list[tuple[Call, Outcome, BaseException | None]]()
+
+        def keep(call: Call, outcome: Outcome, seen: BaseException | None) -> None:
+            ends.append((call, outcome, seen))
+        goes = threading.Event()
+        first, second = group.run("a", goes.wait, 60), group.run("b", int)
+        until_begun(first)
+        until_at_rest(store)
+        assert isinstance(first._call.runner, ThreadRunner)
+        first._call.runner.report = keep
+        goes.set()
+        until("an end", lambda: ends)
+        with store._pump.work:
+            moment = store._pump.board.later
+            assert moment
+            time.sleep(max(0, moment - time.time() + 0.1))
+            store._pump.report(*ends[0])
+        is_same((first.result(), type(second.exception(60))), (True, pokhnier.Canceled))
+        with contextlib.suppress(pokhnier.Canceled):
+            group.wait()
 
 
 def cancels(path: str) -> None:
@@ -612,9 +659,10 @@ def breaks(path: str) -> None:
     is_same(called, ["a"])
 
 
-CASES = (results, errors, errors_within, no_json, failures, first_errors, two_failures,
-         odd_texts, retries, limits, timeouts, cancels, abandoned, interruptions, in_use, lost,
-         refused, nights, killed_finish, values, coroutines, deleted, full, names, breaks)
+CASES = (results, errors, errors_within, no_json, failures, first_errors, two_failures, odd_texts,
+         retries, limits, timeouts, rare_rounds, late_rounds, cancels, abandoned, interruptions,
+         in_use, lost, refused, nights, killed_finish, values, coroutines, deleted, full, names,
+         breaks)
 
 
 Case = Callable[[str], None]

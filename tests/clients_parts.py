@@ -11,6 +11,7 @@ The program is a script.
   end by that number.
 - It names the second of two failures as the first one. So the group has to raise that one. It says
   of a task of an earlier run that it failed, and with which error, which no results have.
+- It dies while functions go on. Until they have ended, a second run is refused.
 
 WRONG is a mistake of clients_wrong.py.
 """
@@ -99,6 +100,25 @@ def rebound(folder: str) -> str:
         store.close()
 
 
+def beside(folder: str) -> str:
+    """How a second run begins while functions of the first one go on, whose program has died."""
+    os.environ["PREFIX"] = ANSWER
+    goes, store = threading.Event(), pokhnier.open(f"{folder}/beside")
+    group = store.group("g")
+    try:
+        with store._pump.work:
+            for key in "ab":
+                group.run(key, goes.wait, 30)
+        store._pump.thread.join(30)
+        pokhnier.open(f"{folder}/beside", patience=0).close()
+        return "it opens"
+    except pokhnier.Error as error:
+        return type(error).__name__
+    finally:
+        goes.set()
+        store.close()
+
+
 def named(folder: str) -> str:
     """Which error a group raises of which the program names the first one."""
     failed = threading.Event()
@@ -146,6 +166,8 @@ def faults() -> list[str]:
         if (ended := named(folder)) != wanted:
             bad.append(f"errors that the program names: {ended}")
         program(folder, PROGRAM)
+        if (began := beside(folder)) != "InUse":
+            bad.append(f"a second run while functions of the first one go on: {began}")
         for size in range(len(ANSWER) + 1):
             calls, ended = called(folder, ANSWER[:size])
             begun = ["a", "b"] if size == len(ANSWER) else []
@@ -159,7 +181,7 @@ def main(wrong: str = "") -> int:
     bad = faults()
     print("".join(f"FAILED {it}\n" for it in bad[:3]), end="")
     print(f"{len(ANSWER) + 1} prefixes of an answer, another task of a try, a first error, "
-          f"{len(bad)} failed")
+          f"a second run, {len(bad)} failed")
     return 1 if bad else 0
 
 

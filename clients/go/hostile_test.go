@@ -9,6 +9,7 @@ import (
 	"os/signal"
 	"path/filepath"
 	"runtime"
+	"runtime/debug"
 	"strings"
 	"sync"
 	"sync/atomic"
@@ -204,6 +205,7 @@ func openFiles() int {
 }
 
 func TestNothingIsLeftOpen(t *testing.T) {
+	defer debug.SetGCPercent(debug.SetGCPercent(-1)) // it would close what is left open
 	path := fresh(t)
 	open(t, path).Close()
 	files, goroutines := openFiles(), runtime.NumGoroutine()

@@ -7,6 +7,7 @@ from collections.abc import Iterator
 from contextlib import contextmanager, suppress
 
 from .calls import Call, Ended, GroupPlan, Runs, Settled, Waits, has_failed
+from .clock import now
 from .current import Try
 from .errors import Canceled, Error, Interrupted
 from .names import error_text
@@ -15,17 +16,16 @@ from .outcomes import NO_TEXT, Ok, Wrong, raised, wrong
 from .plan import Plan
 from .results import Results
 from .rounds import Round
-from .wishes import AddCall, AddGroup, AskError, CancelCall, End, Wish
+from .wishes import AddCall, AskError, CancelCall, End, Wish
 
 
 class Board:
     """The calls of a run. Its lock is held while a call changes from one state to another."""
 
-    def __init__(self, plan: Plan, results: Results, has_deadline: bool) -> None:
-        self.plan, self.results, self.has_deadline = plan, results, has_deadline
+    def __init__(self, plan: Plan, results: Results) -> None:
+        self.plan, self.results = plan, results
         self.lock = threading.RLock()
         self.unknown: set[int] = set()
-        self.open: set[int] = set()
         self.running: dict[int, Call] = {}
         self.later: int | None = None
         self.cut: Error | None = None
@@ -38,8 +38,8 @@ class Board:
     def round(self, wishes: list[Wish]) -> tuple[Round, list[Wish]]:
         """The next round, with all of these wishes for which it isn't too late, and those that come
         in the round after it."""
-        made, late, rest = Round(self.plan, self.results), list[Wish](), list[Wish]()
-        made.asks = not wishes
+        made, late, rest = Round(self.plan, self.results, now()), list[Wish](), list[Wish]()
+        made.asks = not wishes or self.later is not None and made.moment >= self.later
         with self.lock:
             for wish in wishes:
                 if not self.is_wanted(wish):
@@ -49,7 +49,6 @@ class Board:
                 else:
                     made.add(wish)
             self.unknown |= made.fresh
-            self.open |= made.fresh
         for wish in late:
             self.drop(wish)
         return made, rest
@@ -57,8 +56,6 @@ class Board:
     def is_wanted(self, wish: Wish) -> bool:
         """Whether a round has this."""
         match wish:
-            case AddGroup(group):
-                self.has_deadline = self.has_deadline or group.until is not None
             case AddCall(call):
                 return not self.is_cut(call) and not isinstance(call.state, Settled)
             case CancelCall(call):
@@ -88,7 +85,6 @@ class Board:
         """The round is durable, and these are its orders."""
         self.later = None
         self.begin_all(orders)
-        self.open -= {it.number for it in made.good}
         made.settle()
         for order in orders:
             match order:
@@ -259,5 +255,4 @@ class Board:
 
     def settle(self, call: Call, state: Settled) -> None:
         self.unknown.discard(call.number)
-        self.open.discard(call.number)
         call.state = state

@@ -69,6 +69,8 @@ class Drive:
             return Refused(f"{self.path} is no `night` that has `drive`: {said}")
         if status == FAULTY and not self.has_answered:
             return Refused(said.replace("\n", " "))
+        if status < 0:
+            return Lost(f"night drive was killed by signal {-status}; start this program again")
         return Lost(f"night drive ended with status {status}: {said or 'it said nothing'}")
 
     def end(self) -> tuple[str, int]:

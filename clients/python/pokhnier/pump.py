@@ -14,9 +14,9 @@ from .outcomes import Outcome
 from .rounds import Round
 from .wishes import AddCall, AddGroup, AskError, CutGroup, End, Wish
 
-# Seconds between two rounds: while a deadline may come, and in any case. A dead program is noticed
-# within TICK.
-TICK, IDLE = 1.0, 3600.0
+# Seconds between two rounds, at most, and between two looks at what nobody reports: a dead program,
+# or a loop that is closed.
+IDLE, TICK = 3600.0, 1.0
 
 
 class Pump:
@@ -112,9 +112,8 @@ class Pump:
     def seconds(self, waited: float) -> float:
         """How long nothing has to be asked, after this many seconds. (A moment isn't waited for by
         the clock that measures these: that one stands still while the machine sleeps.)"""
-        board = self.board
-        left = (TICK if board.open and board.has_deadline else IDLE) - waited
-        return left if board.later is None else min(left, board.later - time.time())
+        left, later = IDLE - waited, self.board.later
+        return left if later is None else min(left, later - time.time())
 
     def turn(self, wishes: list[Wish]) -> None:
         """Makes a round, and does what answers it."""

@@ -20,6 +20,17 @@ class Kept:
     line: int = 0
 
 
+DECODER = json.JSONDecoder()
+
+
+def members_of(line: str) -> Any:
+    """The object of a line. (`json.loads` takes twice as long, and a night may have thousands.)"""
+    members, end = DECODER.raw_decode(line)
+    if line[end:].strip():
+        raise ValueError(line)
+    return members
+
+
 @dataclass
 class Results:
     """The lines of one night. Other nights are over, and their lines are dropped."""
@@ -36,7 +47,7 @@ class Results:
         of_night = []
         for line in lines:
             try:
-                members = json.loads(line)
+                members = members_of(line)
                 if members["night"] != self.night:
                     continue
                 self.note((members["group"], members["key"]), members["try"], members)
@@ -47,7 +58,9 @@ class Results:
             self.file.replace(of_night)
 
     def note(self, name: tuple[str, str], attempt: int, members: dict[str, Any]) -> None:
-        kept = self.kept.setdefault(name, Kept())
+        kept = self.kept.get(name)
+        if kept is None:
+            kept = self.kept[name] = Kept()
         self.count += 1
         kept.last = max(kept.last, attempt)
         outcome = outcome_of(members)

@@ -6,7 +6,6 @@ from concurrent.futures import Future
 from dataclasses import dataclass, field
 
 from .calls import Call, Ended, GroupPlan, Runs, Settled
-from .clock import now
 from .errors import Canceled
 from .names import error_text, text_of
 from .outcomes import Ok, Stopped, Wrong
@@ -31,6 +30,7 @@ class Round:
     """The lines of a round, and what can be reported once it is durable."""
     plan: Plan
     results: Results
+    moment: int
     lines: list[str] = field(default_factory=list)
     wishes: list[Wish] = field(default_factory=list)
     fresh: set[int] = field(default_factory=set)
@@ -108,7 +108,7 @@ class Round:
 
     def whole(self) -> list[str]:
         """All lines of the round."""
-        return [*self.lines, f"now {now()}", *(["standings"] if self.asks else [])]
+        return [*self.lines, f"now {self.moment}", *(["standings"] if self.asks else [])]
 
     def unanswered(self) -> list[Wish]:
         """Those for whose answer somebody waits."""

@@ -66,7 +66,7 @@ class Store:
         self._groups: dict[str, Group] = {}
         self._values: dict[str, Task[Any]] = {}
         self._making, self._closing, self._is_closed = threading.Lock(), threading.Lock(), False
-        self._pump = Pump(drive, Board(plan, results, until is not None))
+        self._pump = Pump(drive, Board(plan, results))
         self._pump.thread.start()
         OPEN.add(self)
 
