@@ -189,7 +189,7 @@ def outlives_its_store(tries: Shared) -> None:
 # --- kills
 
 def planner_is_killed(tries: Shared, dice: random.Random) -> None:
-    """`night plan` is killed at random moments of a night, beside `night script`, and the driver.
+    """`night plan` is killed at random moments of a night, beside `night drive`, and the driver.
     Only the shells of commands live on."""
     hits = collections.Counter[str]()
     for _ in range(2 if tries.is_short else 25):
@@ -205,7 +205,7 @@ def planner_is_killed(tries: Shared, dice: random.Random) -> None:
                 if dice.random() < 0.5:
                     goes_on(room, run)
                 time.sleep(dice.uniform(0, 0.25))
-                who = dice.choice(("plan", "plan", "plan", "script", "driver", "driver, plan"))
+                who = dice.choice(("plan", "plan", "plan", "drive", "driver", "driver, plan"))
                 hits[who] += strike(run, who)
             who = ""
             status, _ = room.ended(run)
@@ -231,11 +231,11 @@ def goes_on(room: Room, run: subprocess.Popen[str]) -> None:
 
 
 def strike(run: subprocess.Popen[str], who: str) -> bool:
-    """Kills the planner of a driver, its `night script`, or both the planner and the driver, and
+    """Kills the planner of a driver, its `night drive`, or both the planner and the driver, and
     says whether there was one."""
     plans = plans_in(run.pid)
     others = [it for it in nights_in(children(run.pid)) if it not in plans]
-    its = [run.pid] if who.startswith("driver") else others if who == "script" else []
+    its = [run.pid] if who.startswith("driver") else others if who == "drive" else []
     its += plans if who.endswith("plan") else []
     kill(its)
     return bool(its)

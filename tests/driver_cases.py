@@ -23,7 +23,7 @@ exec '{night}' "$@"
 """
 # The same: as the session of this number begins another program reads the store.
 READING = """#!/bin/bash
-if [ "$1" = script ]; then
+if [ "$1" = script ] || [ "$1" = drive ]; then
     n=$(cat count 2> /dev/null || echo 0)
     echo $((n + 1)) > count
     if [ "$n" = {at} ]; then
@@ -507,23 +507,24 @@ def hung_night(tries: Shared) -> None:
                   room.run("s", "JOBS", "--list")[1].splitlines()[-1], "h b: interrupted")
 
 
-# Stands for `night`, and is held by the system (state D) before its first start is durable, as in a
+# Stands for `night`, and is held by the system (state D) before its first start is heard of, as in a
 # sync that hangs, until somebody opens the pipe `disk`.
 HELD = """#!/usr/bin/env python3
 import os, subprocess, sys
-night, started = {night!r}, False
-if sys.argv[1] != "script" or os.path.exists("was_held"):
+night = {night!r}
+if sys.argv[1] != "drive" or os.path.exists("was_held"):
     os.execv(night, [night, *sys.argv[1:]])
 it = subprocess.Popen([night, *sys.argv[1:]], stdin=subprocess.PIPE, stdout=subprocess.PIPE)
 for line in sys.stdin.buffer:
-    if started and line == b"flush\\n" and not os.path.exists("was_held"):
+    it.stdin.write(line), it.stdin.flush()
+    if line != b"\\n":
+        continue
+    answer = list(iter(it.stdout.readline, b"\\n"))
+    if any(it.startswith(b"begin ") for it in answer) and not os.path.exists("was_held"):
         open("was_held", "w").close()
         os.posix_spawn("/bin/true", ["true"], {{}},
                        file_actions=[(os.POSIX_SPAWN_OPEN, 9, "disk", os.O_RDONLY, 0)])
-    it.stdin.write(line), it.stdin.flush()
-    reply = it.stdout.readline()
-    started = started or reply.startswith(b"start ")
-    sys.stdout.buffer.write(reply), sys.stdout.buffer.flush()
+    sys.stdout.buffer.write(b"".join(answer) + b"\\n"), sys.stdout.buffer.flush()
 it.stdin.close()
 sys.stdout.buffer.write(it.stdout.read())
 sys.exit(it.wait())
@@ -580,7 +581,7 @@ def marked_store(tries: Shared) -> None:
 
 # The second run puts a copy in the store's place, as it does under the mark, and is killed then.
 COPIES = """#!/bin/sh
-[ "$1" = script ] || exec {night} "$@"
+[ "$1" = drive ] || exec {night} "$@"
 echo >> runs
 [ $(wc -l < runs) -ne 2 ] || {{ cp -p s s.making; mv s.making s; kill -9 $$; }}
 exec {night} "$@"

@@ -382,9 +382,9 @@ def unforeseen(tries: Shared) -> None:
     kind = "an error that nobody foresaw"
     folder = Room(tries, []).path
     driver = copied(tries.driver, f"{folder}/driver", (
-        "night_run/planner.py", "    def chosen(self, answer: Answer) -> Choice:\n",
-        "    def chosen(self, answer: Answer) -> Choice:\n"
-        "        1 // (len(self.facts.ends) - 1)\n"))
+        "night_run/driving.py", "    def obey(self, answer: Answer) -> None:\n",
+        "    def obey(self, answer: Answer) -> None:\n"
+        "        1 // (len(self.course.facts.ends) - 1)\n"))
     for debug in ("", "1"):
         room = Room(tries, [job("g", "a"), job("g", "b", 3)])
         room.before = ["env", f"NIGHT_DEBUG={debug}"]
@@ -393,7 +393,7 @@ def unforeseen(tries: Shared) -> None:
             it[0] for it in alarmed(room)]), (3, ["3"]))
         if not debug:
             tries.is_same(f"{kind}: a line", room.path, room.errors.splitlines()[-1], SAID)
-        tries.is_same(f"{kind}: its place", debug, "in chosen" in room.errors, bool(debug))
+        tries.is_same(f"{kind}: its place", debug, "in obey" in room.errors, bool(debug))
         tries.is_same(f"{kind}: nothing is left", room.path, room.settle(5), True)
 
 

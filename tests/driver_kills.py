@@ -19,41 +19,60 @@ from running import bytes_of
 Part = Callable[[Shared], None]
 Begun = dict[str, int]
 
-# Stands for `night`: passes lines on one by one, and does something once this many have started.
+# Stands for `night`: passes parts and answers on one by one, and does something once this many
+# commands have begun. (`cut` is before that is heard of, and `late` before an end is passed.)
 BETWEEN = """#!/usr/bin/env python3
 import fcntl, os, signal, subprocess, sys
 night, what, at = {night!r}, {what!r}, {at}
 def exec_night():
     os.execv(night, [night, *sys.argv[1:]])
-if sys.argv[1] != "script":
+if sys.argv[1] != "drive":
     exec_night()
 if what == "page":
-    fcntl.fcntl(0, 1031, 4096), fcntl.fcntl(1, 1031, 4096)
+    fcntl.fcntl(1, 1031, 4096)
     exec_night()
 if os.path.exists("was_here"):
     exec_night()
 it = subprocess.Popen([night, *sys.argv[1:]], stdin=subprocess.PIPE, stdout=subprocess.PIPE)
-def ask(line):
-    it.stdin.write(line), it.stdin.flush()
-    return it.stdout.readline()
+def part(file):
+    lines = []
+    for line in iter(file.readline, b""):
+        lines.append(line)
+        if line == b"\\n":
+            return lines
+    return []
+def ask(lines):
+    it.stdin.write(b"".join(lines)), it.stdin.flush()
+    return part(it.stdout)
+def die():
+    open("was_here", "w").close()
+    it.kill(), it.wait(), os.kill(os.getppid(), signal.SIGKILL), os._exit(0)
+def fill():
+    open("was_here", "w").close()
+    now = 3_000_000_000
+    while True:
+        it.stdin.write(b"".join(b"now %d\\n\\n" % one for one in range(now, now + 500)))
+        it.stdin.flush()
+        found = [line for _ in range(500) for line in part(it.stdout) if line[:7] == b"rebound"]
+        if found:
+            return found
+        now += 500
 starts = 0
-for line in sys.stdin.buffer:
-    if (what == "cut" and starts >= at and line == b"flush\\n"
-            or what == "late" and starts >= at and line.startswith(b"finish ")):
-        open("was_here", "w").close()
-        it.kill(), it.wait(), os.kill(os.getppid(), signal.SIGKILL), os._exit(0)
-    reply = ask(line)
-    starts += reply.startswith(b"start ")
-    if what == "fill" and starts >= at and line == b"flush\\n":
-        open("was_here", "w").close()
-        now, last = 3_000_000_000, b"ok\\n"
-        while last == b"ok\\n":
-            it.stdin.write(b"".join(b"advance %d\\n" % one for one in range(now, now + 500)))
-            it.stdin.flush()
-            last = [it.stdout.readline() for _ in range(500)][-1]
-            now += 500
+while lines := part(sys.stdin.buffer):
+    if what == "late" and starts >= at and any(one.startswith(b"ended ") for one in lines):
+        die()
+    answer = ask(lines)
+    begins = [one.split() for one in answer if one.startswith(b"begin ")]
+    starts += len(begins)
+    if what == "cut" and starts >= at:
+        die()
+    if what == "fill" and starts >= at:
         starts = -1000000
-    sys.stdout.buffer.write(reply), sys.stdout.buffer.flush()
+        found = {{one[1]: one for one in map(bytes.split, fill())}}
+        begun = [[b"begin", *found.pop(one[1])[1:]] for one in begins]
+        answer = [b" ".join(one) + b"\\n" for one in [*found.values(), *begun]] + [
+            one for one in answer if not one.startswith(b"begin ")]
+    sys.stdout.buffer.write(b"".join(answer)), sys.stdout.buffer.flush()
 it.stdin.close()
 sys.stdout.buffer.write(it.stdout.read())
 """
@@ -120,7 +139,7 @@ exec {night} "$@"
 KILLED_OPENING = """#!/bin/sh
 case $1 in
 renew) {night} "$@"; status=$?; : > renewed; exit $status ;;
-script) if [ -e renewed ] && [ ! -e killed ]; then : > killed; kill -9 $$; fi ;;
+script|drive) if [ -e renewed ] && [ ! -e killed ]; then : > killed; kill -9 $$; fi ;;
 esac
 exec {night} "$@"
 """
@@ -209,10 +228,10 @@ def kills(tries: Shared, dice: random.Random, rounds: int) -> None:
 
 
 def cuts(tries: Shared) -> None:
-    """`night` and the driver are killed as a start is in memory alone, or before a finish is
-    passed."""
+    """`night` and the driver are killed as a start is durable and nobody has heard of it, or before
+    an end is passed."""
     for what, at in (("cut", 1), ("cut", 5), ("late", 1), ("late", 5)):
-        kind = f"cut before {'a start' if what == 'cut' else 'an end'} is durable"
+        kind = "cut before a start is heard of" if what == "cut" else "cut before an end is durable"
         room, ended = between(tries, [job("g", f"k{it}", 0.05) for it in range(7)], what, at), \
             dict[str, int]()
         tries.is_same(f"{kind}: it is killed", at, room.run(), (-signal.SIGKILL, ""))
@@ -643,7 +662,7 @@ class Full:
                           "u--1-2.k1", "a--1-2.k6", "a--1-2.k7", "c.k0")})
         tries.is_same(f"{kind}: the scopes left", room.path, re.findall(
             r"^scope \d+ (\S+)", room.shown(), re.M), ["root", "night", "a", "night--ended", "u",
-                                                       "c"])
+                                                       "night--1-2", "c", "night--1-2--ended"])
         ended = [f"f{group} k{it} ok" for group in range(self.groups) for it in range(self.tasks)]
         ended += [f"a k{it} ok" for it in range(6)] + ["b good ok", "b bad exit 3", "u k0 ok"]
         tries.is_same(f"{kind}: what had ended", room.path, sorted(

@@ -88,17 +88,6 @@ WRONG_STANDINGS = [
     ("another word", "stands 0 well..", "'stands 0 well'"),
     ("only what may begin", "begin 0..", "'how 0 of 1 commands stand'")]
 
-# Of a group with a deadline at 1000: where the store's clock stands and when it was looked at, the
-# moment, whether other lines are sent; the lines for it, and the cause that the group is done for.
-CLOCKS: list[tuple[str, tuple[int, int], int, bool, list[str], str]] = [
-    ("nothing is due", (900, 900), 905, False, [], ""),
-    ("with other lines", (900, 900), 905, True, ["advance 905"], ""),
-    ("at the same second", (905, 905), 905, True, [], ""),
-    ("once in a while", (900, 900), 910, False, ["advance 910"], ""),
-    ("it never goes back", (900, 800), 850, True, [], ""),
-    ("the deadline passes", (900, 995), 1000, False, ["advance 1000", "scope g"], "within 5m"),
-    ("the store's clock is later", (1000, 995), 996, True, ["scope g"], "within 5m")]
-
 # How runs of `night` end, one after another: the status and the output, whether it had the store;
 # and of each whether another one waits for the store, or begins.
 IN_USE = "night: s: in use by another program"
@@ -132,20 +121,12 @@ def waiting(tries: Shared) -> None:
 
 
 def retries_are_due(tries: Shared) -> None:
-    """A retry that waits is known with the moment when it is due. One whose failure isn't durable
-    yet waits for that, and leaves its place to others."""
+    """A retry that waits is known with the moment when it is due."""
     it = planner_of(tries, "g: retries 1 wait 5s limit 1\ng a x\ng b x")
     facts: Any = facts_of(tries, {"g a": "exit 1", "g b": "ok"})
     failed_at = facts.failed_at["g", "a"]
     found = it.choose(facts, 1, failed_at + 4)
     tries.is_same("a retry that waits", "choice", (found.names, found.later), ((), failed_at + 5))
-    tries.is_same("a retry that waits", "first", it.first(facts, failed_at + 4).later,
-                  failed_at + 5)
-    tries.is_same("a retry that is due", "held",
-                  it.choose(facts, 1, failed_at + 5, {("g", "a")}).names, ())
-    facts.take_back(("g", "b"))
-    tries.is_same("a retry that is due", "its place",
-                  it.choose(facts, 1, failed_at + 5, {("g", "a")}).names, (("g", "b"),))
     tries.is_same("a retry that is due", "choice", it.choose(facts, 1, failed_at + 5).names,
                   (("g", "a"),))
 
@@ -272,34 +253,6 @@ def answer_is_stopped(tries: Shared) -> None:
                   len(it.choose(facts, 2, 0.0).names), 2)
     tries.holds("an answer of a stopped planner", "its time", is_within(began, 25),
                 time.monotonic() - began)
-
-
-def clocks(tries: Shared) -> None:
-    """The lines that move the store's clock, and what passes at it."""
-    deadlines, facts_module = driver_module(tries, "timing"), driver_module(tries, "facts")
-    scope = driver_module(tries, "state").Scope
-    batch = driver_module(tries, "batches").Batch
-    for what, (clock, ticked), now, is_busy, lines, cause in CLOCKS:
-        book = facts_module.Book(1, driver_module(tries, "rounds").Round())
-        book.scopes["g"] = scope(1, "g", None, "cause", None, None, 1000, False, None)
-        book.deadlines["g"] = "within 5m"
-        facts, its, made = facts_module.Facts(), deadlines.Deadlines(), batch()
-        its.clock, its.ticked = clock, ticked
-        if is_busy:
-            made.add("finish 0 ok")
-        tries.is_same("the store's clock", what, deadlines.moments(book, facts), [1000])
-        tries.is_same("the store's clock: why to stop", what,
-                      deadlines.cause_of(book, facts, "g", now),
-                      "within 5m" if now >= 1000 else None)
-        has_passed = its.add(made, book, facts, now)
-        tries.is_same("the store's clock: its lines", what, (made.lines[is_busy:], has_passed),
-                      (lines, bool(cause)))
-        tries.is_same("the store's clock: groups that are done", what, facts.done,
-                      {"g": cause} if cause else {})
-        if cause:
-            made.then[-1]("g: done; deadline 1000; err deadline exceeded; cause it is late")
-            tries.is_same("the store's clock: its cause", what,
-                          (facts.done, deadlines.moments(book, facts)), ({"g": "it is late"}, []))
 
 
 def restarts(tries: Shared) -> None:
@@ -728,11 +681,12 @@ def ends_in_words(tries: Shared) -> None:
         night.program = before
 
 
-# The modules of a driver that decide, and those that execute (`orders`). The first know of the
-# second their `executor` alone, and the second don't know the first.
-DECIDES = {"answers", "asking", "batches", "capacity", "changes", "counted", "course", "decider",
-           "facts", "night", "obeying", "opening", "past", "plan_moments", "plan_pools", "planner",
-           "renewal", "restarts", "scoping", "sessions", "starts", "state", "taking", "timing"}
+# The modules of a driver that speak with `night`, and those that execute (`orders`). The first know
+# of the second their `executor` alone, and the second don't know the first.
+DECIDES = {"answers", "asking", "capacity", "changes", "counted", "course", "drive", "drive_plan",
+           "driving", "facts", "lives", "night", "obeying", "opening", "past", "plan_moments",
+           "plan_pools", "planner", "preparing", "renewal", "restarts", "sessions", "state",
+           "taking"}
 EXECUTES = {"beginnings", "commands", "executor", "far", "leftovers", "means", "mounts", "outputs",
             "own", "recording", "running", "stopping", "used"}
 
@@ -766,7 +720,7 @@ def parts_are_apart(tries: Shared) -> None:
 
 
 SMALL = [parts_are_apart, recorded_lines, held_back, rests, nights_of_others, missed_members,
-         handed_over, ends_in_words, numbers_of_others, waiting, retries_are_due, places_are_kept, clocks,
+         handed_over, ends_in_words, numbers_of_others, waiting, retries_are_due, places_are_kept,
          restarts, in_sight, stopped, outputs]
 # Those that set a signal's handler or the environment, which the main thread alone may.
 MAIN = [copies, planner_ends, wrong_answers, answer_is_two, answer_is_late, answer_is_stopped]

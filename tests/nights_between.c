@@ -1,11 +1,13 @@
 /* Stands for `night` before a driver, and writes what became durable into `acked`, in the folder of
-   the store: it passes on each line of a `script` and each reply, and runs the program beside it,
-   NAME.real, for all other words. A line is there before the driver has the reply:
+   the store: it passes on each line of a `script` or a `drive` and each line that answers it, and
+   runs the program beside it, NAME.real, for all other words. A line is there before the driver has
+   the answer:
 
        A MICROSECONDS NUMBER KEY         the start of a task is acked
        F MICROSECONDS NUMBER END         its end: ok, or error and its text
        C MICROSECONDS SCOPE ..           a cancel
 
+   A command that is canceled before it begins has a number that no task has.
    A number in the file `slow`, in that folder, is how many milliseconds each such reply waits. */
 #define _GNU_SOURCE
 #include <fcntl.h>
@@ -28,7 +30,7 @@ struct stream { char bytes[65536]; size_t length; };
 
 static char sent[LINES][LENGTH];      /* lines whose reply hasn't come */
 static unsigned first, last;
-static char pending[65536];           /* what the next `acked` makes durable */
+static char pending[1 << 20];          /* what the next `acked` makes durable */
 static size_t pending_length;
 static int noted = -1, slow;
 
@@ -46,7 +48,7 @@ static void keep(char what, const char *text) {
 
 /* Writes what has become durable, and waits as the file `slow` says. */
 static void note(void) {
-  char out[2 * sizeof pending];
+  static char out[2 * sizeof pending];
   size_t length = 0;
   for (char *line = strtok(pending, "\n"); line; line = strtok(NULL, "\n"))
     length += snprintf(out + length, sizeof out - length, "%c %lld %s\n", *line, now(), line + 2);
@@ -58,6 +60,55 @@ static void note(void) {
 static void take_line(const char *line) {
   if (!*line) return;
   snprintf(sent[last++ % LINES], LENGTH, "%s", line);
+}
+
+/* The plan of a `drive`: the names of its groups, the keys of its commands, and whether a try of each
+   lives, by its task. */
+#define MOST 20000
+static char group_names[MOST][40], keys[MOST][40];
+static int groups, commands, living[MOST], canceled;
+
+static void take_report(const char *line) {
+  char text[LENGTH], name[LENGTH];
+  int number, at;
+  if (sscanf(line, "group %*d %*s %39s", name) == 1 && groups < MOST) {
+    strcpy(group_names[groups++], name);
+  } else if (sscanf(line, "command %*d %*d %*d %*d %*d %*d %39s", name) == 1 && commands < MOST) {
+    living[commands] = -1;
+    strcpy(keys[commands++], name);
+  } else if (sscanf(line, "ended %d %n", &number, &at) == 1) {
+    for (int it = 0; it < commands; it++)
+      if (living[it] == number) living[it] = -1;
+    keep('F', line + 6);
+  } else if (sscanf(line, "gone %d", &number) == 1) {
+    for (int it = 0; it < commands; it++)
+      if (living[it] == number) living[it] = -1;
+  } else if (sscanf(line, "done %d %n", &number, &at) == 1 && number < groups) {
+    snprintf(text, sizeof text, "%s %s", group_names[number], line + at);
+    keep('C', text);
+  } else if (sscanf(line, "cancel %d %n", &number, &at) == 1 && number < commands
+             && living[number] < 0) {
+    snprintf(text, sizeof text, "%d %s", 1000000 + ++canceled, keys[number]);
+    keep('A', text);
+    snprintf(text, sizeof text, "%d error canceled: %.54s", 1000000 + canceled, line + at);
+    keep('F', text);
+  }
+}
+
+static void take_order(const char *order) {
+  char text[LENGTH], key[LENGTH];
+  int command, task;
+  if ((sscanf(order, "begin %d %d %*s %599s", &command, &task, key) == 3
+       || sscanf(order, "rebound %d %d %*s %599s", &command, &task, key) == 3)
+      && command < commands) {
+    living[command] = task;
+    snprintf(text, sizeof text, "%d %.400s", task, key);
+    keep('A', text);
+  } else if (!strcmp(order, "durable")) {
+    note();
+  } else if (!strcmp(order, "full")) {
+    pending_length = 0, *pending = 0;
+  }
 }
 
 static void take_reply(const char *reply) {
@@ -123,7 +174,8 @@ int main(int count, char **words) {
   if (length < 0) return 90;
   strcpy(program + length, ".real");
   unsetenv("LD_PRELOAD");
-  if (count < 3 || strcmp(words[1], "script")) {
+  int drives = count > 2 && !strcmp(words[1], "drive");
+  if (count < 3 || (!drives && strcmp(words[1], "script"))) {
     execv(program, words);
     return 90;
   }
@@ -144,8 +196,8 @@ int main(int count, char **words) {
   for (;;) {
     struct pollfd from[] = {{out[0], POLLIN, 0}, {is_open ? 0 : -1, POLLIN, 0}};
     poll(from, 2, -1);
-    if (from[1].revents && !pass(0, in[1], &lines, take_line)) is_open = 0, close(in[1]);
-    if (from[0].revents && !pass(out[0], 1, &replies, take_reply)) break;
+    if (from[1].revents && !pass(0, in[1], &lines, drives ? take_report : take_line)) is_open = 0, close(in[1]);
+    if (from[0].revents && !pass(out[0], 1, &replies, drives ? take_order : take_reply)) break;
   }
   close(out[0]);
   if (is_open) close(in[1]);

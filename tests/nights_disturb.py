@@ -137,7 +137,7 @@ class Disturber:
     def is_night_of(self, driver: subprocess.Popen[str], pid: int) -> bool:
         words = command_line(pid).split("\0")
         try:
-            return "script" in words and os.readlink(f"/proc/{pid}/cwd") == self.room.path
+            return "drive" in words and os.readlink(f"/proc/{pid}/cwd") == self.room.path
         except OSError:
             return False
 

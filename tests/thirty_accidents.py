@@ -100,7 +100,7 @@ def reboot_for_good(night: Evening) -> bool:
 def kill_night(night: Evening) -> bool:
     """Kills `night`, while the driver lives; it begins another one."""
     nights = [it for it in children(night.run.process.pid)
-              if "\0script\0" in command_line(it)]
+              if "\0drive\0" in command_line(it)]
     at = time.monotonic()
     if not nights or not hit(night.run.process, "night"):
         return False

@@ -1,4 +1,4 @@
-"""Runs shell commands as the tasks of a store of `night`, over runs of `night script`.
+"""Runs shell commands as the tasks of a store of `night`, as an executor of `night drive`.
 
 What the command line and the file of commands ask for:
 
@@ -8,25 +8,25 @@ What the command line and the file of commands ask for:
     reading    the words of a line                 ordering    what comes after what
     limits     what a command may use              days        on which days it is due
 
-What decides a night. The `loop` has it hear what executes, and give orders (`orders`):
+What decides a night is `night drive`. The `loop` has it hear what executes, and obeys it:
 
-    decider    what ends, begins and stops         course      what is known of the night
-    starts     the tasks and the numbers of tries  capacity    whether the store has room
-    planner    what may be begun, by `night plan`: asking is that process, and plan_moments and
-               plan_pools write moments and limits for it
-    facts      what a night has so far             standing    how commands stand, in phases
-    obeying    the cancels that others ask for     taking      what operators want of it
-    counted    which earlier tries count           timing      when deadlines pass, and the clock
+    drive      the process, and its answers        drive_plan  the plan of what is left
+    driving    its rounds                          lives       the tries that run on
+    sessions   its runs, one after another         preparing   what it wouldn't make in a store
+    restarts   whether another run follows         renewal     of a store that is nearly full
+    obeying    the cancels that others ask for     taking      what operators want of a night
     changes    what comes of a wish: wants says what these are, petitions are requests for them,
                and wanting asks; tonight keeps what is wanted
+    course     what is known of the night          capacity    whether the store has room
+    counted    which earlier tries count           past        ends that a renewal gave back
 
-What is recorded:
+What shows a night, by `night inspect` and `night plan`:
 
-    sessions   runs of `night script`: opening makes the store ready, scoping makes scopes, and
-               restarts says whether another one follows
-    night      the program `night`                 batches     lines that are sent together
-    state      what `inspect --json` prints        renewal     of a store that is nearly full
-    past       ends that a renewal gave back       keeping     what is kept of earlier nights
+    state      what `inspect --json` prints        facts       what a night has so far
+    planner    how commands stand: asking is the process, and plan_moments and plan_pools write
+               moments and limits for it           standing    the same in phases
+    night      the program `night`                 opening     looks at a store, and sessions of
+               `night script`, as for a renewal    keeping     what is kept of earlier nights
     nights     when these began: STORE.nights      last_night  the `night` of a killed driver
 
 What executes it:

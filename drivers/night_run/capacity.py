@@ -4,8 +4,6 @@ begins, until a renewal has freed some.
 
 from __future__ import annotations
 
-from .night import refusal
-
 
 class StoreFull(Exception):
     """The store has no row left for what is to be made. A renewal may free some."""
@@ -18,11 +16,6 @@ class Capacity:
         self.is_full = False  # whether a row couldn't be made
         self.cannot_renew = False  # so it stays full
         self.is_fruitless = False  # whether no task has started since the last renewal
-
-    def submitted(self, reply: str) -> None:
-        """The reply to a line that makes a row."""
-        if refusal(reply):
-            self.is_full = True
 
     def started(self) -> None:
         """A task has started."""

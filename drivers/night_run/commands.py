@@ -50,6 +50,7 @@ class Command(Running):
         self.misses = 0
         self.used = Used()
         self.how = NOTHING  # how its processes are limited
+        self.ordered: End | None = None  # that it has to stop, once `night drive` has said so
 
     @property
     def has_begun(self) -> bool:
@@ -184,8 +185,13 @@ class Command(Running):
         return self.status is not None and not self.is_gone
 
     def end(self) -> End | None:
-        """How it ended; None where it was cut off. One that was stopped is never ok, whatever its
-        status."""
+        """How it ended; None where it was cut off. One that had to stop, and failed, was
+        canceled."""
+        made = self.own_end()
+        return made if made is None or made.is_ok else self.ordered or made
+
+    def own_end(self) -> End | None:
+        """The same without orders. One that was stopped is never ok, whatever its status."""
         if self.failure:
             return failed(f"can't be started: {self.failure}")
         if self.stopped is not None:

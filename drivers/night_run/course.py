@@ -36,6 +36,10 @@ class Course:
         self.has_looked = False  # whether `facts` are those of the store
         self.has_mark = False  # whether the store says that the night has ended
         self.is_woken = False  # whether another round is due at once
+        self.wants_plan = False  # whether `night drive` is to get another plan
+        self.hides: set[str] = set()  # groups whose tasks hide that a command is to run again
+        self.has_unlogged = False  # whether the store has ends of commands that never began
+        self.events = 0  # how many events the store had as it was opened
 
     @property
     def jobs(self) -> Jobs:
@@ -50,7 +54,3 @@ class Course:
         """StoreFull where a renewal is due, and the store there to be renewed."""
         if not self.missing:
             self.capacity.look()
-
-    def is_done_for(self, name: Name) -> bool:
-        """Whether a command isn't begun any more because its group is done."""
-        return name[0] in self.facts.done and not self.jobs.all[name].cleans_up

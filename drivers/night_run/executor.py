@@ -42,10 +42,6 @@ class Executor:
         """The commands of which no other try may begin."""
         return self.left.names() | set(self.own.its)
 
-    def groups(self) -> set[str]:
-        """The groups of commands whose ends are to be recorded."""
-        return {it[0] for it in self.own.its} | self.left.groups()
-
     def has_left(self) -> bool:
         """Whether something of earlier drivers is waited for."""
         return any(not it.is_late(self.grace) for it in self.left)

@@ -174,16 +174,12 @@ class Leftovers:
     def names(self) -> set[Name]:
         return {it.name for it in self.its}
 
-    def groups(self) -> set[str]:
-        """The groups in which an end is to be recorded."""
-        return {it.name[0] for it in self.its if it.counts}
-
     def began(self, tried: Of, log: Log) -> float | None:
         """When the command of a try began, if it outlived that: no later one of its key has begun
         then."""
         group, key, number = tried
-        its = (it.began(log) for it in self.its if (it.it.group, it.it.key) == (group, key)
-               and it.it.number <= number)
+        its = (it.began(log) for it in self.its if it.name == (base_of(group), key)
+               and (it.counts if it.it.group != group else it.it.number <= number))
         return next((it for it in its if it is not None), None)
 
     def there(self) -> list[Leftover]:

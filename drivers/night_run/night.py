@@ -1,4 +1,5 @@
-"""The program `night`: the subcommands that print at once, and a run of `night script`.
+"""The program `night`: the subcommands that print at once, and those that answer what is written
+to them, `night script` and `night drive` (`drive`).
 
 If a reply doesn't come in time, that is a fault: the mark of a failed sync is made, and the run is
 killed, also one that a signal has stopped. If the disk holds the run up in a sync, it is waited for
@@ -30,8 +31,7 @@ from .telling import note
 BATCH = 16
 # Refusals, by their numbers (docs/formats.md).
 NO_SUCH_SCOPE, TOO_MANY_SCOPES, TOO_MANY_GROUPS, TOO_MANY_TASKS = 1, 7, 8, 9
-ALREADY_DONE, LIMIT_WHILE_ACTIVE, WAITED, CLOCK_NOT_FORWARD = 12, 13, 15, 17
-NOTHING_READY, SESSION_FULL = 19, 21
+ALREADY_DONE, CLOCK_NOT_FORWARD, NOTHING_READY = 12, 17, 19
 FULL = (TOO_MANY_SCOPES, TOO_MANY_GROUPS, TOO_MANY_TASKS)
 SECONDS = 30.0
 # A word reads a whole store, or makes one; a session begins with that, too.
@@ -72,10 +72,6 @@ class NightEnded(Exception):
 
 class NotStarted(OSError):
     """The system has no process, or no memory, for another run of `night`."""
-
-
-class SessionFull(Exception):
-    """The log of the session is full. The next run of `night` begins with an empty one."""
 
 
 def program() -> str:
@@ -167,57 +163,34 @@ def refusal(reply: str) -> int | None:
 
 
 def of_session(store: str) -> Tried:
-    """What the environment of a `night script` says, as the environment of a try names the try."""
-    return Tried(store, OF_ALL, "script", 0)
+    """What the environment of such a run says, as the environment of a try names the try."""
+    return Tried(store, OF_ALL, "night", 0)
 
 
-class Session:
-    """A run of `night script` over a store. While a reply is waited for, what comes by `wake` is
-    served by `meanwhile`, which says how many seconds may still pass, if fewer than usual; `asked`
-    grows with each signal that asks for an end."""
+class Talk:
+    """A run of `night` over a store that answers what is written to it, part by part. While an
+    answer is waited for, what comes by `wake` is served by `meanwhile`, which says how many seconds
+    may still pass, if fewer than usual; `asked` grows with each signal that asks for an end."""
 
-    def __init__(self, store: str, wake: int, meanwhile: Callable[[], float],
+    def __init__(self, word: str, store: str, wake: int, meanwhile: Callable[[], float],
                  asked: Callable[[], int] = lambda: 0) -> None:
-        self.store, self.meanwhile, self.asked = store, meanwhile, asked
+        self.store, self.wake, self.meanwhile, self.asked = store, wake, meanwhile, asked
         with starting():
             self.it = subprocess.Popen(
-                [program(), "script", store], stdin=subprocess.PIPE, stdout=subprocess.PIPE,
+                [program(), word, store], stdin=subprocess.PIPE, stdout=subprocess.PIPE,
                 stderr=subprocess.PIPE, bufsize=0, start_new_session=True,
                 env={**os.environ, **of_session(store).environment()})
         assert self.it.stdin and self.it.stdout and self.it.stderr
         self.lines, self.replies, self.errors = self.it.stdin, self.it.stdout, self.it.stderr
         os.set_blocking(self.replies.fileno(), False)
-        self.poll = select.poll()
-        self.poll.register(self.replies, select.POLLIN)
-        self.poll.register(wake, select.POLLIN)
+        os.set_blocking(self.lines.fileno(), False)
         self.left = b""
         self.has_replied = False
 
-    def ask(self, lines: Sequence[str], may: Sequence[int] = ()) -> list[str]:
-        """The replies to these lines. A refusal is a fault, unless its number is one of `may`: then
-        the refusal is the reply."""
-        replies: list[str] = []
-        for at in range(0, len(lines), BATCH):
-            part = lines[at:at + BATCH]
-            try:
-                self.lines.write("".join(f"{it}\n" for it in part).encode("ascii"))
-            except BrokenPipeError:
-                raise self.lost() from None
-            replies += self.read(len(part))
-        numbers = [refusal(it) if it.startswith("refused") else None for it in replies]
-        if SESSION_FULL in numbers:
-            raise SessionFull
-        for line, reply, number in zip(lines, replies, numbers):
-            if reply == "bad line" or number is not None and number not in may:
-                raise Fault(f"`{line}`: {reply}")
-        return replies
-
-    def read(self, count: int) -> list[str]:
-        """This many replies."""
-        began = time.monotonic()
-        while self.left.count(b"\n") < count:
-            if b"fault " in self.left:
-                raise self.lost()
+    def answer(self, lines: Sequence[str], is_whole: Callable[[bytes], bool]) -> None:
+        """Writes lines, and reads until `left` has the whole answer to them."""
+        began, rest = time.monotonic(), memoryview("".join(f"{it}\n" for it in lines).encode("ascii"))
+        while rest or not is_whole(self.left):
             limit = min(SECONDS if self.has_replied else WHOLE_SECONDS, self.meanwhile())
             left = began + limit - time.monotonic()
             if left <= 0:
@@ -225,14 +198,25 @@ class Session:
                     raise NightEnded(-signal.SIGKILL, f"no reply within {limit:.0f} s")
                 began = time.monotonic()
                 continue
-            self.poll.poll(min(left, 1.0) * 1000)
+            poll = select.poll()
+            poll.register(self.replies, select.POLLIN)
+            poll.register(self.wake, select.POLLIN)
+            if rest:
+                poll.register(self.lines, select.POLLOUT)
+            poll.poll(min(left, 1.0) * 1000)
+            rest = self.write(rest)
             self.fill()
         self.has_replied = True
-        *lines, self.left = self.left.split(b"\n", count)
-        found = [it.decode("ascii", "replace") for it in lines]
-        if any(it.startswith("fault ") for it in found):
-            raise self.lost()
-        return found
+
+    def write(self, rest: memoryview) -> memoryview:
+        """What is left once as much as its input takes was written."""
+        try:
+            return rest[os.write(self.lines.fileno(), rest):] if rest else rest
+        except BlockingIOError:
+            return rest
+        except BrokenPipeError:
+            self.fill()  # (its last answer may say why it ended)
+            raise self.lost() from None
 
     def fill(self) -> None:
         """Takes in what it has printed so far."""
@@ -299,3 +283,28 @@ class Session:
         for it in (self.lines, self.replies, self.errors):
             with contextlib.suppress(OSError):
                 it.close()
+
+
+class Session(Talk):
+    """A run of `night script`."""
+
+    def __init__(self, store: str, wake: int, meanwhile: Callable[[], float]) -> None:
+        super().__init__("script", store, wake, meanwhile)
+
+    def ask(self, lines: Sequence[str], may: Sequence[int] = ()) -> list[str]:
+        """The replies to these lines. A refusal is a fault, unless its number is one of `may`: then
+        the refusal is the reply."""
+        replies: list[str] = []
+        for at in range(0, len(lines), BATCH):
+            part = lines[at:at + BATCH]
+            self.answer(part, lambda left, count=len(part): (  # type: ignore[misc]
+                left.count(b"\n") >= count or b"fault " in left))
+            *found, self.left = self.left.split(b"\n", len(part))
+            replies += [it.decode("ascii", "replace") for it in found]
+            if any(it.startswith("fault ") for it in replies):
+                raise self.lost()
+        for line, reply in zip(lines, replies):
+            number = refusal(reply)
+            if reply == "bad line" or number is not None and number not in may:
+                raise Fault(f"`{line}`: {reply}")
+        return replies

@@ -1,20 +1,19 @@
-"""What passes between the part of a driver that decides and the part that executes; nothing else
-does.
+"""What passes between the part of a driver that speaks with `night drive` and the part that
+executes; nothing else does.
 
-What decides a night (`decider`, `starts`, `sessions`, `scoping`, `obeying`, `taking`, over the
-`course`) says which command begins as which try, and which has to stop. It knows no process, no
-output and no file of a try. What executes (`executor`, `own`, and what these use) spawns commands,
-waits for them, stops them, keeps their outputs and writes the log. It knows no retry, no deadline
-and no scope of a store.
+What speaks with it (`driving`, `sessions`, and what these use, over the `course`) knows no process,
+no output and no file of a try. What executes (`executor`, `own`, and what these use) spawns
+commands, waits for them, stops them, keeps their outputs and writes the log. It knows no retry, no
+deadline and no scope of a store.
 
-These are the words of `night drive` (docs/formats/drive.md), so that it can decide one day in place
-of the first part:
+These are the words of `night drive` (docs/formats/drive.md):
 
     begin       `OwnCommands.expect`, and `begin` once it is bound to its `Task`
+    rebound     `OwnCommands.bind`
     stop        a `Stop`, for which `Executor.press` asks of each command
     durable     `OwnCommands.durable`
     ended, gone `OwnCommands.ended`, which yields an `Ended` for each try that is over
-    lives       `Executor.living`; which of those of earlier drivers count says a `Counting`
+    lives       `lives.living`; which of those of earlier drivers count says a `Counting`
 """
 
 from __future__ import annotations

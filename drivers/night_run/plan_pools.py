@@ -5,7 +5,6 @@ together, and then come the groups with a limit, and the pools that the file of 
 from __future__ import annotations
 
 from . import Name
-from .facts import Facts
 from .jobs import Jobs
 
 
@@ -20,7 +19,11 @@ class PlanPools:
 
     def limited(self) -> list[str]:
         """The groups that have a limit now."""
-        return [it for it in self.jobs.members if self.jobs.limit(it) is not None]
+        return self.limited_in(self.jobs)
+
+    @staticmethod
+    def limited_in(jobs: Jobs) -> list[str]:
+        return [it for it in jobs.members if jobs.limit(it) is not None]
 
     def fit(self) -> None:
         """Gives a pool to each group that has a limit now."""
@@ -41,13 +44,13 @@ class PlanPools:
         job = self.jobs.all.get(name)
         return found + [(self.named[pool], amount) for pool, amount in (job.uses if job else ())]
 
-    def room(self, facts: Facts, running: set[Name], most: int) -> list[str]:
+    def room(self, busy: set[Name], running: set[Name], most: int) -> list[str]:
         """The lines for pools that have another size. What has its place though it isn't written
         as busy makes a pool smaller, and what has none any more makes it larger."""
         sizes = {0: most, **{pool: self.jobs.limit(group) or 0
                              for group, pool in self.pools.items()},
                  **{pool: self.jobs.pools[name] for name, pool in self.named.items()}}
-        for name in facts.busy ^ running:
+        for name in busy ^ running:
             for pool, amount in self.takes(name):
                 sizes[pool] += amount if name in running else -amount
         lines = [f"size {pool} {max(0, size)}" for pool, size in sizes.items()

@@ -7,7 +7,7 @@ the file takes its place as well, so a pool has then that much less.
 
 from __future__ import annotations
 
-from collections.abc import Callable, Collection, Iterable
+from collections.abc import Callable, Iterable
 from dataclasses import dataclass
 
 from . import Fault, Name
@@ -60,7 +60,6 @@ class Planner:
         self.done: set[str] = set()
         self.running: set[Name] = set()  # those that were written as busy
         self.busy: set[Name] = set()
-        self.held: set[Name] = set()
         self.choice: Choice | None = None
 
     def fit(self) -> None:
@@ -72,23 +71,19 @@ class Planner:
 
     # --- questions
 
-    def choose(self, facts: Facts, most: int, now: float, held: Collection[Name] = ()) -> Choice:
-        """What may begin now, at most this many at a time, and what has to stop. The failures of
-        those that are held aren't durable yet: no other try of them begins."""
-        choice = self.answer(facts, most, now, {*held} - facts.busy)
+    def choose(self, facts: Facts, most: int, now: float) -> Choice:
+        """What may begin now, at most this many at a time, and what has to stop."""
+        choice = self.answer(facts, most, now)
         assert isinstance(choice, Choice)
         return choice
-
-    def first(self, facts: Facts, now: float) -> Choice:
-        """What may begin now, if there is a place for it, or when the next retry is due."""
-        return self.choose(facts, len(facts.busy) + 1, now)
 
     def standings(self, facts: Facts) -> dict[Name, Standing]:
         """How each command of the file stands, in the file's order. What was decided when the night
         ended stays so, though a deadline has passed since."""
         found: dict[Name, Standing] = {}
+        self.cancel_after_failures(facts)
         for its in (*facts.at_its_end(), facts):
-            words = self.answer(its, None, None, set())
+            words = self.answer(its, None, None)
             assert isinstance(words, dict)
             decided = {name: it for name, it in found.items() if it.is_final}
             found = Shown(self.jobs, its, words).all() | decided
@@ -96,12 +91,22 @@ class Planner:
                 break
         return found
 
-    def answer(self, facts: Facts, most: int | None, now: float | None,
-               held: set[Name]) -> Choice | dict[Name, str]:
+    def cancel_after_failures(self, facts: Facts) -> None:
+        """Takes in which groups a failure has canceled: the store has no row for that."""
+        for group, its in self.jobs.members.items():
+            failed = [it for it in its if it in facts.ends and not facts.ends[it].is_canceled
+                      and self.has_failed(facts, self.jobs.all[it], facts.ends[it])] \
+                if self.jobs.cancels(group) and group not in facts.done else []
+            if failed:
+                first = min(failed, key=lambda it: facts.failed_at.get(it, 0.0))
+                facts.cancel(group, facts.ends[first].text)
+
+    def answer(self, facts: Facts, most: int | None,
+               now: float | None) -> Choice | dict[Name, str]:
         """The answer to a round; a process that is killed is followed by another one."""
         for left in reversed(range(MOST_KILLED)):
             try:
-                return self.round(facts, most, now, held)
+                return self.round(facts, most, now)
             except NightEnded as ended:
                 self.forget()
                 if ended.status >= 0 or not left:
@@ -111,8 +116,8 @@ class Planner:
                 raise
         raise AssertionError
 
-    def round(self, facts: Facts, most: int | None, now: float | None,
-              held: set[Name]) -> Choice | dict[Name, str]:
+    def round(self, facts: Facts, most: int | None,
+              now: float | None) -> Choice | dict[Name, str]:
         if not self.done <= facts.done.keys():
             self.close()
         self.fit()
@@ -120,9 +125,9 @@ class Planner:
             self.begin()
         if self.moments.look(now):
             self.choice = None
-        lines = self.news(facts, held)
+        lines = self.news(facts)
         if most is not None:
-            lines += self.pools.room(facts, self.running, most)
+            lines += self.pools.room(facts.busy, self.running, most)
         if now is not None:
             lines += self.clock(now, bool(lines))
         if most is None:
@@ -146,9 +151,8 @@ class Planner:
         of a command that runs."""
         assert self.asking
         it = read_answer(self.asking.ask(lines), len(self.names))
-        taken = self.busy | self.held
         for number in it.begins:
-            if self.names[number] in taken:
+            if self.names[number] in self.busy:
                 raise wrong(f"begin {number}")
         if it.later is not None and it.later <= self.moments.moment and "standings" not in lines:
             raise wrong(f"later {it.later}")
@@ -156,29 +160,28 @@ class Planner:
 
     # --- what is written to it
 
-    def news(self, facts: Facts, held: set[Name]) -> list[str]:
+    def news(self, facts: Facts) -> list[str]:
         """The lines for what has changed since the last ones."""
         names: Iterable[Name] = self.names
         if self.facts is facts:
-            names = (facts.changed | (facts.busy ^ self.busy) | (held ^ self.held)) \
-                & self.numbers.keys()
+            names = (facts.changed | (facts.busy ^ self.busy)) & self.numbers.keys()
         lines = [f"done {self.groups[it]}" for it in facts.done.keys() - self.done
                  if it in self.groups]
         self.done |= facts.done.keys()
         for name in names:
             at = self.numbers[name]
-            line = self.fact(facts, self.jobs.all[name], at, held)
+            line = self.fact(facts, self.jobs.all[name], at)
             if line != self.written[at]:
                 lines.append(line)
                 self.written[at] = line
                 is_busy = line.startswith("busy ")
                 (self.running.add if is_busy else self.running.discard)(name)
-        self.facts, self.busy, self.held = facts, set(facts.busy), held
+        self.facts, self.busy = facts, set(facts.busy)
         facts.changed.clear()
         self.choice = None if lines else self.choice
         return lines
 
-    def fact(self, facts: Facts, job: Job, at: int, held: set[Name]) -> str:
+    def fact(self, facts: Facts, job: Job, at: int) -> str:
         """What is known of a command."""
         name = job.name
         end = facts.ends.get(name)
@@ -196,8 +199,6 @@ class Planner:
             return f"ok {at}"
         if end.is_canceled and (not self.jobs.stops(job.group) or facts.is_left_out(name)):
             return f"cut {at}"
-        if name in held and not has_failed and (job.cleans_up or job.group not in facts.done):
-            return f"busy {at}"
         count = facts.failures.get(name, 0)
         moment = self.moments.moment_of(name, facts.failed_at[name])
         if end.is_canceled or has_failed:

@@ -13,7 +13,7 @@ import contextlib
 import errno
 import os
 import time
-from collections.abc import Callable, Iterable, Iterator, Mapping
+from collections.abc import Callable, Collection, Iterable, Iterator, Mapping
 
 from . import Fault, Name
 from .ends import End
@@ -39,17 +39,20 @@ CatchUp = Callable[[Iterable[Recorded]], None]
 
 
 def renew(files: Files, log: Log, past: Past, planner: Planner, wake: int,
-          meanwhile: Callable[[], float], catch_up: CatchUp) -> tuple[Past, bool]:
-    """Renews the store. What STORE.ended says then, and whether the store could be renewed."""
+          meanwhile: Callable[[], float], catch_up: CatchUp,
+          bases: Collection[str] = ()) -> tuple[Past, bool]:
+    """Renews the store; if groups are named, it loses these alone, and nothing is said of that.
+    What STORE.ended says then, and whether the store could be renewed."""
     try:
         session, state = opened(files, inspected(files), wake, meanwhile)
         with ended(session):
             advance(session, now_of(state))
-            past = keep(files, log, past, state, state.count, catch_up)
-            give_back(session, state, past.night, needed(log, past, planner, state))
+            past = keep(files, log, past, state, state.count, catch_up, bases)
+            give_back(session, state, past.night, needed(log, past, planner, state), bases)
         printed = ran("renew", "--in-place", files.path, seconds=RENEWAL_SECONDS,
                    meanwhile=meanwhile).rstrip("\n")
-        note(f"{files.shown}: {printed}")
+        if not bases:
+            note(f"{files.shown}: {printed}")
         return past, True
     except (Fault, NightEnded, OSError) as fault:
         why = error_text(fault) if isinstance(fault, OSError) else fault
@@ -76,29 +79,37 @@ def needed(log: Log, past: Past, planner: Planner, state: State) -> set[str]:
     return groups_left(planner.standings(facts))
 
 
-def keep(files: Files, log: Log, past: Past, state: State, events: int,
-         catch_up: CatchUp) -> Past:
-    """Keeps how each command of the night has ended. Of a try that was cut off, or that lives on,
-    only the log knows from then on."""
+def keep(files: Files, log: Log, past: Past, state: State, events: int, catch_up: CatchUp,
+         bases: Collection[str] = ()) -> Past:
+    """Keeps how each command of the night has ended, or of these groups, if some are named. Of a
+    try that was cut off, or that lives on, only the log knows from then on."""
     night = max(state.night(), past.night)
     book = book_of(state, past, night)
     catch_up(recorded_in(state.reopened(), night))
     log.sync()
-    ends = ends_of(past if past.night == night else Past(), state, book)
+    old = past if past.night == night else Past()
+    ends = ends_of(old, state, book, bases)
     made = Past(events, night, max([past.round, *(it.number for it in book.rounds.values())]),
                 list(ends.values()), done_in(book, state), notes=past.notes)
     facts = facts_of(state, past, log.lines, book, time.time(), {})
-    made.failures = {name: count for name, count in facts.failures.items() if count}
+    made.failures = {name: count for name, count in facts.failures.items() if count
+                     and (not bases or name[0] in bases)}
+    made.failures.update({name: count for name, count in old.failures.items()
+                          if bases and name[0] not in bases})
     shown = {group for group, _, _ in made.ends}
     made.had = [it for it in names_had(book, state) if it not in shown and it not in made.done]
     write_past(files, made)
     return made
 
 
-def ends_of(past: Past, state: State, book: Book) -> dict[Name, tuple[str, str, End]]:
-    """The last end of each command of the night; none of one that was interrupted then."""
+def ends_of(past: Past, state: State, book: Book,
+            bases: Collection[str]) -> dict[Name, tuple[str, str, End]]:
+    """The last end of each command of the night, of which the store knows as well unless its group
+    is one of these; none of one that was interrupted then."""
     last = {(base_of(group), key): (group, key, end) for group, key, end in past.ends}
     for name, task in book.last.items():
+        if bases and name[0] not in bases:
+            continue
         if task.end and task.phase in ENDED:
             last[name] = task.group, task.key, task.end
         else:

@@ -132,15 +132,13 @@ class State:
         found = self.by_name.get(role_name(top, Role.ENDED))
         with contextlib.suppress(ValueError):
             words = (found.value or "").removeprefix("ended ") if found else ""
+            if words.isdecimal():
+                return float(words)  # (of `night drive`: the store's clock)
             # (strptime would load a module, which may not be read any more once this process has
             # become the user whose night it is)
             made = datetime.datetime.fromisoformat(words)
             return made.timestamp() if made.tzinfo else None
         return None
-
-    def has_own_deadline(self, number: int) -> bool:
-        parent = self.scopes[number].parent
-        return parent is not None and self.scopes[parent].kind == "deadline"
 
     def night(self) -> int:
         """The last night."""

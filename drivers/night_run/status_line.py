@@ -72,6 +72,7 @@ def phases_of(jobs: Jobs, facts: Facts, planner: Planner) -> dict[Name, Phase]:
     """How each command stands, as far as the driver knows without asking."""
     found: dict[Name, Phase] = {}
     stopped: set[str] = set()
+    done = {*facts.done}
     for name, job in jobs.all.items():
         end = facts.ends.get(name)
         is_due = job.is_due(facts.day) or name in facts.tonight.redo
@@ -86,11 +87,12 @@ def phases_of(jobs: Jobs, facts: Facts, planner: Planner) -> dict[Name, Phase]:
         elif planner.has_failed(facts, job, end):
             found[name] = Phase.CANCELED if end.is_canceled else Phase.FAILED
             stopped |= {job.group} if jobs.stops(job.group) else set()
+            done |= {job.group} if jobs.cancels(job.group) and not end.is_canceled else set()
         else:
             found[name] = Phase.WAITING
     for name, phase in found.items():
         if phase == Phase.WAITING and not jobs.cleans_up(name):
-            if name[0] in facts.done:
+            if name[0] in done:
                 found[name] = Phase.CANCELED
             elif name[0] in stopped:
                 found[name] = Phase.NOT_STARTED

@@ -10,65 +10,49 @@ from __future__ import annotations
 import datetime
 import itertools
 import time
-from collections.abc import Callable
 from dataclasses import replace
 from typing import TYPE_CHECKING
 
 from .changes import Change, Night, Refused
-from .ends import canceled
 from .facts import Book, Facts, reopened_groups
 from .past import Past
 from .petitions import FAILED, REFUSED, Petition, Petitions
 from .phases import Phase
+from .plan_pools import PlanPools
 from .report_words import moment
 from .rounds import Round
 from .settings import OF_ALL
-from .standing import Standing, groups_left
+from .standing import Standing
 from .telling import error_text, note, tell
 from .tonight import Tonight, write_notes
 from .wants import By, Verb, Want
 
 if TYPE_CHECKING:
-    from .batches import Batch
     from .course import Course
-    from .executor import Executor
     from .files import Files
     from .jobs import Jobs
 
 
-class ScopesWanted(Exception):
-    """A group without a scope that it can have tasks in has something to do: the next session makes
-    one."""
+class PlanWanted(Exception):
+    """What is wanted makes another plan: the next session has it."""
 
 
 class Taker:
     """What is wanted of a driver's night."""
 
-    def __init__(self, course: Course, executor: Executor) -> None:
-        self.course, self.executor = course, executor
+    def __init__(self, course: Course) -> None:
+        self.course = course
         self.desk = Petitions(course.files)
-        self.wants_scopes = False
         self.answers: dict[str, str] = {}  # those that are given, by the names of the requests
 
     @property
     def its(self) -> Tonight:
         return self.course.book.tonight
 
-    @property
-    def is_paused(self) -> bool:
-        return self.its.paused is not None
-
-    @property
-    def most(self) -> int:
-        """How many commands may run at a time now."""
-        return 0 if self.is_paused else self.its.most or self.course.most
-
-    def take(self, batch: Batch, send: Callable[[Batch], None]) -> None:
-        """Takes what is wanted now, and answers. What this batch has is acked first: a command may
-        be to run again whose end it has."""
+    def take(self) -> None:
+        """Takes what is wanted now, and answers. All that was reported is durable by then: a
+        command may be to run again whose end it was."""
         requests = self.desk.requests()
-        if requests and batch.lines:
-            send(batch)
         # (one whose answer couldn't be written is there again, and isn't taken twice)
         self.answers = {it.name: self.answers[it.name] for it in requests
                         if it.name in self.answers}
@@ -118,34 +102,18 @@ class Taker:
         course.facts.stay_canceled(its.canceled, time.time())
         course.facts.changed |= course.jobs.all.keys()
         course.book.close_old()
-        self.set_limits(its.limits)
-        for name in self.executor.own.unbegun():
-            if by := course.facts.left_out(name):
-                self.executor.own.never(name, canceled(by))
-        again = reopened_groups(course.book, course.facts)
-        course.reopened |= again
-        is_full = course.capacity.is_full
-        self.wants_scopes |= not is_full and bool(again or self.groups_without_scope())
+        limited = PlanPools.limited_in(course.jobs)
+        course.jobs.limits = its.limits
+        course.reopened |= reopened_groups(course.book, course.facts)
+        course.wants_plan |= limited != PlanPools.limited_in(course.jobs) or any(
+            getattr(before, what) != getattr(its, what)
+            for what in ("skip", "only", "redo", "canceled"))
         course.is_woken = True
 
-    def groups_without_scope(self) -> set[str]:
-        """The groups that have something to do now, and had nothing as the session was opened: all
-        of it was left out, or not due."""
-        course = self.course
-        return groups_left(course.planner.standings(course.facts)) - course.book.scopes.keys()
-
-    def set_limits(self, limits: dict[str, int]) -> None:
-        """A group whose limit was set begins in a group of the store that has none."""
-        book = self.course.book
-        self.course.jobs.limits = limits
-        for base in limits:
-            if base in book.groups and book.limits.get(book.groups[base]) is not None:
-                del book.groups[base]
-
-    def look_for_scopes(self) -> None:
-        if self.wants_scopes:
-            self.wants_scopes = False
-            raise ScopesWanted
+    def look_for_plan(self) -> None:
+        if self.course.wants_plan and not self.course.missing:
+            self.course.wants_plan = False
+            raise PlanWanted
 
     def tidy(self) -> None:
         """What was wanted of earlier nights is over, now that this one is there."""

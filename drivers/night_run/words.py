@@ -25,7 +25,8 @@ from .canceling import cancel, obeys
 from .changes import Night
 from .counted import Counted
 from .exits import Hooks, Outcome, hooks_of, outcome_of
-from .facts import Book, Facts, book_of, facts_of, groups_of, logged_groups, when_ended
+from .facts import (Book, Facts, book_of, facts_of, groups_of, logged_groups, recorded_in,
+                    when_ended)
 from .files import Files, become_owner
 from .jobs import Jobs
 from .keeping import Keeper
@@ -536,7 +537,7 @@ class Run:
         """The night after a fault: as the driver knows it, or as the store has it; else None."""
         driver = self.driver
         if driver and driver.course.has_looked:
-            return remembered(self.files, self.jobs, driver.course.night, driver.decider.known(),
+            return remembered(self.files, self.jobs, driver.course.night, driver.driving.known(),
                               {name: it.output for name, it in driver.executor.own.ran.items()})
         try:
             return report(self.files, self.jobs, look(self.files, self.planner)) \
@@ -573,6 +574,7 @@ class Run:
         self.keeper.look(max(state.night(), self.past.night),
                          bool(state.scopes[1:] or self.past.round))
         driver = self.begin_driver(tries, left)
+        driver.executor.catch_up(recorded_in(state, max(state.night(), self.past.night)))
         self.rest.is_due = self.words.nightly and is_left(state, self.past)
         last = max(state.night(), self.past.night)
         driver.course.next_night = last + 1 if self.rest.is_due else 0
@@ -598,7 +600,7 @@ class Run:
     def is_over(self, driver: Driver) -> bool:
         """Whether the rest of the last night is done, so that tonight's may begin."""
         return not self.signals.steps and all(
-            it.is_final for it in driver.decider.known().values())
+            it.is_final for it in driver.driving.known().values())
 
     def first_look(self) -> State:
         """The state of the store. One whose sync failed is mended by an opening first."""
