@@ -39,14 +39,17 @@ class DrivePlan:
         self.failed = collections.Counter(
             it.name for it in state.tasks if it.group in ours and it.phase == "error"
             and not it.is_withdrawn and it.end and not it.end.is_canceled)
-        self.names = [name for name in self.jobs.all if name in living or self.is_in(name)]
+        its = [name for name in self.jobs.all if name in living or self.is_in(name)]
+        self.names = self.fitting(its, living)
+        self.is_partial = len(self.names) < len(its)
         self.numbers = {name: at for at, name in enumerate(self.names)}
         with_commands = {group for group, _ in self.names}
-        its = [it for it in self.jobs.members if it in with_commands or it in course.book.groups]
+        groups = [it for it in self.jobs.members
+                  if it in with_commands or it in course.book.groups]
         self.is_empty_wanted = False
-        self.groups = {group: at for at, group in enumerate(its)}
+        self.groups = {group: at for at, group in enumerate(groups)}
         self.empty = next((at for group, at in self.groups.items() if group not in with_commands),
-                          len(its))
+                          len(groups))
         self.pools = PlanPools(self.jobs)
         self.pools.fit()
         self.gates = self.gated()
@@ -60,6 +63,26 @@ class DrivePlan:
         it = self.found[name]
         is_kept = it.phase == Phase.FAILED and self.failed[name] > 0
         return not it.is_final or is_kept and way_of(self.jobs, name[0]) != "go-on"
+
+    def fitting(self, names: list[Name], living: Collection[Name]) -> list[Name]:
+        """Those of these commands for whose groups the store has room, and that come after none of
+        the others. The next plan has more, once the store was renewed."""
+        room = self.state.room["groups"] - len(self.state.groups) - 1
+        there = {*self.course.book.groups, *(group for group, _ in living)}
+        groups = list(dict.fromkeys(group for group, _ in names if group not in there))
+        if len(groups) <= room:
+            return names
+        there |= {*groups[:max(0, room)]}
+        found = [it for it in names if it[0] in there]
+        while True:
+            left = {*names} - {*found}
+            kept = [it for it in found if it in living or not any(
+                one in left for need in self.jobs.all[it].after
+                for one in ([need.of] if isinstance(need.of, tuple)
+                            else self.jobs.members[need.of]))]
+            if len(kept) == len(found):
+                return found
+            found = kept
 
     def gated(self) -> dict[Name, tuple[int, float]]:
         """The commands that wait for a retry: the pool of each, and when it is due."""

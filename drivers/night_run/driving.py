@@ -20,6 +20,7 @@ from .lives import Living
 from .night import NotStarted
 from .orders import Ended, Recorded, Stop, Task
 from .restarts import Restarts
+from .rounds import round_of
 from .signals import Asked
 from .standing import Standing
 from .telling import error_text, tell_once
@@ -102,8 +103,10 @@ class Driving:
         self.record(ends)
         self.obey(answer)
         if "over" in answer.said:
-            self.is_over = True
             self.leave()
+            if self.plan.is_partial:
+                raise StoreFull
+            self.is_over = True
 
     def time(self) -> float:
         """The machine's clock, as it goes on where it was set back: the store's would stand still,
@@ -260,6 +263,8 @@ class Driving:
 
     def bind(self, name: Name, task: Task) -> None:
         self.bound[name] = task
+        rounds, made = self.course.book.rounds, round_of(task.group)
+        rounds[name[0]] = max(rounds.get(name[0], made), made)
         self.course.capacity.started()
         if name in self.executor.own.its:
             self.executor.own.bind(name, task)

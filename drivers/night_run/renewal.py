@@ -89,9 +89,11 @@ def keep(files: Files, log: Log, past: Past, state: State, events: int, catch_up
     log.sync()
     old = past if past.night == night else Past()
     ends = ends_of(old, state, book, bases)
-    made = Past(events, night, max([past.round, *(it.number for it in book.rounds.values())]),
-                list(ends.values()), done_in(book, state), notes=past.notes)
     facts = facts_of(state, past, log.lines, book, time.time(), {})
+    # (a deadline that passed after the night's end changed nothing of it)
+    done = {name: why for name, why in done_in(book).items() if base_of(name) not in facts.late}
+    made = Past(events, night, max([past.round, *(it.number for it in book.rounds.values())]),
+                list(ends.values()), done, notes=past.notes)
     made.failures = {name: count for name, count in facts.failures.items() if count
                      and (not bases or name[0] in bases)}
     made.failures.update({name: count for name, count in old.failures.items()
@@ -117,7 +119,7 @@ def ends_of(past: Past, state: State, book: Book,
     return last
 
 
-def done_in(book: Book, state: State) -> dict[str, str]:
+def done_in(book: Book) -> dict[str, str]:
     """The groups of the night that are done, with the cause."""
     gone: Mapping[str, str] = book.gone
     found = dict(gone)

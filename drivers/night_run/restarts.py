@@ -38,6 +38,10 @@ class Restarts:
         self.busy += 1
         return True
 
+    def give_up(self, ended: NightEnded) -> None:
+        """The store was waited for already."""
+        self.busy = MOST_BUSY if ended.is_in_use() else self.busy
+
     def may_begin(self, ended: NightEnded, is_marked: bool) -> bool:
         """Whether another one may begin. One that couldn't open the store wouldn't in the next
         run, but for one whose sync failed (it is marked), or that a signal ended."""

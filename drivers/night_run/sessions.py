@@ -28,7 +28,7 @@ from .opening import advance, inspected, now_of, opened
 from .preparing import Preparing, prepare
 from .renewal import ended, renew
 from .restarts import Restarts
-from .rounds import Role, role_name, round_of
+from .rounds import Role, Round, role_name, round_of
 from .settings import OF_ALL
 from .signals import Signals
 from .state import ENDED, Scope, State
@@ -53,7 +53,7 @@ class Sessions:
         """Opens the store, and gives `night drive` the plan of what is left."""
         course, executor = self.course, self.executor
         self.restarts.begin()
-        state, self.before = self.before or inspected(self.files), None
+        state, self.before = self.before or self.look(), None
         executor.catch_up(recorded_in(state.reopened(), course.night))
         self.take_in(state)
         if self.is_hidden(state):
@@ -67,6 +67,7 @@ class Sessions:
             note(f"{group}: its deadline is now: {self.jobs_deadline(group)}")
         self.begin(state, plan, lines)
         self.note_night(tops)
+        self.note_names(plan)
         lives = lives_of(names, course.book, state)
         for it in lives:
             if it.name in executor.own.its:
@@ -74,6 +75,14 @@ class Sessions:
         executor.catch_up(recorded_in(state.reopened(), course.night))
         self.driving.begin(self.running(), plan, lives, state.clock)
         course.reopened.clear()
+
+    def look(self) -> State:
+        """The state of the store, for which it was waited as long as may be."""
+        try:
+            return inspected(self.files)
+        except NightEnded as ended:
+            self.restarts.give_up(ended)
+            raise
 
     def jobs_deadline(self, group: str) -> str:
         return str(self.course.jobs.groups[group].deadline or "none")
@@ -182,6 +191,16 @@ class Sessions:
             first = round_of(its[0].name).number if its else book.night
             self.keeper.begin(book.night, first, is_new)
         course.night, course.begins_night = book.night, False
+
+    def note_names(self, plan: DrivePlan) -> None:
+        """Notes which names `night drive` has used for the groups of the plan, at least: what is to
+        run again counts from a later one on."""
+        book = self.course.book
+        book.round = max(book.round, Round(book.night))
+        for group in (OF_ALL, *plan.groups):
+            had = book.rounds.get(group, Round(0))
+            made = had.next() if plan.has_other(group) else had
+            book.rounds[group] = max(made, Round(book.night))
 
     # --- its end, and the next one
 
