@@ -36,6 +36,7 @@ class Course:
         self.has_looked = False  # whether `facts` are those of the store
         self.has_mark = False  # whether the store says that the night has ended
         self.is_woken = False  # whether another round is due at once
+        self.is_asked = False  # whether an operator wants something that isn't taken yet
         self.wants_plan = False  # whether `night drive` is to get another plan
         self.hides: set[str] = set()  # groups whose tasks hide that a command is to run again
         self.has_unlogged = False  # whether the store has ends of commands that never began

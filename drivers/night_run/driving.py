@@ -86,6 +86,7 @@ class Driving:
         course = self.course
         is_closed = self.asked.steps or course.capacity.is_full or course.missing
         its = course.book.tonight
+        is_closed = is_closed or course.is_asked
         return 0 if is_closed or its.paused else its.most or course.most
 
     def ask(self, ends: list[Ended], has_failed: bool = False) -> None:
@@ -168,19 +169,20 @@ class Driving:
         another try begins."""
         left, own = self.executor.left, self.executor.own
         for it in left.over():
-            left.drop(it)
             task = self.bound.get(it.name) if it.counts and it.name not in own.its else None
             if task and it.job and it.is_known():
+                left.drop(it)
                 self.executor.adopt(it, it.job)
                 own.bind(it.name, task)
                 own.its[it.name].ordered = self.order(it.name)
                 self.course.is_woken = True
                 continue
-            left.forget(it)
             if task:
                 self.bound.pop(it.name)
                 self.course.facts.cut_off(it.name)
-                self.gone(it.name, task)
+                self.gone(it.name, task)  # (the log has its begin as long as it is in sight)
+            left.drop(it)
+            left.forget(it)
             if it.name not in own.its:
                 self.lose(it.name)
 

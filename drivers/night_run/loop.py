@@ -127,6 +127,7 @@ class Driver:
         self.course.is_woken = False
         self.files.sight.look()
         self.canceler.look()
+        self.taker.look()
         self.driving.round()
         self.canceler.answer()
         self.driving.begin_those_held()

@@ -240,7 +240,9 @@ class Sessions:
             self.files.sight.let_go()
             course.past, is_renewed = renew(
                 self.files, self.executor.log, course.past, course.planner, self.signals.wake,
-                self.meanwhile, self.executor.catch_up, course.hides)
+                self.meanwhile, self.executor.catch_up,
+                # (with a done scope the store loses when the night ended first)
+                course.hides | course.facts.late if course.hides else ())
             if is_renewed and course.hides:
                 return
             capacity.renewed()

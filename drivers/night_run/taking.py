@@ -43,16 +43,25 @@ class Taker:
     def __init__(self, course: Course) -> None:
         self.course = course
         self.desk = Petitions(course.files)
+        self.requests: list[Petition] = []
         self.answers: dict[str, str] = {}  # those that are given, by the names of the requests
 
     @property
     def its(self) -> Tonight:
         return self.course.book.tonight
 
+    def look(self) -> None:
+        """Sees what is wanted. Nothing begins before it is taken: it may be about what comes after
+        the very command that ends now."""
+        self.requests = self.desk.requests()
+        self.course.is_asked = bool(self.requests)
+
     def take(self) -> None:
-        """Takes what is wanted now, and answers. All that was reported is durable by then: a
-        command may be to run again whose end it was."""
-        requests = self.desk.requests()
+        """Takes what is wanted, and answers. All that was reported is durable by then: a command
+        may be to run again whose end it was."""
+        requests, self.requests = self.requests, []
+        self.course.is_woken |= self.course.is_asked
+        self.course.is_asked = False
         # (one whose answer couldn't be written is there again, and isn't taken twice)
         self.answers = {it.name: self.answers[it.name] for it in requests
                         if it.name in self.answers}
