@@ -13,6 +13,21 @@ pub record FolderState : Type 0 where
   -- each file, by its number
   pub file : ℕ → FileState
 
+-- A call of a folder that may return an error. The names, and the file, are those that it is about.
+pub data FolderCall : Type 0 where
+  -- to find the file of a name
+  ToLookUp : (name : List ℕ) → FolderCall
+  -- the same through a link
+  ToFollow : (name : List ℕ) → FolderCall
+  -- to return the identity of an open file
+  ToIdentify : (file : ℕ) → FolderCall
+  -- to create the file of a name
+  ToCreate : (name : List ℕ) → FolderCall
+  -- to remove a name
+  ToRemove : (name : List ℕ) → FolderCall
+  -- to sync the names in the folder of a name
+  ToSync : (name : List ℕ) → FolderCall
+
 -- A crash now may leave the name leading to a file with these bytes.
 pub record MayHold (s : FolderState) (name : List ℕ) (x : List ℕ) : Type 0 where
   pub file : ℕ

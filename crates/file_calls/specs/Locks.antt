@@ -1,6 +1,6 @@
 -- Locks of files, as contracts see them.
-use Rattle.std.specs.Prelude.{◌&&◌, ◌||◌, ◌++◌, ◌∷◌, [], ℕ, Bool, not, List, fold, nat_eq}
-use Rattle.std.specs.Prelude.{if◌then◌else◌}
+use Rattle.std.specs.Prelude.{◌≡◌, ◌&&◌, ◌||◌, ◌++◌, ◌∷◌, [], ℕ, Bool, true, false, not, List}
+use Rattle.std.specs.Prelude.{fold, nat_eq, if◌then◌else◌}
 use Rattle.std.specs.List.{filter, list_any}
 use Rattle.file_calls.specs.declared.locks.Lock.{Lock}
 
@@ -8,6 +8,16 @@ use Rattle.file_calls.specs.declared.locks.Lock.{Lock}
 -- excludes all others.
 abbrev pub excludes : Lock → (held : Lock) → Bool
 excludes lock held = nat_eq held.file lock.file && (lock.is_alone || held.is_alone)
+
+-- The lock was free, and is held now.
+pub record Takes (lock : Lock) (old new : List Lock) : Type 0 where
+  pub free : list_any (excludes lock) old ≡ false
+  pub held : new ≡ old ++ lock ∷ []
+
+-- Another lock that is held excludes this one, and nothing has changed.
+pub record IsBusy (lock : Lock) (old new : List Lock) : Type 0 where
+  pub taken : list_any (excludes lock) old ≡ true
+  pub same : new ≡ old
 
 -- The locks of all other openings.
 abbrev pub without : (holder : ℕ) → List Lock → List Lock

@@ -1,9 +1,10 @@
 //! A [`Folder`] is a folder and the files in it, whose calls have one past.
 
 ghost use Rattle.std.specs.Prelude.{◌≡◌, ◌≤◌, ◌⊎◌, ◌∷◌, [], ◌++◌, ◌+◌, List, ℕ, None, Some, map};
-ghost use Rattle.std.specs.Prelude.{IfOk, OnErr, OnOk, length, slice_range};
-ghost use Rattle.file_calls.specs.Folders.{AreSame, CreatesFile, FolderState, IsOnly};
-ghost use Rattle.file_calls.specs.Folders.{IsSameFolder, PastGoesOn};
+ghost use Rattle.std.specs.Prelude.{IfErr, IfOk, OnErr, OnOk, length, slice_range};
+ghost use Rattle.file_calls.specs.Folders.{AreSame, CreatesFile, FolderCall, FolderState, IsOnly};
+ghost use Rattle.file_calls.specs.Folders.{IsSameFolder, PastGoesOn, ToCreate, ToFollow};
+ghost use Rattle.file_calls.specs.Folders.{ToIdentify, ToLookUp, ToRemove, ToSync};
 ghost use Rattle.file_calls.specs.Names.{Renames, leads, new_step, settled_step};
 ghost use Rattle.file_calls.specs.OpenFiles.{IsSame, Settles, Writes};
 ghost use Rattle.file_calls.specs.declared.places.Place.TheVariants.{Durable, Lost};
@@ -49,8 +50,14 @@ pub trait Folder {
     /// The number of an open file.
     ghost number: { Self.File → ℕ };
 
+    /// The device of all its files.
+    ghost device: { ℕ };
+
     /// Whether it keeps the promises about its names and files, at every call.
     ghost keeps: { Self → Type 0 };
+
+    /// Whether this call failed with this error, as the last call of the folder.
+    ghost refuses: { Self → FolderCall → Self.Error → Type 0 };
 
     /// Returns what is known of the file to which a name leads. It fails if there is none.
     fn look_up(&mut self, name: &str) -> Result<Found, Self::Error>
@@ -59,7 +66,23 @@ pub trait Folder {
             → PastGoesOn (state self.old) (state self.new) (past self.old) (past self.new) result }
         ensures same { keeps self.old → IsSameFolder (state self.old) (state self.new) }
         ensures found { keeps self.old → IfOk result (λ found.
-            leads (state self.old).steps name.now ≡ Some found.inode.number) };
+            leads (state self.old).steps name.now ≡ Some found.inode.number) }
+        ensures device { keeps self.old → IfOk result (λ found. found.inode.device ≡ device) }
+        ensures refused { keeps self.old
+            → IfErr result (refuses self.new (ToLookUp name.now)) };
+
+    /// Returns the identity of the file to which a name leads, also if the name is a link. It fails
+    /// if there is none.
+    fn follow(&mut self, name: &str) -> Result<Inode, Self::Error>
+        ensures kept { keeps self.old → keeps self.new }
+        ensures goes_on { keeps self.old
+            → PastGoesOn (state self.old) (state self.new) (past self.old) (past self.new) result }
+        ensures same { keeps self.old → IsSameFolder (state self.old) (state self.new) }
+        ensures found { keeps self.old → IfOk result (λ inode.
+            leads (state self.old).steps name.now ≡ Some inode.number) }
+        ensures device { keeps self.old → IfOk result (λ inode. inode.device ≡ device) }
+        ensures refused { keeps self.old
+            → IfErr result (refuses self.new (ToFollow name.now)) };
 
     /// Returns the identity of an open file.
     fn inode(&mut self, file: &Self::File) -> Result<Inode, Self::Error>
@@ -68,7 +91,10 @@ pub trait Folder {
             → PastGoesOn (state self.old) (state self.new) (past self.old) (past self.new) result }
         ensures same { keeps self.old → IsSameFolder (state self.old) (state self.new) }
         ensures inode { keeps self.old → IfOk result (λ inode.
-            inode.number ≡ number file.now) };
+            inode.number ≡ number file.now) }
+        ensures device { keeps self.old → IfOk result (λ inode. inode.device ≡ device) }
+        ensures refused { keeps self.old
+            → IfErr result (refuses self.new (ToIdentify (number file.now))) };
 
     /// Creates a file, and opens it. It fails if the name leads to a file.
     fn create_new(&mut self, name: &str) -> Result<Self::File, Self::Error>
@@ -78,7 +104,9 @@ pub trait Folder {
         ensures creates { keeps self.old → IfOk result (λ file.
             CreatesFile name.now (number file) (state self.old) (state self.new)) }
         ensures failed { keeps self.old
-            → OnErr result (IsSameFolder (state self.old) (state self.new)) };
+            → OnErr result (IsSameFolder (state self.old) (state self.new)) }
+        ensures refused { keeps self.old
+            → IfErr result (refuses self.new (ToCreate name.now)) };
 
     /// Returns the number of bytes.
     fn size(&mut self, file: &Self::File) -> Result<u64, Self::Error>
@@ -152,7 +180,9 @@ pub trait Folder {
             ((state self.new).steps ≡ (state self.old).steps ++ new_step name.now None ∷ []) }
         ensures failed { keeps self.old
             → OnErr result (((state self.new).steps ≡ (state self.old).steps)
-            ⊎ ((state self.new).steps ≡ (state self.old).steps ++ new_step name.now None ∷ [])) };
+            ⊎ ((state self.new).steps ≡ (state self.old).steps ++ new_step name.now None ∷ [])) }
+        ensures refused { keeps self.old
+            → IfErr result (refuses self.new (ToRemove name.now)) };
 
     /// Makes durable what was done to the names in the folder of this one. If it was made and
     /// fails, that is lost.
@@ -166,5 +196,7 @@ pub trait Folder {
         ensures lost { keeps self.old
             → OnErr result (((state self.new).steps
             ≡ map (settled_step Lost) (state self.old).steps)
-            ⊎ ((state self.new).steps ≡ (state self.old).steps)) };
+            ⊎ ((state self.new).steps ≡ (state self.old).steps)) }
+        ensures refused { keeps self.old
+            → IfErr result (refuses self.new (ToSync name.now)) };
 }

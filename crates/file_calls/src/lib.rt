@@ -2,7 +2,8 @@
 //! them: [`OpenFile`] for the bytes of a file, [`FolderNames`] for names, and [`FileLocks`] for
 //! locks.
 //!
-//! A [`SystemFile`] is a file of the system, and the only place where something is believed of it.
+//! A [`SystemFile`], a [`SystemFolder`] and the [`SystemLocks`] make the calls of the system, and
+//! are the only places where something is believed of it.
 //!
 //! [`MemoryFile`], [`MemoryNames`] and [`MemoryLocks`] meet every clause in memory. They can be
 //! made to fail at any call, and say what a crash may leave. Tests use them in place of a system
@@ -24,6 +25,7 @@ mod open_files;
 mod places;
 mod system_files;
 mod system_folders;
+mod system_locks;
 
 pub use folders::{Folder, Found, Inode};
 pub use locks::{FileLocks, Lock};
@@ -36,3 +38,4 @@ pub use open_files::{CallFailed, OpenFile};
 pub use places::Place;
 pub use system_files::SystemFile;
 pub use system_folders::SystemFolder;
+pub use system_locks::SystemLocks;

@@ -22,6 +22,14 @@ use std::snapshot::Snapshot;
 #[derive(Clone, Copy, Debug)]
 pub struct MemoryNumber(u64);
 
+impl MemoryNumber {
+    pub(crate) fn number(self) -> u64
+        ensures { result ≡ self.0 }
+    {
+        self.0
+    }
+}
+
 /// A folder in memory, and the files in it. A call fails if memory for it is refused, and one call
 /// fails that was chosen by [`MemoryFolder::fail_after`].
 #[derive(Drop)]
@@ -114,12 +122,24 @@ impl Folder for MemoryFolder {
 
     ghost number = { λ file. file.0 };
 
+    ghost device = { 0 };
+
     ghost keeps = { λ folder. ⊤ };
+
+    ghost refuses = { λ folder call error. ⊤ };
 
     fn look_up(&mut self, name: &str) -> io::Result<Found> {
         self.begin_names()?;
         match self.names.found(name) {
             Ok(Some(number)) => Ok(found(number)),
+            _ => Err(failed()),
+        }
+    }
+
+    fn follow(&mut self, name: &str) -> io::Result<Inode> {
+        self.begin_names()?;
+        match self.names.found(name) {
+            Ok(Some(number)) => Ok(inode(number)),
             _ => Err(failed()),
         }
     }
@@ -192,14 +212,16 @@ fn or_failed<T>(done: Result<T, CallFailed>) -> io::Result<T>
 
 /// The identity of the file with this number.
 fn inode(number: u64) -> Inode
-    ensures { result.number ≡ number }
+    ensures number { result.number ≡ number }
+    ensures device { result.device ≡ 0 }
 {
     Inode { device: 0, number }
 }
 
 /// What is known of the file with this number, which has one name and isn't empty.
 fn found(number: u64) -> Found
-    ensures { result.inode.number ≡ number }
+    ensures number { result.inode.number ≡ number }
+    ensures device { result.inode.device ≡ 0 }
 {
     Found {
         inode: inode(number),

@@ -5,7 +5,7 @@
 //! definition here makes no use of the clauses. Each method is one call of `std`, but for the sync
 //! of a folder, which has to be opened first.
 
-ghost use Rattle.std.specs.Prelude.{[]};
+ghost use Rattle.std.specs.Prelude.{[], ⊤};
 ghost use Rattle.file_calls.specs.declared.places.Place.TheVariants.{Durable};
 
 use crate::folders::{Folder, Found, Inode};
@@ -71,8 +71,12 @@ impl<S: fs::Files<File = File>> Folder for SystemFolder<'_, S> {
 
     ghost number = { λ file. 0 };
 
+    ghost device = { 0 };
+
     // What is believed.
     ghost keeps = { λ folder. ⊥ };
+
+    ghost refuses = { λ folder call error. ⊤ };
 
     fn look_up(&mut self, name: &str) -> io::Result<Found> {
         let found = fs::symlink_metadata(self.system, name)?;
@@ -82,6 +86,10 @@ impl<S: fs::Files<File = File>> Folder for SystemFolder<'_, S> {
             links: found.nlink(),
             size: found.len(),
         })
+    }
+
+    fn follow(&mut self, name: &str) -> io::Result<Inode> {
+        Ok(Inode::of(&fs::metadata(self.system, name)?))
     }
 
     fn inode(&mut self, file: &File) -> io::Result<Inode> {

@@ -1,7 +1,8 @@
 //! Tests of the calls of files in memory: what a crash may leave of bytes and of names, who gets a
-//! lock, what a disk over a file does, and how a store is replaced or made while a call fails. The
-//! contracts of `file_calls`, `file_disk` and `store_replacement` say it for every file; these
-//! tests show that calls succeed, and that a crash really loses something.
+//! lock, what a disk over a file does, who may open a store, when its mark is left, and how it is
+//! replaced or made while a call fails. The contracts of `file_calls`, `file_disk` and
+//! `store_replacement` say it for every file; these tests show that calls succeed, and that a crash
+//! really loses something.
 #![tactic(auto)]
 
 #[cfg(test)]
@@ -14,5 +15,7 @@ mod locks;
 mod names;
 #[cfg(test)]
 mod new_files;
+#[cfg(test)]
+mod openings;
 #[cfg(test)]
 mod replacements;

@@ -1,6 +1,6 @@
 //! Who gets a lock.
 
-use file_calls::{FileLocks, Lock, MemoryLocks};
+use file_calls::{Lock, MemoryLocks};
 
 /// An opening asks for a lock on a file, alone or shared, and gets it or not; or it is closed.
 #[derive(Clone, Copy, Debug)]
@@ -32,7 +32,7 @@ fn a_lock_is_had_as_its_row_says(rt: HostRuntime) {
             Call::Alone(file, holder, is_free) => (file, holder, true, is_free),
             Call::Shared(file, holder, is_free) => (file, holder, false, is_free),
             Call::Close(holder) => {
-                locks.close(holder);
+                locks.give_back(holder);
                 continue;
             }
         };
@@ -41,7 +41,7 @@ fn a_lock_is_had_as_its_row_says(rt: HostRuntime) {
             holder,
             is_alone,
         };
-        let is_so = matches!(locks.try_lock(lock), Ok(had) if had == is_free);
+        let is_so = matches!(locks.ask(lock), Ok(had) if had == is_free);
         assert!(rt; is_so, "call {i}");
     }
 }

@@ -3,4 +3,5 @@ pub mod CallLemmas
 pub mod CopyLemmas
 pub mod MomentLemmas
 pub mod LeftLemmas
+pub mod MarkLemmas
 pub mod NewFileLemmas

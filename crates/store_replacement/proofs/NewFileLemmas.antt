@@ -209,6 +209,37 @@ leads_by_settled p name [] before = refl
 leads_by_settled p name (step ∷ steps) before =
     leads_by_settled p name steps (led_by name before step)
 
+pub leads_created : (name : List ℕ) (file : ℕ) (s t : FolderState) → CreatesFile name file s t
+    → leads t.steps name ≡ Some file
+leads_created name file s t made =
+    ap (λ steps. leads steps name) made.named.steps ∙ leads-more s.steps name (Some file)
+
+-- the name leads to the new file, whatever becomes of the sync of the names
+pub leads_synced : {T E : Type 0} (name : List ℕ) (file : ℕ) (s t u v : FolderState)
+    (r : Result T E) → CreatesFile name file s t → u.steps ≡ t.steps
+    → OnOk r (v.steps ≡ map (settled_step Durable) u.steps)
+    → OnErr r ((v.steps ≡ map (settled_step Lost) u.steps) ⊎ (v.steps ≡ u.steps))
+    → leads v.steps name ≡ Some file
+leads_synced name file s t u v r made same durable lost = go r durable lost
+  where
+    led : leads u.steps name ≡ Some file
+    led = ap (λ steps. leads steps name) same ∙ leads_created name file s t made
+
+    after : (p : Place) → v.steps ≡ map (settled_step p) u.steps → leads v.steps name ≡ Some file
+    after p steps =
+        ap (λ steps. leads steps name) steps ∙ (leads_by_settled p name u.steps None ∙ led)
+
+    either : (v.steps ≡ map (settled_step Lost) u.steps) ⊎ (v.steps ≡ u.steps)
+        → leads v.steps name ≡ Some file
+    either (inl steps) = after Lost steps
+    either (inr steps) = ap (λ steps. leads steps name) steps ∙ led
+
+    go : {T E : Type 0} (r : Result T E) → OnOk r (v.steps ≡ map (settled_step Durable) u.steps)
+        → OnErr r ((v.steps ≡ map (settled_step Lost) u.steps) ⊎ (v.steps ≡ u.steps))
+        → leads v.steps name ≡ Some file
+    go (Ok value) durable lost = after Durable durable
+    go (Err error) durable lost = either lost
+
 pub removed_leads : {T E : Type 0} (name : List ℕ) (s t : FolderState) (r : Result T E)
     → OnOk r (t.steps ≡ s.steps ++ new_step name None ∷ [])
     → OnOk r (leads t.steps name ≡ None)

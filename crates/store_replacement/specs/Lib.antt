@@ -1,2 +1,4 @@
+pub mod Marks
 pub mod NewFiles
+pub mod Openings
 pub mod Replacements

@@ -1,6 +1,7 @@
 -- What the making of a new file leaves.
 use Rattle.std.specs.Prelude.{◌≡◌, ◌⊎◌, ℕ, List, Some, true, false, bytes_eq}
-use Rattle.file_calls.specs.Folders.{FolderState, IsNew}
+use Rattle.file_calls.specs.Folders.{FolderCall, FolderState, IsNew, ToIdentify, ToLookUp}
+use Rattle.file_calls.specs.Folders.{ToRemove}
 use Rattle.file_calls.specs.Names.{IsUnused, leads, may_lead}
 use Rattle.file_calls.specs.OpenFiles.{IsSame}
 use Rattle.store_replacement.specs.Replacements.{LeavesNoMore}
@@ -19,3 +20,10 @@ pub record IsMade (name bytes : List ℕ) (file : ℕ) (s t : FolderState) : Typ
   pub unused : IsUnused s.steps file
   pub led : leads t.steps name ≡ Some file
   pub left : IsNew name bytes t
+
+-- A name couldn't be taken from its file: the folder returned an error (Refuses) when it was asked
+-- which file is open, to which one the name leads, or to remove the name.
+abbrev pub IsStuck : {E : Type 0} → (Refuses : FolderCall → E → Type 0) → (name : List ℕ)
+    → (file : ℕ) → Type 0
+IsStuck {E} Refuses name file = ((error : E) × Refuses (ToIdentify file) error)
+    ⊎ ((error : E) × Refuses (ToLookUp name) error) ⊎ ((error : E) × Refuses (ToRemove name) error)

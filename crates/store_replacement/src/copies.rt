@@ -1,11 +1,13 @@
 //! A copy of a store that replaces it, over any [`Folder`].
 
 ghost use Rattle.std.specs.Prelude.{◌≡◌, ◌+◌, List, ℕ, Some, false, length, bytes_eq};
-ghost use Rattle.std.specs.Prelude.{take, IfOk, Ok, OnOk};
+ghost use Rattle.std.specs.Prelude.{take, IfOk, Ok, OnErr, OnOk};
 ghost use Rattle.std.specs.Fn.{FnOnceReturnsAt};
 ghost use Rattle.file_calls.specs.Folders.{IsAlways, IsNew, IsOldOrNew, IsOnly, IsSameFolder};
+ghost use Rattle.file_calls.specs.Folders.{ToIdentify};
 ghost use Rattle.file_calls.specs.Names.{leads};
 ghost use Rattle.file_calls.specs.OpenFiles.{IsAtRest, IsIntact};
+ghost use Rattle.std.specs.declared.io.Error.{Error};
 ghost use Rattle.store_replacement.specs.Replacements.{IsCopied, IsForCopy, IsWhole};
 
 use crate::new_files::take_away;
@@ -110,6 +112,9 @@ pub(crate) fn inode_of<C: Folder<Error = io::Error>>(
         (C.past folder.new) (C.state folder.new) }
     ensures inode { C.keeps folder.old → IfOk result (λ inode.
         inode.number ≡ C.number file.now) }
+    ensures device { C.keeps folder.old → IfOk result (λ inode. inode.device ≡ C.device) }
+    ensures refused { C.keeps folder.old → OnErr result
+        ((error : Error) × C.refuses folder.new (ToIdentify (C.number file.now)) error) }
 {
     or_error(folder.inode(file))
 }

@@ -3,14 +3,14 @@
 //! No file that was there is changed, whichever call a crash comes before. If the file can't be
 //! made whole, it is removed again.
 
-ghost use Rattle.std.specs.Prelude.{◌≡◌, [], List, ℕ, None, Some, false, bytes_eq, replicate};
-ghost use Rattle.std.specs.Prelude.{IfErr, IfOk, MatchResult, Ok, OnOk};
+ghost use Rattle.std.specs.Prelude.{◌≡◌, ◌⊎◌, [], List, ℕ, None, Some, false, true, bytes_eq};
+ghost use Rattle.std.specs.Prelude.{replicate, Err, IfErr, IfOk, MatchResult, Ok, OnErr, OnOk};
 ghost use Rattle.std.specs.Fn.{FnOnceReturnsAt};
 ghost use Rattle.file_calls.specs.Folders.{CreatesFile, FolderState, IsAlways, IsOnly};
 ghost use Rattle.file_calls.specs.Folders.{IsSameFolder};
 ghost use Rattle.file_calls.specs.Names.{leads};
 ghost use Rattle.file_calls.specs.OpenFiles.{IsIntact};
-ghost use Rattle.store_replacement.specs.NewFiles.{IsMade, OnlyMakes};
+ghost use Rattle.store_replacement.specs.NewFiles.{IsMade, IsStuck, OnlyMakes};
 ghost use Rattle.store_replacement.specs.Replacements.{IsCopied, IsWhole, KeepsName};
 
 use crate::copies::inode_of;
@@ -59,6 +59,9 @@ where
         (C.state folder.new))
         (λ not. not.is_left ≡ false
         → leads (C.state folder.new).steps name.now ≡ leads (C.state folder.old).steps name.now) }
+    ensures left { C.keeps folder.old → IfErr result (λ not. not.is_left ≡ true → (file : C.File)
+        × (FnOnceReturnsAt L.FnOnce lock file (Err not.error)
+        ⊎ IsStuck (C.refuses folder.new) name.now (C.number file))) }
     ensures locked { IfOk result (λ file. FnOnceReturnsAt L.FnOnce lock file (Ok tt)
         × FnOnceReturnsAt P.FnOnce prepare file (Ok tt)) }
 {
@@ -103,6 +106,11 @@ where
         → CreatesFile name.now (C.number file.now) s (C.state folder.old)
         → IfErr result (λ not. not.is_left ≡ false
         → leads (C.state folder.new).steps name.now ≡ leads s.steps name.now) }
+    ensures left { C.keeps folder.old → (s : FolderState)
+        → CreatesFile name.now (C.number file.now) s (C.state folder.old)
+        → IfErr result (λ not. not.is_left ≡ true
+        → FnOnceReturnsAt L.FnOnce lock file.now (Err not.error)
+        ⊎ IsStuck (C.refuses folder.new) name.now (C.number file.now)) }
     ensures locked { OnOk result (FnOnceReturnsAt L.FnOnce lock file.now (Ok tt)
         × FnOnceReturnsAt P.FnOnce prepare file.now (Ok tt)) }
 {
@@ -141,6 +149,9 @@ where
         → CreatesFile name.now (C.number file.now) s (C.state folder.old)
         → OnOk result (IsMade name.now (replicate size 0) (C.number file.now) s
         (C.state folder.new)) }
+    ensures named { C.keeps folder.old → (s : FolderState)
+        → CreatesFile name.now (C.number file.now) s (C.state folder.old)
+        → leads (C.state folder.new).steps name.now ≡ Some (C.number file.now) }
     ensures prepared { OnOk result (FnOnceReturnsAt P.FnOnce prepare file.now (Ok tt)) }
 {
     prepare(file)?;
@@ -200,6 +211,9 @@ pub(crate) fn take_away<C: Folder<Error = io::Error>>(
         (C.past folder.new) (C.state folder.new) }
     ensures gone { C.keeps folder.old
         → OnOk result (leads (C.state folder.new).steps name.now ≡ None) }
+    ensures stuck { C.keeps folder.old
+        → leads (C.state folder.old).steps name.now ≡ Some (C.number file.now)
+        → OnErr result (IsStuck (C.refuses folder.new) name.now (C.number file.now)) }
 {
     let new = inode_of(folder, file)?;
     look_at_new(folder, new, name)?;

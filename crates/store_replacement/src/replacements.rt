@@ -3,10 +3,11 @@
 //! A crash leaves the store's name leading to the old file or to the new one, whole, whichever call
 //! it comes before. After Ok it leaves the new one.
 
-ghost use Rattle.std.specs.Prelude.{◌≡◌, ℕ, Some, false, bytes_eq, IfOk, OnOk};
-ghost use Rattle.file_calls.specs.Folders.{IsAlways, IsNew, IsOldOrNew, IsSameFolder};
+ghost use Rattle.std.specs.Prelude.{◌≡◌, ℕ, Some, false, bytes_eq, IfOk, OnErr, OnOk};
+ghost use Rattle.file_calls.specs.Folders.{IsAlways, IsNew, IsOldOrNew, IsSameFolder, ToLookUp};
 ghost use Rattle.file_calls.specs.Names.{leads};
 ghost use Rattle.file_calls.specs.OpenFiles.{IsAtRest};
+ghost use Rattle.std.specs.declared.io.Error.{Error};
 ghost use Rattle.store_replacement.specs.Replacements.{LeavesNoMore, mark_of, synced};
 
 use crate::marks::{has_failed, leave_mark, name_of_mark, settle_mark};
@@ -45,6 +46,9 @@ fn look<C: Folder<Error = io::Error>>(folder: &mut C, name: &str) -> Result<Foun
         (C.past folder.new) (C.state folder.new) }
     ensures found { C.keeps folder.old → IfOk result (λ found.
         leads (C.state folder.old).steps name.now ≡ Some found.inode.number) }
+    ensures device { C.keeps folder.old → IfOk result (λ found. found.inode.device ≡ C.device) }
+    ensures refused { C.keeps folder.old → OnErr result
+        ((error : Error) × C.refuses folder.new (ToLookUp name.now) error) }
 {
     or_error(folder.look_up(name))
 }
@@ -61,6 +65,9 @@ pub(crate) fn look_at_new<C: Folder<Error = io::Error>>(
         (C.past folder.new) (C.state folder.new) }
     ensures from { C.keeps folder.old
         → OnOk result (leads (C.state folder.old).steps from.now ≡ Some new.number) }
+    ensures refused { C.keeps folder.old → new.device ≡ C.device
+        → leads (C.state folder.old).steps from.now ≡ Some new.number → OnErr result
+        ((error : Error) × C.refuses folder.new (ToLookUp from.now) error) }
 {
     match look(folder, from) {
         Ok(found) if new == found.inode => Ok(()),

@@ -1,16 +1,23 @@
-//! A [`SystemDisk`] is a disk over a file of the system. It keeps the file's first error, and
-//! leaves the store's mark if a sync fails, and while a sync opens the gate of a slot.
+//! A [`MarkedDisk`] is a disk over an open file. It keeps the file's first error, and leaves the
+//! store's mark if a sync fails, and while a sync opens the gate of a slot.
 
-ghost use Rattle.std.specs.Prelude.{◌≡◌, length};
+ghost use Rattle.std.specs.Prelude.{◌≡◌, ◌↔◌, length, IfOk, OnErr};
+ghost use Rattle.std.specs.String.{string_bytes};
+ghost use Rattle.file_calls.specs.Folders.{ToCreate};
+ghost use Rattle.file_calls.specs.OpenFiles.{IsIntact};
 ghost use Rattle.file_disk.specs.FileDisks.{is_file_disk};
+ghost use Rattle.run_disk.specs.Calls.{Calls, Syncs};
+ghost use Rattle.run_disk.specs.Disk.{IsAtRest};
+ghost use Rattle.store_replacement.specs.Marks.{IsMarked};
 
 use crate::error_cells::ErrorCell;
 use crate::marks::Mark;
-use file_calls::{Inode, OpenFile};
+use file_calls::{Folder, Inode, OpenFile};
 use file_disk::FileDisk;
 use run_disk::{DiskFailed, OPEN, RunDisk};
-use std::fs::File;
-use std::{fs, io};
+use std::io;
+use store_files::FileError;
+use store_replacement::has_no_sync;
 
 /// A store's slots are the first two of three equal parts.
 const PARTS: u64 = 3;
@@ -21,25 +28,30 @@ const PARTS: u64 = 3;
 /// in the meantime, it never learns that the sync failed, and the system reports that to nobody
 /// else.
 #[derive(Drop)]
-pub struct SystemDisk<'a, S, F: OpenFile> {
+pub struct MarkedDisk<'a, C, F: OpenFile> {
     disk: FileDisk<F>,
     inode: Inode,
-    mark: Mark<'a, S>,
+    mark: Mark<C>,
     // the gate of a slot was written open, and not synced yet
     opens_slot: bool,
     error_cell: &'a ErrorCell,
 }
 
-impl<'a, S: fs::Files<File = File>, F: OpenFile<Error = io::Error> + Drop> SystemDisk<'a, S, F> {
+impl<'a, C: Folder<Error = io::Error> + Drop, F: OpenFile<Error = io::Error> + Drop> MarkedDisk<
+    'a,
+    C,
+    F,
+> {
     pub fn new(
         disk: FileDisk<F>,
         inode: Inode,
-        mark: Mark<'a, S>,
+        mark: Mark<C>,
         error_cell: &'a ErrorCell,
-    ) -> SystemDisk<'a, S, F>
-        ensures { result.disk ≡ disk }
+    ) -> MarkedDisk<'a, C, F>
+        ensures disk { result.disk ≡ disk }
+        ensures mark { result.mark ≡ mark }
     {
-        SystemDisk {
+        MarkedDisk {
             disk,
             inode,
             mark,
@@ -54,7 +66,9 @@ impl<'a, S: fs::Files<File = File>, F: OpenFile<Error = io::Error> + Drop> Syste
     }
 
     /// Removes the store's mark, because the whole file was written again and synced.
-    pub fn clear_mark(&self) {
+    pub fn clear_mark(&mut self)
+        ensures { self.new.disk ≡ self.old.disk }
+    {
         self.mark.remove();
     }
 
@@ -77,8 +91,8 @@ impl<'a, S: fs::Files<File = File>, F: OpenFile<Error = io::Error> + Drop> Syste
     }
 }
 
-impl<S: fs::Files<File = File>, F: OpenFile<Error = io::Error> + Drop> RunDisk
-    for SystemDisk<'_, S, F> {
+impl<C: Folder<Error = io::Error> + Drop, F: OpenFile<Error = io::Error> + Drop> RunDisk
+    for MarkedDisk<'_, C, F> {
     ghost state = { λ d. ⟦<FileDisk<F> as RunDisk>⟧.state d.disk };
 
     ghost is_disk = { λ d. is_file_disk (F.keeps d.disk.file) (F.state d.disk.made.value)
@@ -100,7 +114,18 @@ impl<S: fs::Files<File = File>, F: OpenFile<Error = io::Error> + Drop> RunDisk
         self.noted(done)
     }
 
-    fn sync(&mut self) -> Result<(), DiskFailed> {
+    fn sync(&mut self) -> Result<(), DiskFailed>
+        ensures call { Calls (⟦<FileDisk<F> as RunDisk>⟧.state self.old.disk)
+            (⟦<FileDisk<F> as RunDisk>⟧.state self.new.disk) result }
+        ensures syncs { (⟦<FileDisk<F> as RunDisk>⟧.state self.old.disk).honest
+            → Syncs (⟦<FileDisk<F> as RunDisk>⟧.state self.old.disk)
+            (⟦<FileDisk<F> as RunDisk>⟧.state self.new.disk) result }
+        ensures kept { C.keeps self.old.mark.folder → C.keeps self.new.mark.folder }
+        ensures name { self.new.mark.name ≡ self.old.mark.name }
+        ensures marked { C.keeps self.old.mark.folder → OnErr result
+            (IsMarked (C.refuses self.new.mark.folder (ToCreate (string_bytes self.old.mark.name)))
+            (string_bytes self.old.mark.name) (C.state self.new.mark.folder)) }
+    {
         let is_left = self.opens_slot && self.mark.leave();
         let done = self.disk.sync();
         if done.is_err() {
@@ -112,5 +137,61 @@ impl<S: fs::Files<File = File>, F: OpenFile<Error = io::Error> + Drop> RunDisk
             }
         }
         self.noted(done)
+    }
+}
+
+/// A disk over a file that is synced first, under the mark of its store, which stays if the sync
+/// fails.
+pub fn settle<C: Folder<Error = io::Error> + Drop, F: OpenFile<Error = io::Error> + Drop>(
+    mark: &mut Mark<C>,
+    file: F,
+) -> Result<FileDisk<F>, FileError>
+    ensures kept { C.keeps mark.old.folder → C.keeps mark.new.folder }
+    ensures name { mark.new.name ≡ mark.old.name }
+    ensures marked { C.keeps mark.old.folder → OnErr result
+        (IsMarked (C.refuses mark.new.folder (ToCreate (string_bytes mark.old.name)))
+        (string_bytes mark.old.name) (C.state mark.new.folder)) }
+    ensures honest { IfOk result (λ d. (⟦<FileDisk<F> as RunDisk>⟧.state d).honest
+        ↔ (F.keeps file × IsIntact (F.state file))) }
+    ensures rest { IfOk result (λ d. (⟦<FileDisk<F> as RunDisk>⟧.state d).honest
+        → IsAtRest (⟦<FileDisk<F> as RunDisk>⟧.state d)) }
+{
+    let is_left = mark.leave();
+    match FileDisk::settled(file) {
+        Ok(disk) => {
+            if is_left {
+                mark.remove();
+            }
+            Ok(disk)
+        }
+        Err(error) => {
+            mark.leave();
+            Err(FileError::of(&error))
+        }
+    }
+}
+
+/// Syncs a file that is only read, if its mark can be left first. The system reports a failed sync
+/// once, so without a mark the next program would never learn of it. A mark that was left before
+/// stays, and nothing is synced.
+pub fn settle_under<C: Folder<Error = io::Error> + Drop, F: OpenFile<Error = io::Error>>(
+    mark: &mut Mark<C>,
+    file: &mut F,
+) -> Result<(), FileError>
+    ensures kept { C.keeps mark.old.folder → C.keeps mark.new.folder }
+    ensures name { mark.new.name ≡ mark.old.name }
+    ensures marked { C.keeps mark.old.folder → OnErr result
+        (IsMarked (C.refuses mark.new.folder (ToCreate (string_bytes mark.old.name)))
+        (string_bytes mark.old.name) (C.state mark.new.folder)) }
+{
+    if !mark.leave() {
+        return Ok(());
+    }
+    match file.sync() {
+        Err(error) if !has_no_sync(error.kind()) => Err(FileError::of(&error)),
+        _ => {
+            mark.remove();
+            Ok(())
+        }
     }
 }

@@ -9,7 +9,8 @@ mod marks;
 mod streams;
 mod system;
 
-pub use disks::SystemDisk;
+pub use disks::{MarkedDisk, settle, settle_under};
 pub use error_cells::ErrorCell;
+pub use marks::Mark;
 pub use streams::{Errors, WatchedStream};
 pub use system::{ErrorCells, SystemFiles};

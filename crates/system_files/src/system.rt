@@ -4,22 +4,22 @@ ghost use Rattle.std.specs.Prelude.{◌≡◌, ⊤, IfOk};
 ghost use Rattle.store_files.specs.Files.{FilesView, IsFilled};
 
 use crate::contents::fill;
-use crate::disks::SystemDisk;
+use crate::disks::{MarkedDisk, settle, settle_under};
 use crate::error_cells::ErrorCell;
 use crate::marks::Mark;
-use file_calls::{Folder, Inode, SystemFile, SystemFolder};
+use file_calls::{Folder, Inode, SystemFile, SystemFolder, SystemLocks};
 use file_disk::FileDisk;
 use run_disk::{DiskFailed, RunDisk};
 use std::alloc::Global;
-use std::fs::{File, Metadata, OpenOptions, TryLockError};
+use std::fs::{File, Metadata, OpenOptions};
 use std::os::unix::fs::{MetadataExt, fchown};
 use std::path::PathBuf;
 use std::time::{Clock, Duration};
 use std::{fs, io, thread};
 use store_files::{BESIDE, FileError, Files, Made, Opened};
 use store_replacement::{
-    has_failed, has_no_sync, is_unsynced, make_new, or_error, or_no_memory, or_uncopied, put,
-    replace_by_copy,
+    lock_named, lock_shared, look_named, make_new, or_error, or_no_memory, or_uncopied, put,
+    replace_by_copy, settle_names,
 };
 
 /// The file that reads as empty and takes every write.
@@ -104,19 +104,12 @@ impl<'a, S: fs::Files<File = File>> SystemFiles<'a, S> {
     /// Locks the file until it is closed, if the file system has locks. `InUse` if another program
     /// holds the lock, or the name no longer leads to this file.
     fn lock(&self, file: &File, name: &str) -> Result<(), FileError> {
-        match file.try_lock() {
-            Err(TryLockError::WouldBlock) => Err(FileError::InUse),
-            _ if self.is_named(file, name) => Ok(()),
-            _ => Err(FileError::InUse),
-        }
+        lock_named(&mut self.folder(), &mut SystemLocks, file, name)
     }
 
-    /// Returns whether the name leads to this file.
-    fn is_named(&self, file: &File, name: &str) -> bool {
-        match (file.metadata(), fs::metadata(self.system, name)) {
-            (Ok(own), Ok(named)) => Inode::of(&own) == Inode::of(&named),
-            _ => false,
-        }
+    /// Makes sure that the name leads to this file. `InUse` if not.
+    fn look_at(&self, file: &File, name: &str) -> Result<(), FileError> {
+        look_named(&mut self.folder(), file, name)
     }
 
     /// Keeps a file locked until another one is opened or created.
@@ -127,10 +120,10 @@ impl<'a, S: fs::Files<File = File>> SystemFiles<'a, S> {
 
     /// Removes the file of this name, if it is this one, and its mark, under its lock.
     fn take_away(&self, file: &File, name: &str) {
-        if self.is_named(file, name) {
+        if self.look_at(file, name).is_ok() {
             let mark = self.mark_of(name);
             let _gone = fs::remove_file(self.system, name);
-            if let Ok(mark) = mark {
+            if let Ok(mut mark) = mark {
                 mark.remove();
             }
         }
@@ -159,12 +152,12 @@ impl<'a, S: fs::Files<File = File>> SystemFiles<'a, S> {
     }
 
     /// The place of the mark of the store in the file of this path.
-    fn mark(&self, path: &str) -> Result<Mark<'a, S>, FileError> {
-        or_no_memory(Mark::beside(self.system, self.alloc, path))
+    fn mark(&self, path: &str) -> Result<Mark<SystemFolder<'a, S>>, FileError> {
+        or_no_memory(Mark::beside(self.folder(), self.alloc, path))
     }
 
     /// The place of the mark of the store in the file of this name.
-    fn mark_of(&self, name: &str) -> Result<Mark<'a, S>, FileError> {
+    fn mark_of(&self, name: &str) -> Result<Mark<SystemFolder<'a, S>>, FileError> {
         let path = self.path(name)?;
         self.mark(path.as_str())
     }
@@ -186,36 +179,26 @@ impl<'a, S: fs::Files<File = File>> SystemFiles<'a, S> {
     fn settled(
         &self,
         file: File,
-        mark: Mark<'a, S>,
+        mark: Mark<SystemFolder<'a, S>>,
         why: &'a ErrorCell,
-    ) -> Result<SystemDisk<'a, S, SystemFile>, FileError> {
+    ) -> Result<MarkedDisk<'a, SystemFolder<'a, S>, SystemFile>, FileError> {
         let inode = or_error(inode(&file))?;
-        let is_left = mark.leave();
-        match FileDisk::settled(SystemFile::new(file)) {
-            Ok(disk) => {
-                if is_left {
-                    mark.remove();
-                }
-                Ok(SystemDisk::new(disk, inode, mark, why))
-            }
-            Err(error) => {
-                mark.leave();
-                Err(FileError::of(&error))
-            }
-        }
+        let mut mark = mark;
+        let disk = settle(&mut mark, SystemFile::new(file))?;
+        Ok(MarkedDisk::new(disk, inode, mark, why))
     }
 
     /// A disk over a file that is only read, without a sync.
     fn shown(
         &self,
-        file: File,
-        mark: Mark<'a, S>,
-    ) -> Result<Opened<SystemDisk<'a, S, SystemFile>, &'a ErrorCell>, FileError> {
+        file: SystemFile,
+        inode: Inode,
+        mark: Mark<SystemFolder<'a, S>>,
+    ) -> Result<Opened<MarkedDisk<'a, SystemFolder<'a, S>, SystemFile>, &'a ErrorCell>, FileError> {
         let why = &self.error_cells.opened;
-        let inode = or_error(inode(&file))?;
-        let disk = or_error(FileDisk::unsettled(SystemFile::new(file)))?;
+        let disk = or_error(FileDisk::unsettled(file))?;
         Ok(Opened {
-            disk: SystemDisk::new(disk, inode, mark, why),
+            disk: MarkedDisk::new(disk, inode, mark, why),
             why,
         })
     }
@@ -228,9 +211,9 @@ impl<'a, S: fs::Files<File = File>> SystemFiles<'a, S> {
         name: &str,
         size: u64,
         is_new: bool,
-    ) -> Result<Made<SystemDisk<'a, S, SystemFile>, &'a ErrorCell>, FileError>
-        ensures filled { IfOk result (λ made.
-            IsFilled size (⟦<SystemDisk<'a, S, SystemFile> as RunDisk>⟧.state made.disk)) }
+    ) -> Result<Made<MarkedDisk<'a, SystemFolder<'a, S>, SystemFile>, &'a ErrorCell>, FileError>
+        ensures filled { IfOk result (λ made. IsFilled size
+            (⟦<MarkedDisk<'a, SystemFolder<'a, S>, SystemFile> as RunDisk>⟧.state made.disk)) }
         ensures new { IfOk result (λ made. made.is_new ≡ is_new) }
     {
         self.lock(&file, name)?;
@@ -252,9 +235,9 @@ impl<'a, S: fs::Files<File = File>> SystemFiles<'a, S> {
         file: File,
         name: &str,
         size: u64,
-    ) -> Result<SystemDisk<'a, S, SystemFile>, FileError>
-        ensures { IfOk result (λ made.
-            IsFilled size (⟦<SystemDisk<'a, S, SystemFile> as RunDisk>⟧.state made)) }
+    ) -> Result<MarkedDisk<'a, SystemFolder<'a, S>, SystemFile>, FileError>
+        ensures { IfOk result (λ made. IsFilled size
+            (⟦<MarkedDisk<'a, SystemFolder<'a, S>, SystemFile> as RunDisk>⟧.state made)) }
     {
         let mut file = file;
         self.prepare(&file, name, None)?;
@@ -266,7 +249,7 @@ impl<'a, S: fs::Files<File = File>> SystemFiles<'a, S> {
     /// Makes sure that the system can look for the mark of a new file, and gives the file the owner
     /// and the rights of `like`.
     fn prepare(&self, file: &File, name: &str, like: Option<&str>) -> Result<(), FileError> {
-        let mark = self.mark_of(name)?;
+        let mut mark = self.mark_of(name)?;
         let _to_clear = or_error(mark.is_left())?;
         or_error(self.liken(file, like))
     }
@@ -278,12 +261,12 @@ impl<'a, S: fs::Files<File = File>> SystemFiles<'a, S> {
         file: File,
         name: &str,
         size: u64,
-    ) -> Result<SystemDisk<'a, S, SystemFile>, FileError>
-        ensures { IfOk result (λ made.
-            IsFilled size (⟦<SystemDisk<'a, S, SystemFile> as RunDisk>⟧.state made)) }
+    ) -> Result<MarkedDisk<'a, SystemFolder<'a, S>, SystemFile>, FileError>
+        ensures { IfOk result (λ made. IsFilled size
+            (⟦<MarkedDisk<'a, SystemFolder<'a, S>, SystemFile> as RunDisk>⟧.state made)) }
     {
         let mark = self.mark_of(name)?;
-        let disk = self.settled(file, mark, &self.error_cells.created)?;
+        let mut disk = self.settled(file, mark, &self.error_cells.created)?;
         if disk.size() != size {
             return Err(FileError::EndedEarly);
         }
@@ -302,24 +285,10 @@ impl<'a, S: fs::Files<File = File>> SystemFiles<'a, S> {
         self.folder().sync_names(name)
     }
 
-    /// Syncs the folder of a store. If that fails, it leaves the store's mark: the system may treat
-    /// the folder as written, but the copy that replaces the store at the next opening changes the
-    /// folder once more.
-    fn sync_names(&self, name: &str, mark: &Mark<'a, S>) -> io::Result<()> {
-        let done = self.sync_folder(name);
-        if has_failed(&done) {
-            mark.leave();
-        }
-        done
-    }
-
-    /// Like [`SystemFiles::sync_names`], but passes over a folder that may not be read or that has
-    /// no sync.
-    fn settle_folder(&self, name: &str, mark: &Mark<'a, S>) -> Result<(), FileError> {
-        match self.sync_names(name, mark) {
-            Err(error) if !is_unsynced(error.kind()) => Err(FileError::of(&error)),
-            _ => Ok(()),
-        }
+    /// Syncs the folder of a store, or passes over one that has no sync. If that fails, the store's
+    /// mark is left.
+    fn settle_folder(&self, name: &str, mark: &Mark<SystemFolder<'a, S>>) -> Result<(), FileError> {
+        settle_names(&mut self.folder(), name, mark.name())
     }
 
     /// Replaces the file of this path by a copy, and returns the copy. The bytes that reads of the
@@ -368,7 +337,7 @@ impl<'a, S: fs::Files<File = File>> SystemFiles<'a, S> {
 }
 
 impl<'a, S: fs::Files<File = File> + Clock + Sync> Files for SystemFiles<'a, S> {
-    type Disk = SystemDisk<'a, S, SystemFile>;
+    type Disk = MarkedDisk<'a, SystemFolder<'a, S>, SystemFile>;
 
     type FirstError = &'a ErrorCell;
 
@@ -388,12 +357,12 @@ impl<'a, S: fs::Files<File = File> + Clock + Sync> Files for SystemFiles<'a, S> 
     fn open(
         &mut self,
         name: &str,
-    ) -> Result<Opened<SystemDisk<'a, S, SystemFile>, &'a ErrorCell>, FileError> {
+    ) -> Result<Opened<MarkedDisk<'a, SystemFolder<'a, S>, SystemFile>, &'a ErrorCell>, FileError> {
         let mut how = OpenOptions::new();
         let file = self.with(how.read(true).write(true), name)?;
         self.lock(&file, name)?;
         let path = self.path(name)?;
-        let mark = self.mark(path.as_str())?;
+        let mut mark = self.mark(path.as_str())?;
         let file = if or_error(mark.is_left())? {
             let made = self.renewed(&file, path.as_str())?;
             mark.remove();
@@ -415,29 +384,30 @@ impl<'a, S: fs::Files<File = File> + Clock + Sync> Files for SystemFiles<'a, S> 
     fn open_to_read(
         &mut self,
         name: &str,
-    ) -> Result<Opened<SystemDisk<'a, S, SystemFile>, &'a ErrorCell>, FileError> {
+    ) -> Result<Opened<MarkedDisk<'a, SystemFolder<'a, S>, SystemFile>, &'a ErrorCell>, FileError> {
         let file = self.with_reading(name)?;
-        lock_shared(&file)?;
+        lock_shared(&mut SystemLocks, &file)?;
         let path = self.path(name)?;
         // (a mark beside another file that has its name by now would be that one's)
-        if !self.is_named(&file, path.as_str()) {
-            return Err(FileError::InUse);
-        }
-        let mark = self.mark(path.as_str())?;
-        settle_under(&mark, &file)?;
-        self.shown(file, mark)
+        self.look_at(&file, path.as_str())?;
+        let mut mark = self.mark(path.as_str())?;
+        let inode = or_error(inode(&file))?;
+        let mut file = SystemFile::new(file);
+        settle_under(&mut mark, &mut file)?;
+        self.shown(file, inode, mark)
     }
 
     fn look(
         &mut self,
         name: &str,
-    ) -> Result<Opened<SystemDisk<'a, S, SystemFile>, &'a ErrorCell>, FileError> {
+    ) -> Result<Opened<MarkedDisk<'a, SystemFolder<'a, S>, SystemFile>, &'a ErrorCell>, FileError> {
         let file = self.with_reading(name)?;
         let mark = self.mark_of(name)?;
-        self.shown(file, mark)
+        let inode = or_error(inode(&file))?;
+        self.shown(SystemFile::new(file), inode, mark)
     }
 
-    fn close(&mut self, _name: &str, _disk: SystemDisk<'a, S, SystemFile>) {}
+    fn close(&mut self, _name: &str, _disk: MarkedDisk<'a, SystemFolder<'a, S>, SystemFile>) {}
 
     fn pause(&self) {
         thread::sleep(self.system, Duration::from_millis(PAUSE));
@@ -445,7 +415,7 @@ impl<'a, S: fs::Files<File = File> + Clock + Sync> Files for SystemFiles<'a, S> 
 
     fn read_all(
         &self,
-        disk: &mut SystemDisk<'a, S, SystemFile>,
+        disk: &mut MarkedDisk<'a, SystemFolder<'a, S>, SystemFile>,
         out: &mut [u8],
     ) -> Result<(), DiskFailed> {
         disk.read_at(0, out)
@@ -455,7 +425,7 @@ impl<'a, S: fs::Files<File = File> + Clock + Sync> Files for SystemFiles<'a, S> 
         &mut self,
         name: &str,
         size: u64,
-    ) -> Result<Made<SystemDisk<'a, S, SystemFile>, &'a ErrorCell>, FileError> {
+    ) -> Result<Made<MarkedDisk<'a, SystemFolder<'a, S>, SystemFile>, &'a ErrorCell>, FileError> {
         let mut how = OpenOptions::new();
         how.read(true).write(true);
         match self.with(how.create_new(true), name) {
@@ -472,7 +442,7 @@ impl<'a, S: fs::Files<File = File> + Clock + Sync> Files for SystemFiles<'a, S> 
         name: &str,
         like: Option<&str>,
         size: u64,
-    ) -> Result<Made<SystemDisk<'a, S, SystemFile>, &'a ErrorCell>, FileError> {
+    ) -> Result<Made<MarkedDisk<'a, SystemFolder<'a, S>, SystemFile>, &'a ErrorCell>, FileError> {
         self.admit(name)?;
         let mut folder = match like {
             Some(_) => SystemFolder::new(self.system),
@@ -506,8 +476,8 @@ impl<'a, S: fs::Files<File = File> + Clock + Sync> Files for SystemFiles<'a, S> 
 
     fn replace(
         &mut self,
-        disk: SystemDisk<'a, S, SystemFile>,
-        over: SystemDisk<'a, S, SystemFile>,
+        disk: MarkedDisk<'a, SystemFolder<'a, S>, SystemFile>,
+        over: MarkedDisk<'a, SystemFolder<'a, S>, SystemFile>,
         from: &str,
         to: &str,
     ) -> Result<(), FileError> {
@@ -533,31 +503,4 @@ fn inode(file: &File) -> io::Result<Inode> {
 fn filled<S: fs::Files<File = File>>(system: &S) -> io::Result<[File; 3]> {
     let null = || OpenOptions::new().read(true).write(true).open(system, NULL);
     Ok([null()?, null()?, null()?])
-}
-
-/// Locks a file for reading until it is closed; others may read it, too.
-fn lock_shared(file: &File) -> Result<(), FileError> {
-    match file.try_lock_shared() {
-        Err(TryLockError::WouldBlock) => Err(FileError::InUse),
-        _ => Ok(()),
-    }
-}
-
-/// Syncs a file that is only read, if its mark can be left first. The system reports a failed sync
-/// once, so without a mark the next program would never learn of it. A mark that was left before
-/// stays, and nothing is synced.
-fn settle_under<S: fs::Files<File = File>>(
-    mark: &Mark<'_, S>,
-    file: &File,
-) -> Result<(), FileError> {
-    if !mark.leave() {
-        return Ok(());
-    }
-    match file.sync_data() {
-        Err(error) if !has_no_sync(error.kind()) => Err(FileError::of(&error)),
-        _ => {
-            mark.remove();
-            Ok(())
-        }
-    }
 }

@@ -1,10 +1,11 @@
-use Rattle.std.proofs.Common.{refl}
+use Rattle.std.proofs.Common.{◌∙◌, ap, refl}
+use Rattle.file_calls.specs.Names.{leads}
 use Rattle.store_replacement.specs.NewFiles.{OnlyMakes}
 use Rattle.store_replacement.proofs.CopyLemmas.{was_ok}
 use Rattle.store_replacement.proofs.MomentLemmas.{always_start, in_any_case}
 use Rattle.store_replacement.proofs.NewFileLemmas.{always_makes_after, always_makes_names}
 use Rattle.store_replacement.proofs.NewFileLemmas.{always_makes_only, made_whole, makes_created}
-use Rattle.store_replacement.proofs.NewFileLemmas.{passed_on}
+use Rattle.store_replacement.proofs.NewFileLemmas.{leads_created, leads_synced, passed_on}
 use Rattle.store_replacement.proofs.new_files.fill_named.Goals as goal
 
 pub returns-in_err-prepare-clause-always : goal.returns-in_err-prepare-clause-always
@@ -42,3 +43,21 @@ returns-clause-made g c keeps s made =
 pub returns-clause-prepared : goal.returns-clause-prepared
 returns-clause-prepared g c =
     in_any_case _ c.or_error-2.result (_, c.in_ok-prepare.ensures, refl)
+
+pub returns-in_err-prepare-clause-named : goal.returns-in_err-prepare-clause-named
+returns-in_err-prepare-clause-named g c keeps s made =
+    leads_created c.args.name.now (g.C.Folder.number c.args.file.now) s _ made
+
+pub returns-in_err-or_error-clause-named : goal.returns-in_err-or_error-clause-named
+returns-in_err-or_error-clause-named g c keeps s made =
+    ap (λ steps. leads steps c.args.name.now) (c.fill_synced.ensures.always keeps).at_last.steps
+    ∙ leads_created c.args.name.now (g.C.Folder.number c.args.file.now) s _ made
+
+pub returns-clause-named : goal.returns-clause-named
+returns-clause-named g c keeps s made =
+    let filled = c.fill_synced.ensures.kept keeps in
+    leads_synced c.args.name.now (g.C.Folder.number c.args.file.now) s
+    (g.C.Folder.state c.args.folder.now) (g.C.Folder.state c.fill_synced.new.folder)
+    (g.C.Folder.state c.sync_names.new.self) c.sync_names.result made
+    (c.fill_synced.ensures.always keeps).at_last.steps (c.sync_names.ensures.durable filled)
+    (c.sync_names.ensures.lost filled)
