@@ -91,7 +91,8 @@ IsNextLine input taken found.Bad bytes =
 
 -- ---- an answer
 
--- How many lines were taken once this is done: each part takes one line more.
+-- How many lines were taken once this is done: one more, unless a round is answered for which the
+-- store was opened again. (The end of the input counts as a line.)
 abbrev pub lines_once : Doing → ℕ → ℕ
 lines_once (inl again) n = n
 lines_once (inr it) n = n + 1
@@ -101,8 +102,8 @@ lines_once (inr it) n = n + 1
 abbrev pub StoresAll : {D : Type 0} → (D → DiskState) → BookView D → Type 0
 StoresAll state b = IsSafe state b → LiesWith state b.journal.disk b.session.state
 
--- These lines say that a flush met a fault, for which nothing can be answered to a round; or there
--- are none.
+-- These lines report the fault that was met by the flush of a round that is put off. Or there are
+-- no lines.
 abbrev pub IsUnsettled : {D : Type 0} → (D → DiskState) → Doing → (old : BookView D) → List Order
     → (new : BookView D) → Type 0
 IsUnsettled state doing old lines new =
@@ -184,7 +185,8 @@ module _ {D : Type 0} (state : D → DiskState) (input : Option (List ℕ)) wher
       (middle : D) × (between : Place) × Sittings n given at middle between
       × IsPutOff middle between to left
 
-  -- A run has an end only if the last answer says so.
+  -- A run ends well only as its last answer says. Nothing is said of the fault with which it ends
+  -- otherwise.
   abbrev pub IsEnd : Result DriveEnd RunFault → Doing → Type 0
   IsEnd (Ok how) doing = doing ≡ inr (next.End how)
   IsEnd (Err why) doing = Unit {0}
